@@ -1,0 +1,13 @@
+-- Which keys and rows a schema takes.
+use Rattle.std.specs.Prelude.{◌≡◌, List, map}
+use Rattle.std.specs.Option.{IsSomeAnd}
+use Rattle.std.specs.List.{slice_get}
+use Rattle.aria_base.specs.Kinds.{value_kind, part_kind}
+use Rattle.aria_base.specs.declared.values.Value.{Value}
+use Rattle.aria_base.specs.declared.keys.Key.{Key}
+use Rattle.aria_base.specs.declared.schemas.Table.{Table}
+
+-- the table is there, the key has its parts in number and kind, and the row its columns
+abbrev pub Fits : List Table → Key → List Value → Type 0
+Fits schema key row = IsSomeAnd (slice_get schema key.table)
+    (λ table. (map part_kind key.parts ≡ table.key) × (map value_kind row ≡ table.cols))

@@ -1,0 +1,73 @@
+ghost use Rattle.std.specs.Prelude.{◌≡◌, IfOk};
+
+use crate::copies::Duplicate;
+use crate::lists::{Few, Items};
+use crate::memory::Memory;
+use crate::texts::Txt;
+use std::alloc::Global;
+
+/// One to five whole numbers.
+pub type Tuple = Few<i64, 1, 5>;
+
+/// A list of tuples.
+pub type Tuples = Items<Tuple>;
+
+/// An argument of a call.
+#[derive(Debug, Drop, PartialEq, Eq)]
+pub enum Arg {
+    Int(i64),
+    Text(Txt),
+    List(Tuples),
+}
+
+/// The arguments of a call, from the left.
+pub type Args = Few<Arg, 0, 16>;
+
+/// A call of the procedure with the number `proc`.
+#[derive(Debug, Drop, PartialEq, Eq)]
+pub struct Call {
+    pub proc: u16,
+    pub args: Args,
+}
+
+/// A call with its request number, from 1 on over the whole life of a database.
+#[derive(Debug, Drop, PartialEq, Eq)]
+pub struct Request {
+    pub q: u64,
+    pub call: Call,
+}
+
+impl Duplicate for Arg {
+    fn duplicate(&self, alloc: Global) -> Result<Self, Memory> {
+        match self {
+            Arg::Int(number) => Ok(Arg::Int(*number)),
+            Arg::Text(text) => Ok(Arg::Text(text.duplicate(alloc)?)),
+            Arg::List(tuples) => Ok(Arg::List(tuples.duplicate(alloc)?)),
+        }
+    }
+}
+
+impl Duplicate for Call {
+    fn duplicate(&self, alloc: Global) -> Result<Self, Memory> {
+        Ok(Call {
+            proc: self.proc,
+            args: self.args.duplicate(alloc)?,
+        })
+    }
+}
+
+impl Duplicate for Request {
+    fn duplicate(&self, alloc: Global) -> Result<Self, Memory> {
+        Ok(Request {
+            q: self.q,
+            call: self.call.duplicate(alloc)?,
+        })
+    }
+}
+
+/// A call equal to this one.
+pub fn copy_call(alloc: Global, call: &Call) -> Result<Call, Memory>
+    ensures { IfOk result (λ copy. copy ≡ call.now) }
+{
+    call.duplicate(alloc)
+}

@@ -1,0 +1,69 @@
+ghost use Rattle.std.specs.Prelude.{◌≡◌, IfOk};
+ghost use Rattle.aria_base.specs.Kinds.{part_kind};
+
+use crate::copies::Duplicate;
+use crate::lists::{Few, Items};
+use crate::memory::Memory;
+use crate::texts::Txt;
+use crate::values::{Kind, Kinded, Row};
+use std::alloc::Global;
+
+/// A part of a key. Numbers come before texts.
+#[derive(Debug, Drop, PartialEq, Eq, PartialOrd, Ord)]
+pub enum Part {
+    Int(i64),
+    Text(Txt),
+}
+
+/// The parts of a key, from the left.
+pub type Parts = Few<Part, 1, 5>;
+
+/// A key: a table's number and the parts. Keys are ordered by table, then by their parts from the
+/// left; a key whose parts are the front of another's comes before it.
+#[derive(Debug, Drop, PartialEq, Eq, PartialOrd, Ord)]
+pub struct Key {
+    pub table: u16,
+    pub parts: Parts,
+}
+
+/// A list of keys.
+pub type Keys = Items<Key>;
+
+/// What a run writes: each key with its last row, or with its absence.
+pub type Changes = Items<(Key, Option<Row>)>;
+
+impl Kinded for Part {
+    ghost kind_of = { part_kind };
+
+    fn kind(&self) -> Kind {
+        match self {
+            Part::Int(_) => Kind::Int,
+            Part::Text(_) => Kind::Text,
+        }
+    }
+}
+
+impl Duplicate for Part {
+    fn duplicate(&self, alloc: Global) -> Result<Self, Memory> {
+        match self {
+            Part::Int(number) => Ok(Part::Int(*number)),
+            Part::Text(text) => Ok(Part::Text(text.duplicate(alloc)?)),
+        }
+    }
+}
+
+impl Duplicate for Key {
+    fn duplicate(&self, alloc: Global) -> Result<Self, Memory> {
+        Ok(Key {
+            table: self.table,
+            parts: self.parts.duplicate(alloc)?,
+        })
+    }
+}
+
+/// A key equal to this one.
+pub fn copy_key(alloc: Global, key: &Key) -> Result<Key, Memory>
+    ensures { IfOk result (λ copy. copy ≡ key.now) }
+{
+    key.duplicate(alloc)
+}

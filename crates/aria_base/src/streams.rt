@@ -1,0 +1,42 @@
+ghost use Rattle.std.specs.Prelude.{◌≡◌, ◌<◌, ◌≤◌, ℕ, List, Option, OnErr, length};
+ghost use Rattle.aria_base.specs.Faults.{Rose};
+ghost use Rattle.aria_base.specs.Streams.{Takes, Gives};
+
+/// A call on a source, a sink or a disk that did not succeed. Only the object's count of faults
+/// tells more.
+#[derive(Clone, Copy, Debug, PartialEq, Eq)]
+pub struct Failed;
+
+/// Where input comes from.
+pub trait Source {
+    /// The bytes that it has left, where it tells them.
+    ghost left: { Self → Option (List ℕ) };
+
+    /// Its count of faults.
+    ghost faults: { Self → ℕ };
+
+    /// Puts some of the bytes that are left at the buffer's front and answers how many; 0 means the
+    /// end of the input. After `Failed`, which comes only where the count of faults rose, none was
+    /// taken.
+    fn take(&mut self, buf: &mut [u8]) -> Result<usize, Failed>
+        requires { 0 < length buf.old }
+        ensures bytes { Takes (left self.old) (left self.new) result buf.new }
+        ensures kept { faults self.old ≤ faults self.new }
+        ensures failed { OnErr result (Rose (faults self.old) (faults self.new)) };
+}
+
+/// Where output goes.
+pub trait Sink {
+    /// The bytes that it was given, where it tells them.
+    ghost given: { Self → Option (List ℕ) };
+
+    /// Its count of faults.
+    ghost faults: { Self → ℕ };
+
+    /// Appends all the bytes, or answers `Failed` after a front of them, and then the count of
+    /// faults rose.
+    fn give(&mut self, bytes: &[u8]) -> Result<(), Failed>
+        ensures bytes { Gives (given self.old) (given self.new) result bytes.now }
+        ensures kept { faults self.old ≤ faults self.new }
+        ensures failed { OnErr result (Rose (faults self.old) (faults self.new)) };
+}

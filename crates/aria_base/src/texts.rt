@@ -1,0 +1,106 @@
+ghost use Rattle.std.specs.Prelude.{◌≡◌, ℕ, List, IfOk, IfErr, position, not, true, IsNone, All};
+ghost use Rattle.aria_base.specs.Texts.{may_hold, IsText};
+ghost use Rattle.aria_base.specs.Refusals.{IsNoText};
+ghost use Rattle.aria_base.specs.declared.texts.TxtRefused.TheVariants.{Memory};
+
+use crate::copies::Duplicate;
+use crate::lists::Bytes;
+use crate::memory::Memory;
+use std::alloc::{AllocError, Global};
+use std::error::Error;
+use std::fmt;
+use std::marker::Model;
+
+/// The most bytes that a text has.
+pub const LONGEST_TEXT: usize = 500;
+
+/// Why bytes are no text.
+#[derive(Clone, Copy, Debug, PartialEq, Eq)]
+pub enum TxtRefused {
+    /// There was no memory for the copy.
+    Memory,
+    /// There are more bytes than a text may have.
+    TooLong { len: usize },
+    /// The first byte that no text holds stands at this place, from 0.
+    BadByte { at: usize },
+}
+
+impl fmt::Display for TxtRefused {
+    fn fmt<W: fmt::Write>(&self, f: &mut fmt::Formatter<W>) -> fmt::Result {
+        match self {
+            TxtRefused::Memory => f.write_str("no memory"),
+            TxtRefused::TooLong { len } => write!(f, "{len} bytes are too long for a text"),
+            TxtRefused::BadByte { at } => write!(f, "no text holds the byte at {at}"),
+        }
+    }
+}
+
+impl Error for TxtRefused {}
+
+/// A short text: at most 500 bytes of printable ASCII without `"` and `\`. A contract sees the list
+/// of its bytes.
+#[derive(Debug, Drop, PartialEq, Eq, PartialOrd, Ord)]
+pub struct Txt {
+    bytes: Bytes,
+}
+
+impl Model for Txt {
+    ghost Value = { List ℕ };
+
+    ghost view = { λ a. a.bytes };
+
+    ghost invariant = { λ a. IsText a.bytes };
+
+    ghost inverse = { λ bytes. record { bytes = bytes } };
+}
+
+impl Txt {
+    /// The text of these bytes. `TooLong` comes exactly where there are more than 500 bytes; else
+    /// `BadByte` names the first byte that no text holds.
+    pub fn of(alloc: Global, bytes: &[u8]) -> Result<Txt, TxtRefused>
+        ensures text { IfOk result (λ text. (text ≡ bytes.now) × IsText bytes.now) }
+        ensures refused { IfErr result (IsNoText bytes.now) }
+    {
+        if bytes.len() > LONGEST_TEXT {
+            return Err(TxtRefused::TooLong { len: bytes.len() });
+        }
+        if let Some(at) = first_bad(bytes) {
+            return Err(TxtRefused::BadByte { at });
+        }
+        let mut copy = Vec::with_capacity(alloc, bytes.len())?;
+        copy.extend_from_slice(bytes)?;
+        Ok(Txt { bytes: Bytes::from_vec(copy) })
+    }
+
+    /// The bytes of the text.
+    pub fn as_slice(&self) -> &[u8]
+        ensures bytes { result.now ≡ self.now }
+        ensures text { IsText self.now }
+    {
+        self.bytes.as_slice()
+    }
+}
+
+impl Duplicate for Txt {
+    fn duplicate(&self, alloc: Global) -> Result<Self, Memory> {
+        Ok(Txt { bytes: self.bytes.duplicate(alloc)? })
+    }
+}
+
+impl From<AllocError> for TxtRefused {
+    ghost from_gives = { λ _ refused. refused ≡ Memory };
+
+    fn from(_: AllocError) -> TxtRefused {
+        TxtRefused::Memory
+    }
+}
+
+/// The place of the first byte that no text holds.
+fn first_bad(bytes: &[u8]) -> Option<usize>
+    ensures first { result ≡ position (λ b. not (may_hold b)) bytes.now }
+    ensures none { IsNone result → All (λ b. may_hold b ≡ true) bytes.now }
+{
+    bytes
+        .iter()
+        .position(|&b| b < 32 || 126 < b || b == b'"' || b == b'\\')
+}

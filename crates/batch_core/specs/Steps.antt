@@ -1,0 +1,111 @@
+-- Batches one after the other: the list of a batch, its answer by request numbers, and the state that it leaves. The section's
+-- argument says what a request does.
+use Rattle.std.specs.Prelude.{ℕ, ◌+◌, ◌-◌, List, [], ◌∷◌, ◌++◌, map, length, Option, Some, None}
+use Rattle.std.specs.List.{slice_get}
+use Rattle.aria_base.specs.Orders.{key_cmp, Cells, Database}
+use Rattle.aria_base.specs.declared.keys.Key.{Key}
+use Rattle.aria_base.specs.declared.calls.Call.{Call}
+use Rattle.aria_base.specs.declared.calls.Request.{Request}
+use Rattle.proc_lang.specs.declared.ends.End.{End}
+use Rattle.proc_lang.specs.declared.ends.End.TheVariants as end
+use Rattle.batch_rules.specs.declared.verdicts.Rule.{Rule}
+use Rattle.batch_rules.specs.declared.verdicts.Cause.{Cause}
+use Rattle.batch_rules.specs.declared.verdicts.Cause.TheVariants as cause
+use Rattle.batch_rules.specs.Trees.{Tree}
+use Rattle.batch_rules.specs.Batches.{Judged, Fate, Ended, Waits, Moved, Entry, Batch, batch, ordered, carried}
+use Rattle.batch_core.specs.declared.answers.Wait.{Wait}
+use Rattle.batch_core.specs.declared.answers.Wait.TheVariants as wait
+use Rattle.batch_core.specs.declared.answers.Reply.{Reply}
+use Rattle.batch_core.specs.declared.answers.Reply.TheVariants as reply
+use Rattle.batch_core.specs.declared.answers.Line.{Line}
+use Rattle.batch_core.specs.declared.answers.Answer.{Answer}
+use Rattle.std.specs.Prelude.{Bool, true, false}
+
+-- whether a run ended well, so that its writes count
+abbrev pub is_done : End → Bool
+is_done (end.Done gives) = true
+is_done (end.Back code) = false
+is_done (end.Trap trap) = false
+
+-- what stands between two batches: the settings, the rows, the requests that wait, and how many batches were run and requests
+-- numbered so far
+pub record State : Type 0 where
+  pub rule : Rule
+  pub percent : ℕ
+  pub rows : Database
+  pub waiting : List Request
+  pub batches : ℕ
+  pub requests : ℕ
+
+-- a batch as it is handed in: its settings and its new calls
+pub record Handed : Type 0 where
+  pub rule : Rule
+  pub percent : ℕ
+  pub calls : List Call
+
+-- the calls with the request numbers that follow on n
+abbrev pub numbered : ℕ → List Call → List Request
+numbered n [] = []
+numbered n (call ∷ calls) = record { q = n + 1; call = call } ∷ numbered (n + 1) calls
+
+-- the list of a batch: what waits, then what is new
+abbrev pub list_of : State → Handed → List Request
+list_of state handed = state.waiting ++ numbered state.requests handed.calls
+
+-- the number of the request at a place of the list, from 1
+abbrev pub number_or : Option Request → ℕ
+number_or None = 0
+number_or (Some request) = request.q
+
+abbrev pub number_at : List Request → ℕ → ℕ
+number_at list tid = number_or (slice_get list (tid - 1))
+
+-- a cause by request numbers
+abbrev pub wait_of : List Request → Cause → Wait
+wait_of list (cause.Waw waw) = wait.Waw (number_at list waw)
+wait_of list (cause.Raw raw) = wait.Raw (number_at list raw)
+wait_of list (cause.Both raw war) = wait.Both (number_at list raw) (number_at list war)
+
+abbrev pub reply_of : List Request → Fate Key End → Reply
+reply_of list (Ended end) = reply.Ended end
+reply_of list (Waits cause) = reply.Waits (wait_of list cause)
+reply_of list (Moved key) = reply.Waits (wait.Moved key)
+
+abbrev pub line_of : List Request → Entry Key Request End → Line
+line_of list entry = record { q = entry.judged.request.q; reply = reply_of list entry.fate }
+
+-- the answer of the batch with this number
+abbrev pub answer_by : ℕ → List Request → List (Entry Key Request End) → Answer
+answer_by number list entries = record {
+  number = number;
+  lines = map (line_of list) entries;
+  order = map (λ entry. entry.judged.request.q) (ordered entries);
+}
+
+-- the state that a batch leaves, by its outcome
+abbrev pub state_by : State → Handed → Batch key_cmp Cells Request End → State
+state_by state handed outcome = record {
+  rule = handed.rule;
+  percent = handed.percent;
+  rows = outcome.map;
+  waiting = map (λ entry. entry.judged.request) (carried outcome.entries);
+  batches = state.batches + 1;
+  requests = state.requests + length handed.calls;
+}
+
+module _ (tree : Request → Tree Key Cells End) where
+  abbrev pub outcome : State → Handed → Batch key_cmp Cells Request End
+  outcome state handed = batch is_done tree handed.rule handed.percent state.rows (list_of state handed)
+
+  -- the state after one batch
+  abbrev pub step : State → Handed → State
+  step state handed = state_by state handed (outcome state handed)
+
+  -- the answer of that batch
+  abbrev pub answer : State → Handed → Answer
+  answer state handed = answer_by (state.batches + 1) (list_of state handed) (outcome state handed).entries
+
+  -- the state after batches one after the other
+  abbrev pub run : State → List Handed → State
+  run state [] = state
+  run state (handed ∷ rest) = run (step state handed) rest

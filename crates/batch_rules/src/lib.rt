@@ -1,0 +1,5 @@
+#![tactic(auto)]
+
+pub mod verdicts;
+
+pub use verdicts::{Cause, Rule, Verdict};

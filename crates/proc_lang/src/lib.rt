@@ -1,0 +1,5 @@
+#![tactic(auto)]
+
+pub mod ends;
+
+pub use ends::{End, Gives, Trap};
