@@ -9,7 +9,6 @@ use Rattle.std.specs.Ordering.{nat_cmp, ordering_reverse, ordering_then}
 use Rattle.std.specs.Cmp.Lexicographic.{slice_cmp}
 use Rattle.aria_base.specs.declared.keys.Part.{Part}
 use Rattle.aria_base.specs.declared.keys.Part.TheVariants as part
-use Rattle.aria_base.specs.declared.keys.Key.{Key}
 use Rattle.aria_base.specs.Orders.{part_cmp, key_cmp}
 
 part_back : (x y : Part) → part_cmp x y ≡ ordering_reverse (part_cmp y x)

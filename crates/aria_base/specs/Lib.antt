@@ -3,6 +3,8 @@ pub mod Kinds
 pub mod MemoryStreams
 pub mod Orders
 pub mod Refusals
+pub mod Reserved
 pub mod Schemas
+pub mod Shares
 pub mod Streams
 pub mod Texts

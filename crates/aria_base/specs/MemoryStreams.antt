@@ -1,5 +1,5 @@
 -- What the source and the sink in memory answer.
-use Rattle.std.specs.Prelude.{◌≡◌, ℕ, Bool, List, ◌++◌, length, drop, min, ◌-◌, ◌+◌, ◌||◌, ◌==◌, if◌then◌else◌, nat_lt, Result, Ok, Err}
+use Rattle.std.specs.Prelude.{ℕ, Bool, List, ◌++◌, length, drop, min, ◌-◌, ◌||◌, ◌==◌, if◌then◌else◌, nat_lt, Result, Ok, Err}
 use Rattle.std.specs.List.{list_any}
 use Rattle.aria_base.specs.Faults.{one_more}
 use Rattle.aria_base.specs.declared.streams.Failed.{Failed}

@@ -6,7 +6,7 @@ use crate::memory::Memory;
 use crate::texts::Txt;
 use std::alloc::Global;
 
-/// One to five whole numbers.
+/// One to five whole numbers of 64 bits with a sign.
 pub type Tuple = Few<i64, 1, 5>;
 
 /// A list of tuples.
@@ -15,25 +15,32 @@ pub type Tuples = Items<Tuple>;
 /// An argument of a call.
 #[derive(Debug, Drop, PartialEq, Eq)]
 pub enum Arg {
+    /// A whole number.
     Int(i64),
+    /// A text of at most 500 bytes.
     Text(Txt),
+    /// Tuples of whole numbers.
     List(Tuples),
 }
 
-/// The arguments of a call, from the left.
+/// The arguments of a call, from the left: at most 16.
 pub type Args = Few<Arg, 0, 16>;
 
-/// A call of the procedure with the number `proc`.
+/// A call of a procedure.
 #[derive(Debug, Drop, PartialEq, Eq)]
 pub struct Call {
+    /// The procedure's place in the catalogue, from 0.
     pub proc: u16,
+    /// What it is called with.
     pub args: Args,
 }
 
-/// A call with its request number, from 1 on over the whole life of a database.
+/// A call that was asked for, with its number.
 #[derive(Debug, Drop, PartialEq, Eq)]
 pub struct Request {
+    /// The request's number, from 1 on over the whole life of a database.
     pub q: u64,
+    /// What is asked for.
     pub call: Call,
 }
 
@@ -65,7 +72,7 @@ impl Duplicate for Request {
     }
 }
 
-/// A call equal to this one.
+/// A call equal to this one, or want of memory.
 pub fn copy_call(alloc: Global, call: &Call) -> Result<Call, Memory>
     ensures { IfOk result (λ copy. copy ≡ call.now) }
 {

@@ -5,7 +5,7 @@ use std::alloc::Global;
 
 /// A value that can be copied where there is memory for the copy.
 pub trait Duplicate: Drop {
-    /// An equal value, or want of memory.
+    /// A value equal to this one, or want of memory.
     fn duplicate(&self, alloc: Global) -> Result<Self, Memory>
         ensures { IfOk result (λ copy. copy ≡ self.now) };
 }

@@ -1,5 +1,6 @@
 ghost use Rattle.std.specs.Prelude.{◌≡◌, IfOk};
 ghost use Rattle.aria_base.specs.Kinds.{part_kind};
+ghost use Rattle.aria_base.specs.Orders.{key_cmp};
 
 use crate::copies::Duplicate;
 use crate::lists::{Few, Items};
@@ -7,22 +8,28 @@ use crate::memory::Memory;
 use crate::texts::Txt;
 use crate::values::{Kind, Kinded, Row};
 use std::alloc::Global;
+use std::cmp::Ordering;
 
-/// A part of a key. Numbers come before texts.
+/// A part of a key. Numbers come before texts; numbers are ordered by size, texts by their bytes
+/// from the left, where a front of a text comes before it.
 #[derive(Debug, Drop, PartialEq, Eq, PartialOrd, Ord)]
 pub enum Part {
+    /// A whole number.
     Int(i64),
+    /// A text of at most 500 bytes.
     Text(Txt),
 }
 
-/// The parts of a key, from the left.
+/// The parts of a key, from the left: one to five.
 pub type Parts = Few<Part, 1, 5>;
 
 /// A key: a table's number and the parts. Keys are ordered by table, then by their parts from the
 /// left; a key whose parts are the front of another's comes before it.
 #[derive(Debug, Drop, PartialEq, Eq, PartialOrd, Ord)]
 pub struct Key {
+    /// The table's place in the schema, from 0.
     pub table: u16,
+    /// The parts, which tell the rows of a table apart.
     pub parts: Parts,
 }
 
@@ -61,9 +68,16 @@ impl Duplicate for Key {
     }
 }
 
-/// A key equal to this one.
+/// A key equal to this one, or want of memory.
 pub fn copy_key(alloc: Global, key: &Key) -> Result<Key, Memory>
     ensures { IfOk result (λ copy. copy ≡ key.now) }
 {
     key.duplicate(alloc)
+}
+
+/// How the first key stands to the second. This is `cmp`; its clause says what the order is.
+pub fn compare_keys(a: &Key, b: &Key) -> Ordering
+    ensures { result ≡ key_cmp a.now b.now }
+{
+    a.cmp(b)
 }

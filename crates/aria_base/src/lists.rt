@@ -48,11 +48,9 @@ impl<T> Items<T> {
 
 impl<T: Duplicate> Duplicate for Items<T> {
     fn duplicate(&self, alloc: Global) -> Result<Self, Memory> {
-        let mut copy = Vec::with_capacity(alloc, self.items.len())?;
-        for item in &self.items {
-            copy.push(item.duplicate(alloc)?)?;
-        }
-        Ok(Items { items: copy })
+        Ok(Items {
+            items: duplicate_all(alloc, &self.items)?,
+        })
     }
 }
 
@@ -109,7 +107,7 @@ impl<T, const LOW: usize, const HIGH: usize> Model for Few<T, LOW, HIGH> {
 }
 
 impl<T, const LOW: usize, const HIGH: usize> Few<T, LOW, HIGH> {
-    /// The list of these items.
+    /// The list of these items, of which there are `LOW` to `HIGH`.
     pub fn from_vec(items: Vec<T>) -> Self
         requires low { LOW ≤ length items.items }
         requires high { length items.items ≤ HIGH }
@@ -139,11 +137,9 @@ impl<T, const LOW: usize, const HIGH: usize> Few<T, LOW, HIGH> {
 
 impl<T: Duplicate, const LOW: usize, const HIGH: usize> Duplicate for Few<T, LOW, HIGH> {
     fn duplicate(&self, alloc: Global) -> Result<Self, Memory> {
-        let mut copy = Vec::with_capacity(alloc, self.items.len())?;
-        for item in &self.items {
-            copy.push(item.duplicate(alloc)?)?;
-        }
-        Ok(Few { items: copy })
+        Ok(Few {
+            items: duplicate_all(alloc, &self.items)?,
+        })
     }
 }
 
@@ -183,4 +179,15 @@ impl<T: Ord, const LOW: usize, const HIGH: usize> Ord for Few<T, LOW, HIGH> {
     fn cmp(&self, other: &Few<T, LOW, HIGH>) -> Ordering {
         self.items.cmp(&other.items)
     }
+}
+
+/// Equal items, in their order.
+fn duplicate_all<T: Duplicate>(alloc: Global, items: &[T]) -> Result<Vec<T>, Memory>
+    ensures { IfOk result (λ copies. copies.items ≡ items.now) }
+{
+    let mut copies = Vec::with_capacity(alloc, items.len())?;
+    for item in items {
+        copies.push(item.duplicate(alloc)?)?;
+    }
+    Ok(copies)
 }

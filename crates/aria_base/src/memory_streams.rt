@@ -25,11 +25,11 @@ impl Model for MemSource {
     ghost Value = { Stock };
 
     ghost view = { λ s. record {
-        left = drop s.at s.bytes.items;
-        piece = s.piece;
-        fails = s.fails.items;
-        calls = s.calls;
-        faults = s.faults;
+      left = drop s.at s.bytes.items;
+      piece = s.piece;
+      fails = s.fails.items;
+      calls = s.calls;
+      faults = s.faults;
     } };
 
     ghost invariant = { λ s. (s.at ≤ length s.bytes.items) × (0 < s.piece) × (s.calls < 2 ^ 64) × (s.faults < 2 ^ 64) };
@@ -37,7 +37,7 @@ impl Model for MemSource {
 
 impl MemSource {
     /// A source that gives these bytes, at most `piece` of them in a call; exactly the calls whose
-    /// numbers, from 1, stand in `fails` fail.
+    /// numbers, from 1, stand in `fails` fail, and give nothing.
     pub fn new(bytes: Vec<u8>, piece: usize, fails: Vec<u64>) -> MemSource
         requires { 0 < piece }
         ensures { result ≡ record { left = bytes.items; piece = piece; fails = fails.items; calls = 0; faults = 0 } }
@@ -93,11 +93,11 @@ impl Model for MemSink {
     ghost Value = { Shelf };
 
     ghost view = { λ s. record {
-        given = s.bytes.items;
-        room = s.room;
-        fails = s.fails.items;
-        calls = s.calls;
-        faults = s.faults;
+      given = s.bytes.items;
+      room = s.room;
+      fails = s.fails.items;
+      calls = s.calls;
+      faults = s.faults;
     } };
 
     ghost invariant = { λ s. (length s.bytes.items ≤ s.room) × (s.room ≤ vec_capacity s.bytes) × (s.calls < 2 ^ 64) × (s.faults < 2 ^ 64) };

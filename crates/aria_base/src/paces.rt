@@ -1,10 +1,15 @@
-/// Where a worker stands.
+/// The kinds of steps that a worker makes.
 #[derive(Clone, Copy, Debug, PartialEq, Eq)]
 pub enum Place {
+    /// It runs a request on the rows as they stood when the batch began.
     Execute,
+    /// It leaves marks on reservation words.
     Mark,
+    /// It draws the place of its next request.
     Draw,
+    /// It installs writes of a batch.
     Install,
+    /// It runs a request again that had to wait.
     Rerun,
 }
 

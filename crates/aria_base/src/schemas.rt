@@ -9,11 +9,14 @@ use crate::texts::Txt;
 use crate::values::{Kind, Kinded, Kinds, Row};
 use std::alloc::Global;
 
-/// A table: its name, the kinds of its key's parts (one to five) and of its columns.
+/// A table.
 #[derive(Debug, Drop, PartialEq, Eq)]
 pub struct Table {
+    /// What it is called.
     pub name: Txt,
+    /// The kinds of its key's parts, from the left: one to five.
     pub key: Kinds,
+    /// The kinds of its columns, from the left: at most 16.
     pub cols: Kinds,
 }
 
@@ -29,7 +32,8 @@ impl Items<Table> {
         let Some(table) = self.as_slice().get(usize::from(key.table)) else {
             return false;
         };
-        are_of(key.parts.as_slice(), table.key.as_slice()) && are_of(row.as_slice(), table.cols.as_slice())
+        are_of(key.parts.as_slice(), table.key.as_slice())
+            && are_of(row.as_slice(), table.cols.as_slice())
     }
 }
 

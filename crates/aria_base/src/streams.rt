@@ -7,7 +7,7 @@ ghost use Rattle.aria_base.specs.Streams.{Takes, Gives};
 #[derive(Clone, Copy, Debug, PartialEq, Eq)]
 pub struct Failed;
 
-/// Where input comes from.
+/// Where input comes from. Its count of faults never falls, and stays at 2^64 - 1 once it is there.
 pub trait Source {
     /// The bytes that it has left, where it tells them.
     ghost left: { Self → Option (List ℕ) };
@@ -16,8 +16,8 @@ pub trait Source {
     ghost faults: { Self → ℕ };
 
     /// Puts some of the bytes that are left at the buffer's front and answers how many; 0 means the
-    /// end of the input. After `Failed`, which comes only where the count of faults rose, none was
-    /// taken.
+    /// end of the input. After `Failed`, which comes only where the count of faults rose or stands at
+    /// its last value, none was taken.
     fn take(&mut self, buf: &mut [u8]) -> Result<usize, Failed>
         requires { 0 < length buf.old }
         ensures bytes { Takes (left self.old) (left self.new) result buf.new }
@@ -25,7 +25,7 @@ pub trait Source {
         ensures failed { OnErr result (Rose (faults self.old) (faults self.new)) };
 }
 
-/// Where output goes.
+/// Where output goes. Its count of faults never falls, and stays at 2^64 - 1 once it is there.
 pub trait Sink {
     /// The bytes that it was given, where it tells them.
     ghost given: { Self → Option (List ℕ) };
@@ -34,7 +34,7 @@ pub trait Sink {
     ghost faults: { Self → ℕ };
 
     /// Appends all the bytes, or answers `Failed` after a front of them, and then the count of
-    /// faults rose.
+    /// faults rose or stands at its last value.
     fn give(&mut self, bytes: &[u8]) -> Result<(), Failed>
         ensures bytes { Gives (given self.old) (given self.new) result bytes.now }
         ensures kept { faults self.old ≤ faults self.new }

@@ -19,7 +19,7 @@ pub const LONGEST_TEXT: usize = 500;
 pub enum TxtRefused {
     /// There was no memory for the copy.
     Memory,
-    /// There are more bytes than a text may have.
+    /// There are more than 500 bytes: this many.
     TooLong { len: usize },
     /// The first byte that no text holds stands at this place, from 0.
     BadByte { at: usize },
@@ -37,8 +37,8 @@ impl fmt::Display for TxtRefused {
 
 impl Error for TxtRefused {}
 
-/// A short text: at most 500 bytes of printable ASCII without `"` and `\`. A contract sees the list
-/// of its bytes.
+/// A short text: at most 500 bytes of printable ASCII, from 32 to 126, without `"` and `\`. A
+/// contract sees the list of its bytes.
 #[derive(Debug, Drop, PartialEq, Eq, PartialOrd, Ord)]
 pub struct Txt {
     bytes: Bytes,
@@ -69,7 +69,9 @@ impl Txt {
         }
         let mut copy = Vec::with_capacity(alloc, bytes.len())?;
         copy.extend_from_slice(bytes)?;
-        Ok(Txt { bytes: Bytes::from_vec(copy) })
+        Ok(Txt {
+            bytes: Bytes::from_vec(copy),
+        })
     }
 
     /// The bytes of the text.
@@ -83,7 +85,9 @@ impl Txt {
 
 impl Duplicate for Txt {
     fn duplicate(&self, alloc: Global) -> Result<Self, Memory> {
-        Ok(Txt { bytes: self.bytes.duplicate(alloc)? })
+        Ok(Txt {
+            bytes: self.bytes.duplicate(alloc)?,
+        })
     }
 }
 

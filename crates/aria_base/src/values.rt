@@ -8,28 +8,33 @@ use crate::memory::Memory;
 use crate::texts::Txt;
 use std::alloc::Global;
 
-/// The kind of a value.
+/// The kind of a value or of a key's part.
 #[derive(Clone, Copy, Debug, PartialEq, Eq)]
 pub enum Kind {
+    /// A whole number of 64 bits with a sign.
     Int,
+    /// A text.
     Text,
 }
 
-/// The kinds of a key's parts or of a row's columns.
+/// The kinds of a key's parts or of a row's columns, from the left.
 pub type Kinds = Items<Kind>;
 
 /// A value of a row or a register.
 #[derive(Debug, Drop, PartialEq, Eq)]
 pub enum Value {
+    /// A whole number.
     Int(i64),
+    /// A text of at most 500 bytes.
     Text(Txt),
 }
 
-/// A row: its columns from the left.
+/// A row: its columns from the left, at most 16.
 pub type Row = Few<Value, 0, 16>;
 
 /// What has a kind.
 pub trait Kinded {
+    /// Its kind.
     ghost kind_of: { Self → Kind };
 
     /// The kind of this one.
@@ -63,7 +68,7 @@ impl Duplicate for Value {
     }
 }
 
-/// A row equal to this one.
+/// A row equal to this one, or want of memory.
 pub fn copy_row(alloc: Global, row: &Row) -> Result<Row, Memory>
     ensures { IfOk result (λ copy. copy ≡ row.now) }
 {

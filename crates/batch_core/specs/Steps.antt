@@ -7,25 +7,18 @@ use Rattle.aria_base.specs.declared.keys.Key.{Key}
 use Rattle.aria_base.specs.declared.calls.Call.{Call}
 use Rattle.aria_base.specs.declared.calls.Request.{Request}
 use Rattle.proc_lang.specs.declared.ends.End.{End}
-use Rattle.proc_lang.specs.declared.ends.End.TheVariants as end
+use Rattle.proc_lang.specs.Meaning.{is_done}
 use Rattle.batch_rules.specs.declared.verdicts.Rule.{Rule}
 use Rattle.batch_rules.specs.declared.verdicts.Cause.{Cause}
 use Rattle.batch_rules.specs.declared.verdicts.Cause.TheVariants as cause
 use Rattle.batch_rules.specs.Trees.{Tree}
-use Rattle.batch_rules.specs.Batches.{Judged, Fate, Ended, Waits, Moved, Entry, Batch, batch, ordered, carried}
+use Rattle.batch_rules.specs.Batches.{Fate, Ended, Waits, Moved, Entry, Batch, batch, ordered, carried}
 use Rattle.batch_core.specs.declared.answers.Wait.{Wait}
 use Rattle.batch_core.specs.declared.answers.Wait.TheVariants as wait
 use Rattle.batch_core.specs.declared.answers.Reply.{Reply}
 use Rattle.batch_core.specs.declared.answers.Reply.TheVariants as reply
 use Rattle.batch_core.specs.declared.answers.Line.{Line}
 use Rattle.batch_core.specs.declared.answers.Answer.{Answer}
-use Rattle.std.specs.Prelude.{Bool, true, false}
-
--- whether a run ended well, so that its writes count
-abbrev pub is_done : End → Bool
-is_done (end.Done gives) = true
-is_done (end.Back code) = false
-is_done (end.Trap trap) = false
 
 -- what stands between two batches: the settings, the rows, the requests that wait, and how many batches were run and requests
 -- numbered so far

@@ -1,3 +1,5 @@
+//! What a batch answers.
+
 use aria_base::{Items, Key};
 use proc_lang::End;
 
@@ -27,7 +29,9 @@ pub enum Reply {
 /// A request's line in an answer.
 #[derive(Debug, Drop, PartialEq, Eq)]
 pub struct Line {
+    /// The request's number.
     pub q: u64,
+    /// What becomes of it.
     pub reply: Reply,
 }
 
@@ -41,7 +45,10 @@ pub type Order = Items<u64>;
 /// ends and the same rows.
 #[derive(Debug, Drop, PartialEq, Eq)]
 pub struct Answer {
+    /// The batch's number, from 1.
     pub number: u64,
+    /// A line for each request of its list.
     pub lines: Replies,
+    /// The requests that finished, as they count as run.
     pub order: Order,
 }

@@ -1,5 +1,23 @@
+//! Batches one after the other: what each is handed, what it answers by request numbers, and the state that it leaves.
+//!
+//! A step runs the waiting requests and the new calls as one list, answers a line for each of them with a serial order, and carries
+//! over what waits. The contracts of `laws` say what holds of every run of steps: each answer's order, run one request after the
+//! other, gives the printed ends and the next state's rows, and each batch finishes the first request of its list.
+//!
+//! ```text
+//!     Steps       states, lists of batches, answers, and runs
+//!     Outcomes    a batch without a late fold, by the outcomes of its requests
+//!     Serial      what an answer's order promises
+//!     Progress    how far each batch gets with what waits
+//! ```
+//!
+//! The definitions stand in specs/. The types of `answers` are those of the code, and `decided` is what it has in its hands between
+//! the decisions and the answer.
 #![tactic(auto)]
 
 pub mod answers;
+pub mod decided;
+pub mod laws;
 
 pub use answers::{Answer, Line, Order, Replies, Reply, Wait};
+pub use decided::Decided;

@@ -1,6 +1,7 @@
-pub mod Trees
-pub mod Touches
-pub mod Plays
-pub mod Verdicts
 pub mod Batches
+pub mod Laws
+pub mod Plays
 pub mod Serials
+pub mod Touches
+pub mod Trees
+pub mod Verdicts

@@ -1,5 +1,21 @@
+//! What a batch of requests is, and the laws that it keeps, for any keys, rows, requests and ends.
+//!
+//! A request is a tree of accesses, and everything else is a function of trees and of one database: read and write sets, who depends
+//! on whom, what each request comes to, the printed order and the database that the batch leaves. The contracts of `laws` say what
+//! follows: above all, that running the requests of the printed order one after the other gives what the batch gave.
+//!
+//! ```text
+//!     Trees      a request: ends, or reads and goes on, or writes and goes on
+//!     Touches    what a run reads and leaves, and its first access outside declared keys
+//!     Plays      the run step by step, as an interpreter makes it
+//!     Verdicts   who depends on whom, and who waits for whom
+//!     Batches    the answer of a batch; its printed order
+//!     Serials    one request after the other
+//!     Laws       what is proved of them
+//! ```
+//!
+//! The definitions stand in specs/, and there is no code but the three types of `verdicts`.
 #![tactic(auto)]
 
+pub mod laws;
 pub mod verdicts;
-
-pub use verdicts::{Cause, Rule, Verdict};

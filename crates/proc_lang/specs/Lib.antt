@@ -1,0 +1,9 @@
+pub mod Falls
+pub mod Meaning
+pub mod StepCodes
+pub mod Steps
+pub mod Syntax
+pub mod TermCodes
+pub mod TermOf
+pub mod Terms
+pub mod Values

@@ -16,8 +16,14 @@ pub enum Trap {
     Many,
 }
 
+/// The most accesses of one run. Before a further one the run traps with `Many`.
+pub const MOST_ACCESSES: usize = 256;
+
+/// The most values that a run gives. Before a further one it traps with `Many`.
+pub const MOST_GIVEN: usize = 256;
+
 /// The values that a run gave, in order.
-pub type Gives = Few<Value, 0, 256>;
+pub type Gives = Few<Value, 0, MOST_GIVEN>;
 
 /// How a run ended.
 #[derive(Debug, Drop, PartialEq, Eq)]

@@ -1,5 +1,20 @@
+//! The language of stored procedures: its syntax, its meaning, and the window on a database through
+//! which a run goes.
+//!
+//! Syntax and procedures are Rust types; contracts see expressions and blocks as plain data without
+//! memory, so that equal bodies are equal. The meaning of a body (`specs/Meaning.antt`) is a tree of
+//! accesses that ends in an [`End`]: statements become reads and writes, each read goes on by the row
+//! that it finds.
 #![tactic(auto)]
 
+pub mod accesses;
 pub mod ends;
+pub mod expressions;
+pub mod procs;
+pub mod statements;
 
+pub use accesses::Access;
 pub use ends::{End, Gives, Trap};
+pub use expressions::{Expr, Exprs, copy_expr};
+pub use procs::{ArgKind, ArgKinds, Path, PathPart, Proc};
+pub use statements::{Block, Regs, Stmt, copy_stmt};

@@ -14,10 +14,11 @@ moved bytes front buf left at n piece e within piece_pos buf_pos is front_is =
     let fits : at + n - at ≤ length (drop at bytes) = omega (arith, is, size) in
     let count : at + n - at ≡ n = omega arith in
     let long : length front ≡ n = ap length front_is ∙ length-take-le (at + n - at) (drop at bytes) fits ∙ count in
-    let seam : take n (front ++ drop n buf) ≡ front = rw (← long) (take-append_seam front (drop (length front) buf)) in
-    (omega (arith, long, length-append front (drop n buf)),
-     sym e ∙ drop_split bytes at (at + n) (omega arith) ∙ ap (λ l. l ++ drop (at + n) bytes) (sym (seam ∙ front_is)),
-     λ z. drop_all (at + n) bytes (omega (arith, is, z)))
+    let seam : take n (front ++ drop n buf) ≡ front = rw (← long) (take-append_seam front (drop (length front) buf)) in (
+      omega (arith, long, length-append front (drop n buf)),
+      sym e ∙ drop_split bytes at (at + n) (omega arith) ∙ ap (λ l. l ++ drop (at + n) bytes) (sym (seam ∙ front_is)),
+      λ z. drop_all (at + n) bytes (omega (arith, is, z)),
+    )
 
 pub returns-clause-bytes : goal.returns-clause-bytes
 returns-clause-bytes c =
@@ -25,5 +26,5 @@ returns-clause-bytes c =
     let len : c.len.result ≡ length c.self.inside.bytes.items = search rules in
     let n : c.min-n.result ≡ min (min c.self.inside.piece (length c.args.buf.now)) (length c.self.inside.bytes.items - c.self.inside.at) = c.min-n.ensures ∙ rw (len, c.min.ensures) refl in
     moved c.self.inside.bytes.items c.copy_from_slice.new.self c.args.buf.now _ c.self.inside.at c.min-n.result c.self.inside.piece
-        (ap (λ v. v.left) c.self.view_is) c.self.invariant.0 c.self.invariant.1 c.requires n
-        (rw bytes at c.copy_from_slice.ensures.after)
+    (ap (λ v. v.left) c.self.view_is) c.self.invariant.0 c.self.invariant.1 c.requires n
+    (rw bytes at c.copy_from_slice.ensures.after)

@@ -1,0 +1,4 @@
+pub mod Answers
+pub mod Refusals
+pub mod States
+pub mod Tokens

@@ -1,0 +1,122 @@
+ghost use Rattle.std.specs.Prelude.{◌≡◌, ◌<◌, ◌++◌, length, All, IfOk, OnOk};
+ghost use Rattle.answer_text.specs.Answers.{trap_word, end_text, wait_text, reply_text, line_text, order_text, answer_text};
+
+use crate::tokens::{append_counted, append_key, append_number, append_tokens};
+use aria_base::{Memory, Schema};
+use batch_core::{Answer, Line, Order, Reply, Wait};
+use proc_lang::{End, Trap};
+use std::alloc::Global;
+
+/// The lines of an answer.
+pub fn print_answer(alloc: Global, schema: &Schema, answer: &Answer) -> Result<Vec<u8>, Memory>
+    ensures { IfOk result (λ text. text.items ≡ answer_text schema.now answer.now) }
+{
+    let mut out = Vec::new(alloc);
+    append_answer(&mut out, schema, answer)?;
+    Ok(out)
+}
+
+/// Appends the lines of an answer. After want of memory a part of them may stand in `out`.
+pub fn append_answer(out: &mut Vec<u8>, schema: &Schema, answer: &Answer) -> Result<(), Memory>
+    ensures { OnOk result (out.new.items ≡ out.old.items ++ answer_text schema.now answer.now) }
+{
+    append_counted(out, b"batch ", answer.number)?;
+    for line in answer.lines.as_slice() {
+        append_line(out, schema, line)?;
+    }
+    append_order(out, &answer.order)?;
+    append_counted(out, b"end ", answer.number)
+}
+
+/// Appends the line of the serial order.
+fn append_order(out: &mut Vec<u8>, order: &Order) -> Result<(), Memory>
+    ensures { OnOk result (out.new.items ≡ out.old.items ++ order_text order.now) }
+{
+    out.extend_from_slice(b"order")?;
+    append_tokens(out, order.as_slice())?;
+    out.push(b'\n')?;
+    Ok(())
+}
+
+/// Appends a request's line.
+fn append_line(out: &mut Vec<u8>, schema: &Schema, line: &Line) -> Result<(), Memory>
+    ensures { OnOk result (out.new.items ≡ out.old.items ++ line_text schema.now line.now) }
+{
+    append_number(out, line.q)?;
+    append_reply(out, schema, &line.reply)?;
+    out.push(b'\n')?;
+    Ok(())
+}
+
+/// Appends what became of a request, behind a space.
+fn append_reply(out: &mut Vec<u8>, schema: &Schema, reply: &Reply) -> Result<(), Memory>
+    ensures { OnOk result (out.new.items ≡ out.old.items ++ reply_text schema.now reply.now) }
+{
+    match reply {
+        Reply::Ended(end) => append_end(out, end),
+        Reply::Waits(wait) => {
+            out.extend_from_slice(b" wait ")?;
+            append_wait(out, schema, wait)
+        }
+    }
+}
+
+/// Appends how a request ended, behind a space.
+fn append_end(out: &mut Vec<u8>, end: &End) -> Result<(), Memory>
+    ensures { OnOk result (out.new.items ≡ out.old.items ++ end_text end.now) }
+{
+    match end {
+        End::Done(gives) => {
+            out.extend_from_slice(b" ok")?;
+            append_tokens(out, gives.as_slice())
+        }
+        End::Back(code) => {
+            out.extend_from_slice(b" back ")?;
+            append_number(out, *code)
+        }
+        End::Trap(trap) => {
+            out.extend_from_slice(b" trap ")?;
+            out.extend_from_slice(word_of(*trap))?;
+            Ok(())
+        }
+    }
+}
+
+/// The word of a trap.
+fn word_of(trap: Trap) -> &'static [u8]
+    ensures { result.now ≡ trap_word trap }
+{
+    match trap {
+        Trap::Overflow => b"overflow",
+        Trap::Zero => b"zero",
+        Trap::Absent => b"absent",
+        Trap::Long => b"long",
+        Trap::Many => b"many",
+    }
+}
+
+/// Appends why a request waits.
+fn append_wait(out: &mut Vec<u8>, schema: &Schema, wait: &Wait) -> Result<(), Memory>
+    ensures { OnOk result (out.new.items ≡ out.old.items ++ wait_text schema.now wait.now) }
+{
+    match wait {
+        Wait::Waw(waw) => {
+            out.extend_from_slice(b"waw ")?;
+            append_number(out, *waw)
+        }
+        Wait::Raw(raw) => {
+            out.extend_from_slice(b"raw ")?;
+            append_number(out, *raw)
+        }
+        Wait::Both(raw, war) => {
+            out.extend_from_slice(b"both ")?;
+            append_number(out, *raw)?;
+            out.push(b' ')?;
+            append_number(out, *war)
+        }
+        Wait::Moved(key) => {
+            out.extend_from_slice(b"moved ")?;
+            append_key(out, schema, key)
+        }
+    }
+}

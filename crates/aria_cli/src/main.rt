@@ -1,0 +1,49 @@
+//! The program `aria`: the standard streams, and the top call.
+#![tactic(auto)]
+
+use aria_base::{FileSink, FileSource};
+use aria_top::{NO_MEMORY, READ_FAULT, WRITE_FAULT, aria};
+use std::env::Env;
+use std::io::{ErrorKind, Input, Print};
+use std::process::ExitCode;
+use std::{env, io};
+
+fn main(rt: HostRuntime) -> ExitCode {
+    let status = run(&rt);
+    if let Some(fault) = fault_of(status) {
+        // Where this fails too, nobody is left to tell.
+        let _ = eprintln!(&rt; "aria: {fault}");
+    }
+    ExitCode::from(status)
+}
+
+/// Runs the command that the program's arguments are, and answers its status.
+fn run<R: Env + AllocGlobal + Input + Print>(rt: &R) -> u8 {
+    let mut input = FileSource::new(rt.reader());
+    let mut output = FileSink::new(io::writer(rt));
+    match words(rt) {
+        Ok(words) => aria(rt.alloc(), &words, &mut input, &mut output),
+        Err(error) if error.kind() == ErrorKind::OutOfMemory => NO_MEMORY,
+        // An argument that is no text is no word of a command.
+        Err(_) => aria(rt.alloc(), &[], &mut input, &mut output),
+    }
+}
+
+/// The program's arguments, without its name.
+fn words<R: Env + AllocGlobal>(rt: &R) -> io::Result<Vec<String>> {
+    let mut words = Vec::new(rt.alloc());
+    for word in env::args(rt)?.skip(1) {
+        words.push(word)?;
+    }
+    Ok(words)
+}
+
+/// What the standard error says of a status, if anything.
+fn fault_of(status: u8) -> Option<&'static str> {
+    match status {
+        READ_FAULT => Some("read fault"),
+        WRITE_FAULT => Some("write fault"),
+        NO_MEMORY => Some("no memory"),
+        _ => None,
+    }
+}

@@ -1,0 +1,6 @@
+use Rattle.std.proofs.Common.{◌≡◌, take}
+use Rattle.batch_core.specs.Outcomes.{sets_of}
+use Rattle.aria_top.proofs.batches.copy_sets.Given as goal
+
+abbrev pub invariant-loop-pair : goal.invariant-loop-pair
+invariant-loop-pair l = l.sets.items ≡ sets_of (take l.pair-index l.executed.items)

@@ -1,0 +1,49 @@
+//! The laws of batches one after the other. Each is the contract of a function that does nothing: a caller has the law after the
+//! call. They hold for whatever the requests do: `tree` is any function from requests to trees of accesses.
+
+ghost use Rattle.std.specs.Prelude.{◌≡◌, ◌<◌, ◌≤◌, List, [], length};
+ghost use Rattle.std.specs.List.{All};
+ghost use Rattle.aria_base.specs.Orders.{Cells};
+ghost use Rattle.aria_base.specs.declared.calls.Request.{Request};
+ghost use Rattle.aria_base.specs.declared.keys.Key.{Key};
+ghost use Rattle.batch_rules.specs.Trees.{Tree};
+ghost use Rattle.batch_core.specs.Progress.{MakesProgress, FinishesWithin};
+ghost use Rattle.batch_core.specs.Serial.{IsNumbered, IsSerial, AllSerial};
+ghost use Rattle.batch_core.specs.Steps.{State, Handed, list_of, step, run};
+ghost use Rattle.proc_lang.specs.declared.ends.End.{End};
+
+/// Where nothing waits, the numbers are in order.
+pub fn nothing_waits()
+    ensures { (state : State) → state.waiting ≡ [] → IsNumbered state }
+{}
+
+/// They stay in order, whatever calls a batch is handed.
+pub fn keeps_numbers()
+    ensures { (tree : Request → Tree Key Cells End) (state : State) (handed : Handed) → IsNumbered state → IsNumbered (step tree state handed) }
+{}
+
+/// Every answer is serialised by the order that it prints, by either rule and with or without the late fold: one after the other from
+/// the batch's start, the requests that it names end as printed and leave the next state's rows; and all other requests wait.
+pub fn serial_answer()
+    ensures { (tree : Request → Tree Key Cells End) (state : State) (handed : Handed) → IsNumbered state → IsSerial tree state handed }
+{}
+
+/// So is every answer of a run of batches.
+pub fn serial_run()
+    ensures { (tree : Request → Tree Key Cells End) (state : State) (batches : List Handed) → IsNumbered state → AllSerial tree state batches }
+{}
+
+/// The first request of a list finishes; fewer wait than there were, and each of them stands at a smaller place of the next list.
+pub fn progress()
+    ensures { (tree : Request → Tree Key Cells End) (state : State) (handed : Handed) → 0 < length (list_of state handed) → MakesProgress tree state handed }
+{}
+
+/// The request at place p of a batch's list has ended after the p-th batch, counted from that one, at the latest.
+pub fn finishes_within()
+    ensures { (tree : Request → Tree Key Cells End) (state : State) (handed : Handed) (rest : List Handed) → IsNumbered state → FinishesWithin tree state handed rest }
+{}
+
+/// Without new calls nothing waits after as many batches as requests waited.
+pub fn drains()
+    ensures { (tree : Request → Tree Key Cells End) (state : State) (batches : List Handed) → All (λ handed. handed.calls ≡ []) batches → length state.waiting ≤ length batches → (run tree state batches).waiting ≡ [] }
+{}

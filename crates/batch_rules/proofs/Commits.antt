@@ -1,0 +1,83 @@
+-- What the verdicts say of two requests that finish, and so of the order in which they are placed.
+use Rattle.std.proofs.Common.{◌≡◌, List, [], ◌∷◌, ◌++◌, reverse, true, false, cond, refl, sym, ap, ◌∙◌, subst, Ordering}
+use Rattle.std.specs.Prelude.{if◌then◌else◌, slice_index_or}
+use Rattle.std.specs.Cmp.{IsTotalOrder}
+use Rattle.std.specs.List.{All, filter}
+use Rattle.std.specs.FinMap.{IsAntisymmetric}
+use Rattle.std.proofs.lemmas.List.{reverse-append, append_assoc}
+use Rattle.std.proofs.lemmas.List.Sorted.{IsPermutation-reverse, All-permutation}
+use Rattle.batch_rules.specs.declared.verdicts.Verdict.{Verdict}
+use Rattle.batch_rules.specs.declared.verdicts.Verdict.TheVariants.{Finish, Wait}
+use Rattle.batch_rules.specs.Verdicts.{meets, finishes, goes_ahead, keeps_turn}
+use Rattle.batch_rules.specs.Batches.{placed}
+use Rattle.batch_rules.proofs.Meets.{meets_turned}
+use Rattle.batch_rules.proofs.Pairs.{Pairs, Pairs_middle, All-filtered}
+
+-- a request that finishes stands in the middle of the order of those behind it, whether it goes ahead or keeps its turn
+pub placed-cons : {X : Type 0} (verdict_of : X → Verdict) (x : X) (xs : List X)
+    → placed verdict_of (x ∷ xs) ≡ (if finishes (verdict_of x) then reverse (filter (λ x. goes_ahead (verdict_of x)) xs) ++ x ∷ filter (λ x. keeps_turn (verdict_of x)) xs else placed verdict_of xs)
+placed-cons verdict_of x xs =
+    let F = filter (λ x. goes_ahead (verdict_of x)) xs in
+    let S = filter (λ x. keeps_turn (verdict_of x)) xs in
+    elim (verdict_of x) as (λ v. reverse (cond (goes_ahead v) (x ∷ F) F) ++ cond (keeps_turn v) (x ∷ S) S ≡ (if finishes v then reverse F ++ x ∷ S else reverse F ++ S)) [
+      | Finish ahead ↦ elim ahead as (λ b. reverse (cond (goes_ahead (Finish b)) (x ∷ F) F) ++ cond (keeps_turn (Finish b)) (x ∷ S) S ≡ reverse F ++ x ∷ S) [
+        | true ↦ ap (λ l. l ++ S) (reverse-append (x ∷ []) F) ∙ append_assoc (reverse F) (x ∷ []) S
+        | false ↦ refl
+      ]
+      | Wait cause ↦ refl
+    ]
+
+-- what holds of what goes ahead, and of the rest, holds of them in turn
+module _ {X : Type 0} (verdict_of : X → Verdict) (P : X → Type 0) where
+  pub All-ahead : (xs : List X) → All (λ x. goes_ahead (verdict_of x) ≡ true → P x) xs → All P (reverse (filter (λ x. goes_ahead (verdict_of x)) xs))
+  All-ahead xs a = let F = filter (λ x. goes_ahead (verdict_of x)) xs in All-permutation P F (reverse F) (IsPermutation-reverse F) (All-filtered (λ x. goes_ahead (verdict_of x)) P xs a)
+
+  pub All-in_turn : (xs : List X) → All (λ x. keeps_turn (verdict_of x) ≡ true → P x) xs → All P (filter (λ x. keeps_turn (verdict_of x)) xs)
+  All-in_turn xs a = All-filtered (λ x. keeps_turn (verdict_of x)) P xs a
+
+module _ {K X : Type 0} (R : K → K → Ordering) (verdict_of : X → Verdict) (reads writes : X → List K) where
+  -- what the verdict of d says of an earlier x
+  pub record IsClean (x d : X) : Type 0 where
+    pub waw : finishes (verdict_of d) ≡ true → meets R (writes d) (writes x) ≡ false
+    pub war : goes_ahead (verdict_of d) ≡ true → meets R (writes d) (reads x) ≡ false
+    pub raw : keeps_turn (verdict_of d) ≡ true → meets R (reads d) (writes x) ≡ false
+
+  -- d may run behind x as it ran on the start: it reads and writes nothing that x writes
+  pub record IsApart (x d : X) : Type 0 where
+    pub reads_none : meets R (reads d) (writes x) ≡ false
+    pub writes_none : meets R (writes d) (writes x) ≡ false
+
+pub ahead_finishes : (v : Verdict) → goes_ahead v ≡ true → finishes v ≡ true
+ahead_finishes (Finish raw) e = refl
+ahead_finishes (Wait cause) e = e
+
+pub turn_finishes : (v : Verdict) → keeps_turn v ≡ true → finishes v ≡ true
+turn_finishes (Finish raw) e = refl
+turn_finishes (Wait cause) e = e
+
+module _ {K X : Type 0} {R : K → K → Ordering} (o : IsTotalOrder R) (anti : IsAntisymmetric R) (verdict_of : X → Verdict) (reads writes : X → List K) where
+  before_it : (x d : X) → IsClean R verdict_of reads writes x d → goes_ahead (verdict_of d) ≡ true → IsApart R verdict_of reads writes d x
+  before_it x d c ahead = record {
+    reads_none = meets_turned o anti (writes d) (reads x) (c.war ahead);
+    writes_none = meets_turned o anti (writes d) (writes x) (c.waw (ahead_finishes _ ahead));
+  }
+
+  behind_it : (x d : X) → IsClean R verdict_of reads writes x d → keeps_turn (verdict_of d) ≡ true → IsApart R verdict_of reads writes x d
+  behind_it x d c turn = record { reads_none = c.raw turn; writes_none = c.waw (turn_finishes _ turn) }
+
+  -- of what finishes behind x, that which goes ahead may run before it, and the rest behind it
+  pub ahead_apart : (x : X) (xs : List X) → All (IsClean R verdict_of reads writes x) xs → All (λ d. IsApart R verdict_of reads writes d x) (reverse (filter (λ d. goes_ahead (verdict_of d)) xs))
+  ahead_apart x xs a = All-ahead verdict_of (λ d. IsApart R verdict_of reads writes d x) xs (λ k d below. before_it x (slice_index_or xs k d) (a k d below))
+
+  pub turn_apart : (x : X) (xs : List X) → All (IsClean R verdict_of reads writes x) xs → All (IsApart R verdict_of reads writes x) (filter (λ d. keeps_turn (verdict_of d)) xs)
+  turn_apart x xs a = All-in_turn verdict_of (IsApart R verdict_of reads writes x) xs (λ k d below. behind_it x (slice_index_or xs k d) (a k d below))
+
+  pub placed_apart : (xs : List X) → Pairs (IsClean R verdict_of reads writes) xs → Pairs (IsApart R verdict_of reads writes) (placed verdict_of xs)
+  placed_apart [] p = tt
+  placed_apart (x ∷ xs) p =
+      let rest = placed_apart xs p.1 in
+      subst (Pairs (IsApart R verdict_of reads writes)) (sym (placed-cons verdict_of x xs))
+      (elim (finishes (verdict_of x)) as (λ b. Pairs (IsApart R verdict_of reads writes) (if b then reverse (filter (λ d. goes_ahead (verdict_of d)) xs) ++ x ∷ filter (λ d. keeps_turn (verdict_of d)) xs else placed verdict_of xs)) [
+        | true ↦ Pairs_middle (IsApart R verdict_of reads writes) _ x _ rest (ahead_apart x xs p.0) (turn_apart x xs p.0)
+        | false ↦ rest
+      ])

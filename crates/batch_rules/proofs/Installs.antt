@@ -1,0 +1,68 @@
+-- Write sets that do not meet may be installed in any order.
+use Rattle.std.proofs.Common.{◌≡◌, List, [], ◌∷◌, ◌++◌, map, reverse, Bool, true, false, Some, None, Option, refl, sym, ap, ◌∙◌, Ordering}
+use Rattle.std.specs.Prelude.{if◌then◌else◌, is_some}
+use Rattle.std.specs.Cmp.{IsTotalOrder}
+use Rattle.std.specs.List.{All, filter}
+use Rattle.std.specs.Option.{unwrap_or}
+use Rattle.std.specs.FinMap as fin
+use Rattle.std.specs.FinMap.{FinMap, IsAntisymmetric, find, same_map}
+use Rattle.std.proofs.lemmas.List.Elements.{All-head, All-tail}
+use Rattle.batch_rules.specs.Touches.{is_among, keys_of, overwritten}
+use Rattle.batch_rules.specs.Verdicts.{meets, finishes, goes_ahead, keeps_turn}
+use Rattle.batch_rules.specs.Trees.{Tree}
+use Rattle.batch_rules.specs.Batches.{Judged, placed, reads_at, rows_at, writes_at, after_commit}
+use Rattle.batch_rules.proofs.Commits.{IsClean, placed-cons, ahead_apart}
+use Rattle.batch_rules.proofs.Pairs.{Pairs}
+use Rattle.batch_rules.proofs.Maps.{get-overwritten}
+use Rattle.batch_rules.proofs.Meets.{apart_at}
+
+module _ {K V : Type 0} (R : K → K → Ordering) where
+  pub not_found : (ws : List (K × Option V)) (q : K) → is_among R (keys_of ws) q ≡ false → find R q ws ≡ None
+  not_found ws q e = elim (find R q ws) as (λ f. is_some f ≡ false → f ≡ None) [ None ↦ λ h. refl | Some row ↦ λ h. cc ] (fin.Entries.is_some-find R q ws ∙ e)
+
+  pub found_among : (ws : List (K × Option V)) (q : K) (row : Option V) → find R q ws ≡ Some row → is_among R (keys_of ws) q ≡ true
+  found_among ws q row e = sym (fin.Entries.is_some-find R q ws) ∙ ap is_some e
+
+module _ {K V : Type 0} {R : K → K → Ordering} (o : IsTotalOrder R) (anti : IsAntisymmetric R) where
+  -- rows leave the other keys as they are
+  pub get-apart : (db : FinMap R V) (ws : List (K × Option V)) (q : K) → is_among R (keys_of ws) q ≡ false → fin.get (overwritten db ws) q ≡ fin.get db q
+  get-apart db ws q e = get-overwritten o db ws q ∙ ap (λ f. unwrap_or f (fin.get db q)) (not_found R ws q e)
+
+  swap_rows : (a b : List (K × Option V)) (q : K) (row : Option V) → meets R (keys_of a) (keys_of b) ≡ false → unwrap_or (find R q b) (unwrap_or (find R q a) row) ≡ unwrap_or (find R q a) (unwrap_or (find R q b) row)
+  swap_rows a b q row e = elim (find R q a) as (λ f. find R q a ≡ f → unwrap_or (find R q b) (unwrap_or f row) ≡ unwrap_or f (unwrap_or (find R q b) row)) [
+    | None ↦ λ h. refl
+    | Some here ↦ λ h. ap (λ f. unwrap_or f here) (not_found R b q (apart_at o anti (keys_of a) (keys_of b) q e (found_among R a q here h)))
+  ] refl
+
+  overwritten_swap : (db : FinMap R V) (a b : List (K × Option V)) → meets R (keys_of a) (keys_of b) ≡ false → overwritten (overwritten db a) b ≡ overwritten (overwritten db b) a
+  overwritten_swap db a b e = same_map o anti _ _ (λ q. get-overwritten o (overwritten db a) b q ∙ ap (unwrap_or (find R q b)) (get-overwritten o db a q) ∙ swap_rows a b q (fin.get db q) e
+      ∙ sym (get-overwritten o (overwritten db b) a q ∙ ap (unwrap_or (find R q a)) (get-overwritten o db b q)))
+
+module _ {K V X : Type 0} {R : K → K → Ordering} (rows : X → List (K × Option V)) where
+  abbrev pub installed : FinMap R V → List X → FinMap R V
+  installed db [] = db
+  installed db (x ∷ xs) = installed (overwritten db (rows x)) xs
+
+module _ {K V X : Type 0} {R : K → K → Ordering} (o : IsTotalOrder R) (anti : IsAntisymmetric R) (rows : X → List (K × Option V)) where
+  -- rows that meet none of those before them may be installed first
+  installed_middle : (db : FinMap R V) (us : List X) (x : X) (vs : List X) → All (λ u. meets R (keys_of (rows x)) (keys_of (rows u)) ≡ false) us → installed rows db (us ++ x ∷ vs) ≡ installed rows (overwritten db (rows x)) (us ++ vs)
+  installed_middle db [] x vs a = refl
+  installed_middle db (u ∷ us) x vs a = installed_middle (overwritten db (rows u)) us x vs (All-tail (λ u. meets R (keys_of (rows x)) (keys_of (rows u)) ≡ false) u us a)
+      ∙ ap (λ db. installed rows db (us ++ vs)) (sym (overwritten_swap o anti db (rows x) (rows u) (All-head (λ u. meets R (keys_of (rows x)) (keys_of (rows u)) ≡ false) u us a)))
+
+module _ {K V Q A X : Type 0} {R : K → K → Ordering} (o : IsTotalOrder R) (anti : IsAntisymmetric R) (is_done : A → Bool) (tree : Q → Tree K V A) (start : FinMap R V) (judged_of : X → Judged Q) where
+  -- the rows of what finishes, installed in the order in which it is placed, are those after the commit phase
+  pub installed-placed : (db : FinMap R V) (xs : List X)
+      → Pairs (IsClean R (λ x. (judged_of x).verdict) (λ x. reads_at is_done tree start (judged_of x).request) (λ x. writes_at is_done tree start (judged_of x).request)) xs
+      → installed (λ x. rows_at is_done tree start (judged_of x).request) db (placed (λ x. (judged_of x).verdict) xs) ≡ after_commit is_done tree start db (map judged_of xs)
+  installed-placed db [] p = refl
+  installed-placed db (x ∷ xs) p =
+      let v = λ (x : X). (judged_of x).verdict in
+      let rows = λ (x : X). rows_at is_done tree start (judged_of x).request in
+      ap (installed rows db) (placed-cons v x xs)
+      ∙ elim (finishes (judged_of x).verdict) as (λ b. installed rows db (if b then reverse (filter (λ d. goes_ahead (judged_of d).verdict) xs) ++ x ∷ filter (λ d. keeps_turn (judged_of d).verdict) xs else placed v xs)
+      ≡ after_commit is_done tree start (if b then overwritten db (rows x) else db) (map judged_of xs)) [
+        | true ↦ installed_middle o anti rows db _ x _ (λ k d below. (ahead_apart o anti v (λ x. reads_at is_done tree start (judged_of x).request) (λ x. writes_at is_done tree start (judged_of x).request) x xs p.0 k d below).writes_none)
+            ∙ installed-placed (overwritten db (rows x)) xs p.1
+        | false ↦ installed-placed db xs p.1
+      ]

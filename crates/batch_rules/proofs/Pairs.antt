@@ -1,0 +1,48 @@
+-- What holds of each item of a list and each later one.
+use Rattle.std.proofs.Common.{◌≡◌, List, [], ◌∷◌, ◌++◌, map, Bool, true, false, cond, refl, arith}
+use Rattle.std.specs.Prelude.{⊤}
+use Rattle.std.specs.List.{All, AllPairs, filter}
+use Rattle.std.proofs.lemmas.List.Elements.{All-nil, All-cons, All-head, All-tail, All-weaker}
+use Rattle.std.proofs.lemmas.List.Kept.{AllPairs-cons}
+use Rattle.std.proofs.lemmas.List.Sorted.{IsPermutation-middle, IsPermutation-sym, All-permutation}
+
+module _ {X : Type 0} (P : X → X → Type 0) where
+  abbrev pub Pairs : List X → Type 0
+  Pairs [] = ⊤
+  Pairs (x ∷ xs) = All (P x) xs × Pairs xs
+
+  pub AllPairs-from_pairs : (xs : List X) → Pairs xs → AllPairs P xs
+  AllPairs-from_pairs [] p = λ i j d below last. absurd (omega arith)
+  AllPairs-from_pairs (x ∷ xs) p = AllPairs-cons P x xs p.0 (AllPairs-from_pairs xs p.1)
+
+  -- an item between two parts of a list
+  pub Pairs_middle : (us : List X) (x : X) (vs : List X) → Pairs (us ++ vs) → All (λ u. P u x) us → All (P x) vs → Pairs (us ++ x ∷ vs)
+  Pairs_middle [] x vs p before after = (after, p)
+  Pairs_middle (u ∷ us) x vs p before after = (
+    All-permutation (P u) (x ∷ (us ++ vs)) (us ++ x ∷ vs) (IsPermutation-sym _ _ (IsPermutation-middle us x vs)) (All-cons (P u) x (us ++ vs) (All-head (λ u. P u x) u us before) p.0),
+    Pairs_middle us x vs p.1 (All-tail (λ u. P u x) u us before) after,
+  )
+
+-- a filter's items pass its test
+module _ {X : Type 0} (test : X → Bool) (P : X → Type 0) where
+  pub All-filtered : (xs : List X) → All (λ x. test x ≡ true → P x) xs → All P (filter test xs)
+  All-filtered [] a = All-nil P
+  All-filtered (x ∷ xs) a =
+      let rest = All-filtered xs (All-tail (λ x. test x ≡ true → P x) x xs a) in
+      elim (test x) as (λ b. (b ≡ true → P x) → All P (cond b (x ∷ filter test xs) (filter test xs))) [
+        | true ↦ λ h. All-cons P x (filter test xs) (h refl) rest
+        | false ↦ λ h. rest
+      ] (All-head (λ x. test x ≡ true → P x) x xs a)
+
+All-unmapped : {X Y : Type 0} (P : Y → Type 0) (f : X → Y) (xs : List X) → All P (map f xs) → All (λ x. P (f x)) xs
+All-unmapped P f [] a = All-nil (λ x. P (f x))
+All-unmapped P f (x ∷ xs) a = All-cons (λ x. P (f x)) x xs (All-head P (f x) (map f xs) a) (All-unmapped P f xs (All-tail P (f x) (map f xs) a))
+
+-- pairs of images are pairs
+pub Pairs-mapped : {X Y : Type 0} (P : Y → Y → Type 0) (f : X → Y) (xs : List X) → Pairs P (map f xs) → Pairs (λ x y. P (f x) (f y)) xs
+Pairs-mapped P f [] p = tt
+Pairs-mapped P f (x ∷ xs) p = (All-unmapped (P (f x)) f xs p.0, Pairs-mapped P f xs p.1)
+
+pub Pairs-weaker : {X : Type 0} (P Q : X → X → Type 0) → ((x y : X) → P x y → Q x y) → (xs : List X) → Pairs P xs → Pairs Q xs
+Pairs-weaker P Q h [] p = tt
+Pairs-weaker P Q h (x ∷ xs) p = (All-weaker (P x) (Q x) (h x) xs p.0, Pairs-weaker P Q h xs p.1)

@@ -1,0 +1,111 @@
+-- The laws of a batch, as sentences over the definitions.
+use Rattle.std.specs.Prelude.{◌≡◌, ◌↔◌, ⊤, ℕ, ◌+◌, ◌-◌, ◌<◌, ◌≤◌, List, ◌++◌, map, length, slice_index_or, Option, Some, None, Bool, true, false, IsSomeAnd, slice_get}
+use Rattle.std.specs.declared.cmp.Ordering.{Ordering}
+use Rattle.std.specs.FinMap as fin
+use Rattle.std.specs.FinMap.{FinMap, find}
+use Rattle.std.specs.List.{All, AllPairs, Contains, enumerate_from}
+use Rattle.std.specs.List.Sorted.{IsPermutation}
+use Rattle.std.specs.Str.TwoWay.{IsFirst}
+use Rattle.batch_rules.specs.declared.verdicts.Rule.{Rule}
+use Rattle.batch_rules.specs.declared.verdicts.Rule.TheVariants.{Plain, Reorder}
+use Rattle.batch_rules.specs.declared.verdicts.Cause.TheVariants.{Waw, Raw, Both}
+use Rattle.batch_rules.specs.declared.verdicts.Verdict.{Verdict}
+use Rattle.batch_rules.specs.declared.verdicts.Verdict.TheVariants.{Finish, Wait}
+use Rattle.batch_rules.specs.Verdicts.{finishes, meets, has_waw, has_raw, has_war, verdict}
+use Rattle.batch_rules.specs.Batches.{Judged, Entry, Batch, Ended, ordered, carried, rows_at, writes_at, after_commit}
+use Rattle.batch_rules.specs.Serials.{serial_ends, serial_map}
+use Rattle.batch_rules.specs.Trees.{Tree, trace_of, end_of}
+use Rattle.batch_rules.specs.Touches.{Declared, is_among, may_read, reads_of, writes_of, map_after, outside, overwritten}
+
+module _ {K V : Type 0} {R : K → K → Ordering} where
+  -- the databases have the same row, or none, at each of the keys
+  abbrev pub AgreeOn : List K → FinMap R V → FinMap R V → Type 0
+  AgreeOn keys m n = (k : K) → is_among R keys k ≡ true → fin.get m k ≡ fin.get n k
+
+  -- and at each key that may be read within the declared ones
+  abbrev pub AgreeWithin : Declared K → FinMap R V → FinMap R V → Type 0
+  AgreeWithin declared m n = (k : K) → may_read R declared k ≡ true → fin.get m k ≡ fin.get n k
+
+-- the runs on two databases have the same accesses, the same end and the same write set
+pub record SameRun {K V A : Type 0} {R : K → K → Ordering} (is_done : A → Bool) (t : Tree K V A) (m n : FinMap R V) : Type 0 where
+  pub trace : trace_of t m ≡ trace_of t n
+  pub end : end_of t m ≡ end_of t n
+  pub writes : writes_of is_done t m ≡ writes_of is_done t n
+
+module _ {K V A : Type 0} {R : K → K → Ordering} (is_done : A → Bool) (t : Tree K V A) where
+  -- where two databases agree on the read set of the run on the first, both give the same run
+  abbrev pub Agreement : FinMap R V → FinMap R V → Type 0
+  Agreement m n = AgreeOn (reads_of t m) m n → SameRun is_done t m n
+
+  -- the database after a run is the start with the run's write set over it
+  abbrev pub Frame : FinMap R V → Type 0
+  Frame db = map_after is_done t db ≡ overwritten db (writes_of is_done t db)
+
+  -- where no access lies outside the declared keys, what stands at other keys cannot matter, and none lies outside on them either
+  abbrev pub Outside : Declared K → FinMap R V → FinMap R V → Type 0
+  Outside declared m n = outside R declared (trace_of t m) ≡ None → AgreeWithin declared m n → SameRun is_done t m n × (outside R declared (trace_of t n) ≡ None)
+
+module _ {K V Q A : Type 0} {R : K → K → Ordering} (is_done : A → Bool) (tree : Q → Tree K V A) where
+  -- no two requests that finish in the commit phase write a common key
+  abbrev pub OneWriter : FinMap R V → List (Judged Q) → Type 0
+  OneWriter start ds = AllPairs (λ d e. finishes d.verdict ≡ true → finishes e.verdict ≡ true → meets R (writes_at is_done tree start d.request) (writes_at is_done tree start e.request) ≡ false) ds
+
+-- at the key k the database after the commit phase has what a request that finishes there writes, and what it had where none writes k
+pub record AfterCommit {K V Q A : Type 0} {R : K → K → Ordering} (is_done : A → Bool) (tree : Q → Tree K V A) (start : FinMap R V) (ds : List (Judged Q)) (k : K) : Type 0 where
+  pub written : (d : Judged Q) (row : Option V) → Contains ds d → finishes d.verdict ≡ true → find R k (rows_at is_done tree start d.request) ≡ Some row → fin.get (after_commit is_done tree start start ds) k ≡ row
+  pub kept : All (λ d. finishes d.verdict ≡ true → is_among R (writes_at is_done tree start d.request) k ≡ false) ds → fin.get (after_commit is_done tree start start ds) k ≡ fin.get start k
+
+-- run one after the other from the start, the requests of the order end as their fates say, and leave this database
+pub record Serialises {K V Q A : Type 0} {R : K → K → Ordering} (is_done : A → Bool) (tree : Q → Tree K V A) (start : FinMap R V) (order : List (Entry K Q A)) (left : FinMap R V) : Type 0 where
+  pub ends : map Ended (serial_ends is_done tree start (map (λ e. e.judged.request) order)) ≡ map (λ e. e.fate) order
+  pub map : serial_map is_done tree start (map (λ e. e.judged.request) order) ≡ left
+
+module _ {K V Q A : Type 0} {R : K → K → Ordering} (is_done : A → Bool) (tree : Q → Tree K V A) where
+  -- a batch is serialised by the order that it prints
+  abbrev pub SerialLaw : FinMap R V → Batch R V Q A → Type 0
+  SerialLaw start answer = Serialises is_done tree start (ordered answer.entries) answer.map
+
+-- the entries are the list with its numbers; and the printed order and what waits are the entries, each once
+pub record EachOnce {K Q A : Type 0} (list : List Q) (entries : List (Entry K Q A)) : Type 0 where
+  pub numbered : map (λ e. (e.judged.tid, e.judged.request)) entries ≡ enumerate_from 1 list
+  pub parted : IsPermutation (ordered entries ++ carried entries) entries
+
+-- The first request of the list finishes, with its end on the start. So fewer are carried than there were; and since the next list
+-- begins with them, each stands at a smaller place than before.
+pub record Progress {K Q A : Type 0} (list : List Q) (end : A) (entries : List (Entry K Q A)) : Type 0 where
+  pub ends : slice_get (map (λ e. e.fate) entries) 0 ≡ Some (Ended end)
+  pub fewer : length (carried entries) < length list
+  pub sooner : (i : ℕ) (d : Entry K Q A) → i < length (carried entries) → i + 1 < (slice_index_or (carried entries) i d).judged.tid
+
+-- two lists meet where some key is among both
+abbrev pub Meeting : {K : Type 0} (R : K → K → Ordering) → List K → List K → Type 0
+Meeting {K} R xs ys = (meets R xs ys ≡ true) ↔ ((k : K) × (is_among R xs k ≡ true) × (is_among R ys k ≡ true))
+
+-- r is the least number of an item of which this holds, counted from 1, or None where it holds of none
+abbrev pub IsLeast : {S : Type 0} → (S → Bool) → List S → Option ℕ → Type 0
+IsLeast holds items r = IsFirst (λ j. IsSomeAnd (slice_get items (j - 1)) (λ item. holds item ≡ true)) 1 (length items + 1) r
+
+module _ {K S : Type 0} (R : K → K → Ordering) (reads writes : S → List K) (earlier : List S) (me : S) where
+  -- What a verdict says. It finishes without a dependency by which it would have to wait, and tells whether it read what an earlier
+  -- request writes; or it waits, and the cause names the least request on which there is the dependency.
+  abbrev pub Says : Rule → Verdict → Type 0
+  Says Plain (Finish raw) = (raw ≡ false) × IsLeast (has_waw R reads writes me) earlier None × IsLeast (has_raw R reads writes me) earlier None
+  Says Reorder (Finish false) = IsLeast (has_waw R reads writes me) earlier None × IsLeast (has_raw R reads writes me) earlier None
+  Says Reorder (Finish true) = IsLeast (has_waw R reads writes me) earlier None × IsLeast (has_war R reads writes me) earlier None × ((j : ℕ) × IsLeast (has_raw R reads writes me) earlier (Some j))
+  Says rule (Wait (Waw j)) = IsLeast (has_waw R reads writes me) earlier (Some j)
+  Says rule (Wait (Raw j)) = (rule ≡ Plain) × IsLeast (has_waw R reads writes me) earlier None × IsLeast (has_raw R reads writes me) earlier (Some j)
+  Says rule (Wait (Both j k)) = (rule ≡ Reorder) × IsLeast (has_waw R reads writes me) earlier None × IsLeast (has_raw R reads writes me) earlier (Some j) × IsLeast (has_war R reads writes me) earlier (Some k)
+
+  abbrev pub VerdictLaw : Rule → Type 0
+  VerdictLaw rule = Says rule (verdict R reads writes rule earlier me)
+
+-- the numbers of a cause are those of requests before number n
+abbrev pub CauseBelow : ℕ → Verdict → Type 0
+CauseBelow n (Finish raw) = ⊤
+CauseBelow n (Wait (Waw j)) = (1 ≤ j) × (j < n)
+CauseBelow n (Wait (Raw j)) = (1 ≤ j) × (j < n)
+CauseBelow n (Wait (Both j k)) = ((1 ≤ j) × (j < n)) × ((1 ≤ k) × (k < n))
+
+-- each request waits for earlier ones alone
+abbrev pub WaitsForEarlier : {Q : Type 0} → List (Judged Q) → Type 0
+WaitsForEarlier ds = All (λ d. CauseBelow d.tid d.verdict) ds

@@ -1,0 +1,76 @@
+//! The laws of a batch. Each is the contract of a function that does nothing: a caller has the law after the call.
+//!
+//! They hold for all types of keys, in a total order that ties only equal ones, and of rows, of requests and of ends.
+
+ghost use Rattle.std.specs.Prelude.{ℕ, List, [], ◌∷◌, Bool};
+ghost use Rattle.std.specs.Cmp.{IsTotalOrder};
+ghost use Rattle.std.specs.FinMap.{FinMap, IsAntisymmetric};
+ghost use Rattle.std.specs.declared.cmp.Ordering.{Ordering};
+ghost use Rattle.batch_rules.specs.Trees.{Tree, end_of};
+ghost use Rattle.batch_rules.specs.Touches.{Declared};
+ghost use Rattle.batch_rules.specs.Verdicts.{least};
+ghost use Rattle.batch_rules.specs.Batches.{judged, batch};
+ghost use Rattle.batch_rules.specs.Laws.{Agreement, Frame, Outside, OneWriter, AfterCommit, SerialLaw, EachOnce, Progress, Meeting, IsLeast, VerdictLaw, WaitsForEarlier};
+ghost use Rattle.batch_rules.specs.declared.verdicts.Rule.{Rule};
+
+/// Where two databases agree on the read set of a run on the first, the run on the second has the same accesses, the same end and
+/// the same write set.
+pub fn agreement<K, V, A>()
+    ensures { (R : K → K → Ordering) → IsTotalOrder R → IsAntisymmetric R → (is_done : A → Bool) (t : Tree K V A) (m n : FinMap R V) → Agreement is_done t m n }
+{}
+
+/// The database after a run is the one before it with the run's write set over it.
+pub fn frame<K, V, A>()
+    ensures { (R : K → K → Ordering) → IsTotalOrder R → IsAntisymmetric R → (is_done : A → Bool) (t : Tree K V A) (db : FinMap R V) → Frame is_done t db }
+{}
+
+/// Where no access of a run lies outside declared keys, what stands at all other keys cannot matter to it.
+pub fn outside<K, V, A>()
+    ensures { (R : K → K → Ordering) → IsTotalOrder R → IsAntisymmetric R → (is_done : A → Bool) (t : Tree K V A) (declared : Declared K) (m n : FinMap R V) → Outside is_done t declared m n }
+{}
+
+/// No two requests that finish in the commit phase write a common key.
+pub fn one_writer<K, V, Q, A>()
+    ensures { (R : K → K → Ordering) → IsTotalOrder R → IsAntisymmetric R → (is_done : A → Bool) (tree : Q → Tree K V A) (rule : Rule) (start : FinMap R V) (list : List Q) → OneWriter is_done tree start (judged is_done tree rule start [] list) }
+{}
+
+/// After the commit phase each key has what the one request that finishes there and writes it writes, and otherwise what it had.
+pub fn after_commit<K, V, Q, A>()
+    ensures { (R : K → K → Ordering) → IsTotalOrder R → IsAntisymmetric R → (is_done : A → Bool) (tree : Q → Tree K V A) (rule : Rule) (start : FinMap R V) (list : List Q) (k : K) → AfterCommit is_done tree start (judged is_done tree rule start [] list) k }
+{}
+
+/// Every batch, by either rule and with or without the late fold, is serialised by its printed order: run one after the other from
+/// the batch's start, the requests of the order end as printed and leave the batch's database.
+pub fn serial_law<K, V, Q, A>()
+    ensures { (R : K → K → Ordering) → IsTotalOrder R → IsAntisymmetric R → (is_done : A → Bool) (tree : Q → Tree K V A) (rule : Rule) (percent : ℕ) (start : FinMap R V) (list : List Q) → SerialLaw is_done tree start (batch is_done tree rule percent start list) }
+{}
+
+/// The printed order and the requests that wait are together the batch's list, each once.
+pub fn each_once<K, V, Q, A>()
+    ensures { (R : K → K → Ordering) (is_done : A → Bool) (tree : Q → Tree K V A) (rule : Rule) (percent : ℕ) (start : FinMap R V) (list : List Q) → EachOnce list (batch is_done tree rule percent start list).entries }
+{}
+
+/// The first request of a list finishes; fewer requests are carried than there were, and each stands at a smaller place than before.
+pub fn progress<K, V, Q, A>()
+    ensures { (R : K → K → Ordering) (is_done : A → Bool) (tree : Q → Tree K V A) (rule : Rule) (percent : ℕ) (start : FinMap R V) (first : Q) (rest : List Q) → Progress (first ∷ rest) (end_of (tree first) start) (batch is_done tree rule percent start (first ∷ rest)).entries }
+{}
+
+/// Two lists of keys meet exactly where some key is among both.
+pub fn meeting<K>()
+    ensures { (R : K → K → Ordering) → IsTotalOrder R → IsAntisymmetric R → (xs ys : List K) → Meeting R xs ys }
+{}
+
+/// The least holder is the first request of which the dependency holds.
+pub fn least_holder<S>()
+    ensures { (holds : S → Bool) (requests : List S) → IsLeast holds requests (least holds requests) }
+{}
+
+/// The verdict says of the earlier requests what each rule is made of.
+pub fn verdict_law<K, S>()
+    ensures { (R : K → K → Ordering) (reads writes : S → List K) (earlier : List S) (me : S) (rule : Rule) → VerdictLaw R reads writes earlier me rule }
+{}
+
+/// A request waits for earlier ones alone.
+pub fn waits_for_earlier<K, V, Q, A>()
+    ensures { (R : K → K → Ordering) (is_done : A → Bool) (tree : Q → Tree K V A) (rule : Rule) (start : FinMap R V) (list : List Q) → WaitsForEarlier (judged is_done tree rule start [] list) }
+{}

@@ -1,0 +1,4 @@
+mod Ended
+mod Registers
+mod Remainders
+mod TextFacts

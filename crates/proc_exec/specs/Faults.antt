@@ -1,0 +1,18 @@
+-- What the result of an evaluation says of the value that the meaning gives.
+use Rattle.std.specs.Prelude.{◌≡◌, Result}
+use Rattle.std.specs.declared.result.Result.TheVariants.{Ok, Err}
+use Rattle.proc_lang.specs.Values.{Got}
+use Rattle.proc_exec.specs.declared.stops.Fault.{Fault}
+use Rattle.proc_exec.specs.declared.stops.Fault.TheVariants as fault
+use Rattle.proc_exec.specs.declared.stops.Stop.{Stop}
+use Rattle.proc_exec.specs.declared.stops.Stop.TheVariants as stop
+
+-- the value or the trap is the meaning's; want of memory says nothing
+abbrev pub Computes : {A : Type 0} → Result A Fault → Got A → Type 0
+Computes (Ok x) meant = meant ≡ Ok x
+Computes (Err fault.Memory) meant = Unit {0}
+Computes (Err (fault.Trap trap)) meant = meant ≡ Err trap
+
+abbrev pub stop_of : Fault → Stop
+stop_of fault.Memory = stop.Memory
+stop_of (fault.Trap trap) = stop.Trap trap

@@ -1,0 +1,61 @@
+-- What the steps of the interpreter say of the run that the meaning gives. Want of memory says nothing, here and below.
+use Rattle.std.specs.Prelude.{◌≡◌, ◌+◌, Bool, true, false, nat_lt, List, [], ◌∷◌, ◌++◌, length, Option, Result}
+use Rattle.std.specs.declared.result.Result.TheVariants.{Ok, Err}
+use Rattle.std.specs.FinMap as fin
+use Rattle.aria_base.specs.Orders.{key_cmp, Cells}
+use Rattle.aria_base.specs.declared.keys.Key.{Key}
+use Rattle.aria_base.specs.declared.values.Value.{Value}
+use Rattle.batch_rules.specs.Touches.{Declared as Touchable}
+use Rattle.batch_rules.specs.Plays.{Seen, PlayEnd, Finishes, Strays, Played, after_read, allows_read, play}
+use Rattle.proc_lang.specs.declared.ends.End.{End}
+use Rattle.proc_lang.specs.declared.ends.End.TheVariants as end
+use Rattle.proc_lang.specs.declared.ends.Trap.TheVariants.{Many}
+use Rattle.proc_lang.specs.declared.ends.TheConstants.{MOST_ACCESSES, MOST_GIVEN}
+use Rattle.proc_lang.specs.Meaning.{Frame, Next}
+use Rattle.proc_exec.specs.declared.outcomes.Ran.{Ran}
+use Rattle.proc_exec.specs.declared.outcomes.Ran.TheVariants as ran
+use Rattle.proc_exec.specs.declared.stops.Fault.{Fault}
+use Rattle.proc_exec.specs.declared.stops.Fault.TheVariants as fault
+use Rattle.proc_exec.specs.declared.stops.Stop.{Stop}
+use Rattle.proc_exec.specs.declared.stops.Stop.TheVariants as stop
+
+abbrev pub Window : Type 0
+Window = Seen key_cmp Cells
+
+-- one access more, or the trap where it would be one too many
+abbrev pub Counts : {A : Type 0} → Result A Fault → Frame → Frame → Type 0
+Counts (Ok x) old new = (nat_lt old.made MOST_ACCESSES ≡ true) × (new ≡ record { regs = old.regs; gives = old.gives; made = old.made + 1 })
+Counts (Err fault.Memory) old new = ⊥
+Counts (Err (fault.Trap trap)) old new = (trap ≡ Many) × (nat_lt old.made MOST_ACCESSES ≡ false)
+
+-- one value more, or the trap where it would be one too many
+abbrev pub GivesOne : {A : Type 0} → Result A Fault → Value → Frame → Frame → Type 0
+GivesOne (Ok x) v old new = (nat_lt (length old.gives) MOST_GIVEN ≡ true) × (new ≡ record { regs = old.regs; gives = old.gives ++ v ∷ []; made = old.made })
+GivesOne (Err fault.Memory) v old new = Unit {0}
+GivesOne (Err (fault.Trap trap)) v old new = (trap ≡ Many) × (nat_lt (length old.gives) MOST_GIVEN ≡ false)
+
+-- how the run that is stopped plays
+abbrev pub stopped : End → Window → Played key_cmp Cells End
+stopped end seen = record { end = Finishes end; seen = seen }
+
+-- The run played from here on is what is next, played from the new frame on the new window; or it has come to its end, or to its
+-- first access that is not allowed.
+abbrev pub Follows : {A : Type 0} → Result A Stop → Option (Touchable Key) → Next → Frame → Window → Played key_cmp Cells End → Type 0
+Follows (Ok x) limits next frame seen played = played ≡ play limits (next frame) seen
+Follows (Err stop.Memory) limits next frame seen played = Unit {0}
+Follows (Err (stop.Back code)) limits next frame seen played = played ≡ stopped (end.Back code) seen
+Follows (Err (stop.Trap trap)) limits next frame seen played = played ≡ stopped (end.Trap trap) seen
+Follows (Err (stop.Moved key)) limits next frame seen played = played ≡ record { end = Strays key; seen = seen }
+
+-- one read of the key: the row, the frame and the window after it, or why it is not made
+abbrev pub Fetched : Result (Option Cells) Stop → Option (Touchable Key) → Key → Frame → Frame → Window → Window → Type 0
+Fetched (Ok row) limits key old new seen seen' = (nat_lt old.made MOST_ACCESSES ≡ true) × (allows_read key_cmp limits key ≡ true) × (row ≡ fin.get seen.map key) × (new ≡ record { regs = old.regs; gives = old.gives; made = old.made + 1 }) × (seen' ≡ after_read seen key)
+Fetched (Err stop.Memory) limits key old new seen seen' = Unit {0}
+Fetched (Err (stop.Back code)) limits key old new seen seen' = ⊥
+Fetched (Err (stop.Trap trap)) limits key old new seen seen' = (trap ≡ Many) × (nat_lt old.made MOST_ACCESSES ≡ false) × (seen' ≡ seen)
+Fetched (Err (stop.Moved other)) limits key old new seen seen' = (other ≡ key) × (nat_lt old.made MOST_ACCESSES ≡ true) × (allows_read key_cmp limits key ≡ false) × (seen' ≡ seen)
+
+-- the end that a run comes to, or the key at which it stops
+abbrev pub end_of_ran : Ran → PlayEnd Key End
+end_of_ran (ran.Ended end) = Finishes end
+end_of_ran (ran.Moved key) = Strays key

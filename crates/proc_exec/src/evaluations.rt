@@ -1,0 +1,167 @@
+// The values of expressions.
+ghost use Rattle.std.specs.Prelude.{◌≡◌, ◌&&◌, ◌||◌, IfOk, int_lt, int_le, slice_get, slice_index_or, pos};
+ghost use Rattle.aria_base.specs.declared.values.Value.TheVariants as value;
+ghost use Rattle.proc_lang.specs.TermOf.{term_of};
+ghost use Rattle.proc_lang.specs.Values.{both, int_of, is_true, me_of, truth, tuples_of, value_of_arg};
+ghost use Rattle.proc_lang.specs.Meaning.{value_of, values_of};
+ghost use Rattle.proc_exec.specs.Faults.{Computes};
+
+use crate::numbers::{difference, divided_by, holds, int, product, product_divided_by, remainder_by, sum, truth_value};
+use crate::stops::Fault;
+use crate::texts::{front_of, join, same, show};
+use aria_base::{Arg, Duplicate, Items, Memory, Request, Tuple, Value};
+use proc_lang::{Expr, Exprs};
+use std::alloc::Global;
+
+/// The value of a register, 0 where there is none.
+fn register(alloc: Global, registers: &Vec<Value>, at: u32) -> Result<Value, Memory>
+    ensures { IfOk result (λ v. v ≡ slice_index_or registers.now.items at (value.Int (pos 0))) }
+{
+    match registers.get(at as usize) {
+        Some(value) => value.duplicate(alloc),
+        None => Ok(Value::Int(0)),
+    }
+}
+
+/// The value of an argument, 0 where it is a list or absent.
+fn argument(alloc: Global, request: &Request, at: u32) -> Result<Value, Memory>
+    ensures { IfOk result (λ v. v ≡ value_of_arg (slice_get request.now.call.args at)) }
+{
+    match request.call.args.as_slice().get(at as usize) {
+        Some(Arg::Int(number)) => Ok(Value::Int(*number)),
+        Some(Arg::Text(text)) => Ok(Value::Text(text.duplicate(alloc)?)),
+        Some(Arg::List(_)) | None => Ok(Value::Int(0)),
+    }
+}
+
+/// The tuples of a list argument, none where it is another one or absent.
+pub fn tuples_at(request: &Request, at: u32) -> &[Tuple]
+    ensures { result.now ≡ tuples_of (slice_get request.now.call.args at) }
+{
+    match request.call.args.as_slice().get(at as usize) {
+        Some(Arg::List(tuples)) => tuples.as_slice(),
+        _ => &[],
+    }
+}
+
+/// The number of a list, 0 where there is none.
+fn number_at(numbers: &[i64], at: u32) -> i64
+    ensures { result ≡ slice_index_or numbers.now at (pos 0) }
+{
+    match numbers.get(at as usize) {
+        Some(number) => *number,
+        None => 0,
+    }
+}
+
+/// The request number, 0 where it is no 64-bit number.
+fn own_number(request: &Request) -> Value
+    ensures { result ≡ me_of request.now.q }
+{
+    match i64::try_from(request.q) {
+        Ok(number) => Value::Int(number),
+        Err(_) => Value::Int(0),
+    }
+}
+
+/// Whether the first number is less.
+fn less(pair: &(Value, Value)) -> Value
+    ensures { result ≡ truth (int_lt (int_of pair.now.0) (int_of pair.now.1)) }
+{
+    truth_value(int(&pair.0) < int(&pair.1))
+}
+
+/// Whether the first number is at most the second.
+fn at_most(pair: &(Value, Value)) -> Value
+    ensures { result ≡ truth (int_le (int_of pair.now.0) (int_of pair.now.1)) }
+{
+    truth_value(int(&pair.0) <= int(&pair.1))
+}
+
+/// Whether both numbers are not 0.
+fn all_hold(pair: &(Value, Value)) -> Value
+    ensures { result ≡ truth (is_true pair.now.0 && is_true pair.now.1) }
+{
+    truth_value(holds(&pair.0) && holds(&pair.1))
+}
+
+/// Whether one of the numbers is not 0.
+fn one_holds(pair: &(Value, Value)) -> Value
+    ensures { result ≡ truth (is_true pair.now.0 || is_true pair.now.1) }
+{
+    truth_value(holds(&pair.0) || holds(&pair.1))
+}
+
+/// The value of the expression, for this request, this tuple of an `Each` and these registers.
+#[cycle(evaluating)]
+pub fn eval(
+    alloc: Global,
+    request: &Request,
+    item: &[i64],
+    registers: &Vec<Value>,
+    expr: &Expr,
+) -> Result<Value, Fault>
+    ensures { Computes result (value_of request.now item.now registers.now.items (term_of expr.now)) }
+{
+    match expr {
+        Expr::Num(number) => Ok(Value::Int(*number)),
+        Expr::Text(text) => Ok(Value::Text(text.duplicate(alloc)?)),
+        Expr::Reg(at) => Ok(register(alloc, registers, *at)?),
+        Expr::Arg(at) => Ok(argument(alloc, request, *at)?),
+        Expr::Item(at) => Ok(Value::Int(number_at(item, *at))),
+        Expr::Len(at) => Ok(Value::Int(tuples_at(request, *at).len() as i64)),
+        Expr::Me => Ok(own_number(request)),
+        Expr::Add(a, b) => sum(eval_both(alloc, request, item, registers, a, b)?),
+        Expr::Sub(a, b) => difference(eval_both(alloc, request, item, registers, a, b)?),
+        Expr::Mul(a, b) => product(eval_both(alloc, request, item, registers, a, b)?),
+        Expr::Div(a, b) => divided_by(eval_both(alloc, request, item, registers, a, b)?),
+        Expr::Mod(a, b) => remainder_by(eval_both(alloc, request, item, registers, a, b)?),
+        Expr::MulDiv(a, b, c) => {
+            let factors = eval_both(alloc, request, item, registers, a, b)?;
+            product_divided_by(factors, eval(alloc, request, item, registers, c)?)
+        }
+        Expr::Eq(a, b) => Ok(truth_value(same(&eval_both(alloc, request, item, registers, a, b)?))),
+        Expr::Ne(a, b) => Ok(truth_value(!same(&eval_both(alloc, request, item, registers, a, b)?))),
+        Expr::Lt(a, b) => Ok(less(&eval_both(alloc, request, item, registers, a, b)?)),
+        Expr::Le(a, b) => Ok(at_most(&eval_both(alloc, request, item, registers, a, b)?)),
+        Expr::And(a, b) => Ok(all_hold(&eval_both(alloc, request, item, registers, a, b)?)),
+        Expr::Or(a, b) => Ok(one_holds(&eval_both(alloc, request, item, registers, a, b)?)),
+        Expr::Not(a) => Ok(truth_value(!holds(&eval(alloc, request, item, registers, a)?))),
+        Expr::Cat(a, b) => join(alloc, eval_both(alloc, request, item, registers, a, b)?),
+        Expr::Front(a, b, most) => front_of(alloc, eval_both(alloc, request, item, registers, a, b)?, *most),
+        Expr::Show(a) => Ok(Value::Text(show(alloc, int(&eval(alloc, request, item, registers, a)?))?)),
+    }
+}
+
+/// The values of two expressions, the first one first.
+#[cycle(evaluating)]
+fn eval_both(
+    alloc: Global,
+    request: &Request,
+    item: &[i64],
+    registers: &Vec<Value>,
+    first: &Expr,
+    second: &Expr,
+) -> Result<(Value, Value), Fault>
+    ensures { Computes result (both (value_of request.now item.now registers.now.items (term_of first.now)) (value_of request.now item.now registers.now.items (term_of second.now))) }
+{
+    let value = eval(alloc, request, item, registers, first)?;
+    Ok((value, eval(alloc, request, item, registers, second)?))
+}
+
+/// The values of a list of expressions, from the left.
+pub fn eval_all(
+    alloc: Global,
+    request: &Request,
+    item: &[i64],
+    registers: &Vec<Value>,
+    exprs: &Exprs,
+) -> Result<Items<Value>, Fault>
+    ensures { Computes result (values_of request.now item.now registers.now.items exprs.now) }
+{
+    let mut values = Vec::with_capacity(alloc, exprs.as_slice().len())?;
+    for expr in exprs.as_slice() {
+        values.push(eval(alloc, request, item, registers, expr)?)?;
+    }
+    Ok(Items::from_vec(values))
+}

@@ -1,0 +1,206 @@
+// A run between two statements.
+ghost use Rattle.std.specs.Prelude.{◌≡◌, IfOk, map, pos, slice_set};
+ghost use Rattle.aria_base.specs.declared.values.Value.TheVariants as value;
+ghost use Rattle.proc_lang.specs.TermOf.{term_of};
+ghost use Rattle.proc_lang.specs.Values.{blank};
+ghost use Rattle.proc_lang.specs.Meaning.{begun, set_to, set_all, blank_all, blank_one, value_of, key_from, row_from, part_of, parts_of};
+ghost use Rattle.proc_exec.specs.Faults.{Computes};
+ghost use Rattle.proc_exec.specs.Steppings.{Counts, GivesOne};
+
+use crate::evaluations::{eval, eval_all};
+use crate::stops::Fault;
+use crate::texts::kept;
+use aria_base::{Items, Key, Kind, Kinded, Kinds, Memory, Part, Parts, Request, Row, Value};
+use proc_lang::ends::{MOST_ACCESSES, MOST_GIVEN};
+use proc_lang::{Expr, Exprs, Gives, Regs, Trap};
+use std::alloc::Global;
+use std::marker::Model;
+
+/// The registers of a run, the values that it has given, and how many accesses it has made.
+#[derive(Drop)]
+pub struct Running {
+    registers: Vec<Value>,
+    given: Vec<Value>,
+    made: usize,
+}
+
+impl Model for Running {
+    ghost use Rattle.std.specs.Prelude.{length, ◌≤◌};
+    ghost use Rattle.proc_lang.specs.Meaning.{Frame};
+    ghost use Rattle.proc_lang.specs.declared.ends.TheConstants.{MOST_GIVEN};
+
+    ghost Value = { Frame };
+
+    ghost view = { λ a. record { regs = a.registers.items; gives = a.given.items; made = a.made } };
+
+    ghost invariant = { λ a. length a.given.items ≤ MOST_GIVEN };
+}
+
+impl Running {
+    /// A run that has not begun, with registers of these kinds.
+    pub fn start(alloc: Global, kinds: &Kinds) -> Result<Running, Memory>
+        ensures { IfOk result (λ run. run ≡ begun kinds.now) }
+    {
+        Ok(Running {
+            registers: blanks(alloc, kinds)?,
+            given: Vec::new(alloc),
+            made: 0,
+        })
+    }
+
+    /// The value of an expression.
+    pub fn value(&self, alloc: Global, request: &Request, item: &[i64], expr: &Expr) -> Result<Value, Fault>
+        ensures { Computes result (value_of request.now item.now self.now.regs (term_of expr.now)) }
+    {
+        eval(alloc, request, item, &self.registers, expr)
+    }
+
+    /// The key in this table with the values of these expressions.
+    pub fn key(&self, alloc: Global, request: &Request, item: &[i64], table: u16, exprs: &Exprs) -> Result<Key, Fault>
+        ensures { Computes result (key_from request.now item.now self.now.regs table exprs.now) }
+    {
+        let values = eval_all(alloc, request, item, &self.registers, exprs)?;
+        Ok(Key { table, parts: parts(alloc, values)? })
+    }
+
+    /// The row with the values of these expressions.
+    pub fn row(&self, alloc: Global, request: &Request, item: &[i64], exprs: &Exprs) -> Result<Row, Fault>
+        ensures { Computes result (row_from request.now item.now self.now.regs exprs.now) }
+    {
+        let mut values = eval_all(alloc, request, item, &self.registers, exprs)?.into_vec();
+        values.truncate(16);
+        Ok(Row::from_vec(values))
+    }
+
+    /// Sets a register, where there is one.
+    pub fn set(&mut self, register: u32, value: Value)
+        ensures { self.new ≡ set_to self.old (slice_set self.old.regs register value) }
+    {
+        let at = register as usize;
+        if at < self.registers.len() {
+            self.registers[at] = value;
+        }
+    }
+
+    /// Puts the columns of a row into registers, as far as there are both.
+    #[tactic(auto, using(crate::proofs::Registers::set_all_none, std::proofs::lemmas::Grind::common_steps))]
+    pub fn set_row(&mut self, registers: &Regs, row: Row)
+        ensures { self.new ≡ set_to self.old (set_all registers.now row self.old.regs) }
+    {
+        let mut values = row.into_vec().into_iter();
+        for register in registers.as_slice() {
+            let Some(value) = values.next() else {
+                return;
+            };
+            self.set(*register, value);
+        }
+    }
+
+    /// The same, and then 1 into the flag.
+    pub fn set_found(&mut self, registers: &Regs, row: Row, flag: u32)
+        ensures { self.new ≡ set_to self.old (slice_set (set_all registers.now row self.old.regs) flag (value.Int (pos 1))) }
+    {
+        self.set_row(registers, row);
+        self.set(flag, Value::Int(1));
+    }
+
+    /// Registers to 0 or the empty text, by what they hold, and then 0 into the flag.
+    pub fn set_missed(&mut self, alloc: Global, registers: &Regs, flag: u32) -> Result<(), Memory>
+        ensures { IfOk result (λ _. self.new ≡ set_to self.old (slice_set (blank_all registers.now self.old.regs) flag (value.Int (pos 0)))) }
+    {
+        for register in registers.as_slice() {
+            self.set_blank(alloc, *register)?;
+        }
+        self.set(flag, Value::Int(0));
+        Ok(())
+    }
+
+    /// A register to 0 or the empty text, by what it holds.
+    fn set_blank(&mut self, alloc: Global, register: u32) -> Result<(), Memory>
+        ensures { IfOk result (λ _. self.new ≡ set_to self.old (blank_one register self.old.regs)) }
+    {
+        let kind = match self.registers.get(register as usize) {
+            Some(value) => value.kind(),
+            None => Kind::Int,
+        };
+        let blank = blank_of(alloc, kind)?;
+        self.set(register, blank);
+        Ok(())
+    }
+
+    /// Counts an access that is to be made; traps where it would be one too many.
+    pub fn count(&mut self) -> Result<(), Fault>
+        ensures { Counts result self.old self.new }
+    {
+        if MOST_ACCESSES <= self.made {
+            return Err(Fault::Trap(Trap::Many));
+        }
+        self.made += 1;
+        Ok(())
+    }
+
+    /// Adds a value to the reply; traps where it would be one too many.
+    pub fn give(&mut self, value: Value) -> Result<(), Fault>
+        ensures { GivesOne result value self.old self.new }
+    {
+        if MOST_GIVEN <= self.given.len() {
+            return Err(Fault::Trap(Trap::Many));
+        }
+        self.given.push(value)?;
+        Ok(())
+    }
+
+    /// The values given.
+    pub fn into_given(self) -> Gives
+        ensures { result ≡ self.gives }
+    {
+        Gives::from_vec(self.given)
+    }
+}
+
+/// 0 or the empty text.
+fn blank_of(alloc: Global, kind: Kind) -> Result<Value, Memory>
+    ensures { IfOk result (λ v. v ≡ blank kind) }
+{
+    match kind {
+        Kind::Int => Ok(Value::Int(0)),
+        Kind::Text => Ok(Value::Text(kept(alloc, &[])?)),
+    }
+}
+
+/// For each kind 0 or the empty text.
+fn blanks(alloc: Global, kinds: &Kinds) -> Result<Vec<Value>, Memory>
+    ensures { IfOk result (λ values. values.items ≡ map blank kinds.now) }
+{
+    let mut values = Vec::with_capacity(alloc, kinds.as_slice().len())?;
+    for kind in kinds.as_slice() {
+        values.push(blank_of(alloc, *kind)?)?;
+    }
+    Ok(values)
+}
+
+/// The value as a part of a key.
+fn part(value: Value) -> Part
+    ensures { result ≡ part_of value }
+{
+    match value {
+        Value::Int(number) => Part::Int(number),
+        Value::Text(text) => Part::Text(text),
+    }
+}
+
+/// The parts of a key; of values that are too few or too many the single 0.
+fn parts(alloc: Global, values: Items<Value>) -> Result<Parts, Memory>
+    ensures { IfOk result (λ parts. parts ≡ parts_of values) }
+{
+    let values = values.into_vec();
+    let mut parts = Vec::with_capacity(alloc, values.len())?;
+    if values.is_empty() || 5 < values.len() {
+        parts.push(Part::Int(0))?;
+        return Ok(Parts::from_vec(parts));
+    }
+    for value in values {
+        parts.push(part(value))?;
+    }
+    Ok(Parts::from_vec(parts))
+}

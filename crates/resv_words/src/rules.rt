@@ -1,0 +1,68 @@
+// The rule that the table of words keeps, and what its four kinds of step tell.
+use aria_base::Mark;
+use atomic_table::{Join, Play, Split, TableRule};
+use std::collections::LinkedList;
+use std::snapshot::Snapshot;
+
+// What the words were made over. The old numbers are for clauses alone.
+#[derive(Drop)]
+pub struct Origin {
+    pub old: Snapshot<Vec<u64>>,
+    pub tag: u64,
+}
+
+// A seat's share of the right to close, and the marks made through it. No value of it is made.
+pub struct View {
+    pub share: u64,
+    pub marks: LinkedList<Mark>,
+}
+
+// Each word is the least of its start value and of the numbers of all marks on it.
+pub struct LeastNumbers;
+
+impl TableRule<(), View, Origin> for LeastNumbers {
+    ghost use Rattle.resv_words.specs.Rule.{Kept, first_view};
+
+    ghost holds = { λ origin. Kept origin.old.value.items origin.tag };
+
+    ghost first = { λ _. first_view };
+}
+
+pub struct MarksWrite;
+
+impl Play<(), View> for MarksWrite {
+    ghost use Rattle.std.specs.Prelude.{true};
+    ghost use Rattle.resv_words.specs.Rule.{marked};
+
+    ghost then = { marked true };
+}
+
+pub struct MarksRead;
+
+impl Play<(), View> for MarksRead {
+    ghost use Rattle.std.specs.Prelude.{false};
+    ghost use Rattle.resv_words.specs.Rule.{marked};
+
+    ghost then = { marked false };
+}
+
+// A new seat has one share, and begins with the marks of the seat that it comes from.
+pub struct OneShare;
+
+impl Split<View> for OneShare {
+    ghost use Rattle.resv_words.specs.Rule.{one_less, one};
+
+    ghost left = { one_less };
+
+    ghost right = { one };
+}
+
+pub struct Together;
+
+impl Join<View> for Together {
+    ghost use Rattle.resv_words.specs.Rule.{sum_of, spent_view};
+
+    ghost both = { sum_of };
+
+    ghost spent = { spent_view };
+}

@@ -1,0 +1,103 @@
+-- What the ordered map of std says of its entries, as finite maps say it.
+use Rattle.std.proofs.Common.{◌≡◌, List, [], ◌∷◌, ◌++◌, Option, Some, None, Bool, cond, true, false, ◌&&◌, refl, sym, ap, subst, ◌∙◌}
+use Rattle.std.proofs.Math.Path.{fun_ext}
+use Rattle.std.specs.Prelude.{T}
+use Rattle.std.specs.Cmp.{IsTotalOrder, eq_by_cmp_equiv}
+use Rattle.std.specs.Cmp.Lexicographic.{slice_cmp}
+use Rattle.std.specs.Ordering.{nat_cmp, ordering_then, eq_by_cmp, is_eq, is_lt}
+use Rattle.std.specs.declared.cmp.Ordering.{Ordering}
+use Rattle.std.specs.declared.cmp.Ordering.TheVariants.{Less}
+use Rattle.std.specs.List.{AllByRecursion}
+use Rattle.std.specs.List.Sorted.{IsStrictlySortedBy}
+use Rattle.std.proofs.lemmas.Map.Keys.{sorted_head, sorted_tail, IsDistinct-from_sorted}
+use Rattle.std.specs.Map.{lookup, keys_of, update_all}
+use Rattle.std.proofs.lemmas.Map.Made.{update_all_none}
+use Rattle.std.specs.BTreeMap.{is_at}
+use Rattle.std.specs.FinMap as fin
+use Rattle.std.specs.FinMap.Entries.{below_all}
+use Rattle.aria_base.specs.Orders.{part_cmp, key_cmp, Cells, Database}
+use Rattle.aria_base.specs.declared.keys.Part.{Part}
+use Rattle.aria_base.specs.declared.keys.Part.TheVariants as part
+use Rattle.aria_base.specs.declared.keys.Key.{Key}
+use Rattle.aria_base.specs.contracts.keys.PartOrd.TheImpl as part_order
+use Rattle.aria_base.specs.contracts.keys.KeyOrd.TheImpl as key_order
+use Rattle.aria_base.proofs.Orders.{key_cmp_total, key_cmp-IsAntisymmetric}
+
+-- the order of the derived comparison
+abbrev pub derived_cmp : Key → Key → Ordering
+derived_cmp = key_order.cmp-value.it
+
+part-is : (x y : Part) → part_order.cmp-value.it x y ≡ part_cmp x y
+part-is (part.Int x) (part.Int y) = refl
+part-is (part.Int x) (part.Text y) = refl
+part-is (part.Text x) (part.Int y) = refl
+part-is (part.Text x) (part.Text y) = refl
+
+pub derived-is : (x y : Key) → derived_cmp x y ≡ key_cmp x y
+derived-is x y = ap (λ cmp. ordering_then (nat_cmp x.table y.table) (slice_cmp cmp x.parts y.parts)) (fun_ext (λ a. fun_ext (part-is a)))
+
+derived_same : derived_cmp ≡ key_cmp
+derived_same = fun_ext (λ x. fun_ext (derived-is x))
+
+pub derived_total : IsTotalOrder derived_cmp
+derived_total = subst IsTotalOrder (sym derived_same) key_cmp_total
+
+lookup-find : (es : List (Key × Cells)) (q : Key) → lookup (is_at (derived_cmp q)) es ≡ fin.find key_cmp q es
+lookup-find [] q = refl
+lookup-find (e ∷ es) q = λ i. cond (is_eq (derived-is q e.0 i)) (Some e.1) (lookup-find es q i)
+
+-- the finite map of the entries has at a key what a look-up finds
+pub get-lookup : (es : List (Key × Cells)) (q : Key) → fin.get (fin.from_entries {R = key_cmp} es) q ≡ lookup (is_at (derived_cmp q)) es
+get-lookup es q = fin.get-from_entries key_cmp_total es q ∙ sym (lookup-find es q)
+
+-- a change at a key, which is found from the key or from the query alike
+changed : (es fs : List (Key × Cells)) (k : Key) (w : Option Cells) → ((q : Key) → lookup (is_at (derived_cmp q)) fs ≡ cond (is_at (derived_cmp k) q) w (lookup (is_at (derived_cmp q)) es)) → (q : Key) → fin.get (fin.from_entries {R = key_cmp} fs) q ≡ cond (eq_by_cmp key_cmp q k) w (fin.get (fin.from_entries {R = key_cmp} es) q)
+changed es fs k w is q =
+    get-lookup fs q ∙ is q ∙ ap (λ b. cond b w (lookup (is_at (derived_cmp q)) es)) (ap is_eq (derived-is k q) ∙ (eq_by_cmp_equiv key_cmp_total).symm k q)
+    ∙ ap (cond (eq_by_cmp key_cmp q k) w) (sym (get-lookup es q))
+
+pub from_entries-insert : (es fs : List (Key × Cells)) (k : Key) (row : Cells) → ((q : Key) → lookup (is_at (derived_cmp q)) fs ≡ cond (is_at (derived_cmp k) q) (Some row) (lookup (is_at (derived_cmp q)) es)) → fin.from_entries {R = key_cmp} fs ≡ fin.insert (fin.from_entries es) k row
+from_entries-insert es fs k row is = fin.same_map key_cmp_total key_cmp-IsAntisymmetric _ _ (λ q. changed es fs k (Some row) is q ∙ sym (fin.get-insert key_cmp_total _ k row q))
+
+pub from_entries-remove : (es fs : List (Key × Cells)) (k : Key) → ((q : Key) → lookup (is_at (derived_cmp q)) fs ≡ cond (is_at (derived_cmp k) q) None (lookup (is_at (derived_cmp q)) es)) → fin.from_entries {R = key_cmp} fs ≡ fin.remove (fin.from_entries es) k
+from_entries-remove es fs k is = fin.same_map key_cmp_total key_cmp-IsAntisymmetric _ _ (λ q. changed es fs k None is q ∙ sym (fin.get-remove key_cmp_total _ k q))
+
+pub from_entries-same : (es fs : List (Key × Cells)) → ((q : Key) → lookup (is_at (derived_cmp q)) fs ≡ lookup (is_at (derived_cmp q)) es) → fin.from_entries {R = key_cmp} fs ≡ fin.from_entries es
+from_entries-same es fs is = fin.same_map key_cmp_total key_cmp-IsAntisymmetric _ _ (λ q. get-lookup fs q ∙ is q ∙ sym (get-lookup es q))
+
+both : (a b : Bool) → T a → T b → T (a && b)
+both true b p q = q
+both false b p q = p
+
+below_all-from : (k : Key) (es : List (Key × Cells)) → AllByRecursion (λ y. key_cmp k y ≡ Less) (keys_of es) → T (below_all key_cmp k es)
+below_all-from k [] below = tt
+below_all-from k (e ∷ es) below = both _ _ (subst (λ r. T (is_lt r)) (sym below.0) tt) (below_all-from k es below.1)
+
+is_sorted-from : (es : List (Key × Cells)) → IsStrictlySortedBy key_cmp (keys_of es) → T (fin.is_sorted key_cmp es)
+is_sorted-from [] rise = tt
+is_sorted-from (e ∷ es) rise = both _ _ (below_all-from e.0 es (sorted_head key_cmp e.0 (keys_of es) rise)) (is_sorted-from es (sorted_tail key_cmp e.0 (keys_of es) rise))
+
+-- a list whose keys rise is that of the map which has at each key what is found in it
+pub entries-is : (m : Database) (es : List (Key × Cells)) → IsStrictlySortedBy key_cmp (keys_of es) → ((q : Key) → fin.get m q ≡ fin.find key_cmp q es) → fin.entries m ≡ es
+entries-is m es rise is =
+    let sorted = is_sorted-from es rise in
+    ap fin.entries (fin.same_map key_cmp_total key_cmp-IsAntisymmetric m (fin.from_sorted es) (λ q. is q ∙ sym (fin.get-from_sorted key_cmp es q sorted)))
+    ∙ fin.entries-from_sorted key_cmp es sorted
+
+pub entries-from_entries : (es : List (Key × Cells)) → IsStrictlySortedBy derived_cmp (keys_of es) → fin.entries (fin.from_entries {R = key_cmp} es) ≡ es
+entries-from_entries es rise = entries-is _ es (subst (λ cmp. IsStrictlySortedBy cmp (keys_of es)) derived_same rise) (fin.get-from_entries key_cmp_total es)
+
+-- with these entries and, in turn, the ones that are left, a map is what all entries make
+pub record WillCopy (done left all : List (Key × Cells)) : Type 0 where
+  pub is : update_all (eq_by_cmp derived_cmp) (λ q. lookup (is_at (derived_cmp q)) done) left ≡ update_all (eq_by_cmp derived_cmp) (λ _. None) all
+
+pub copied-more : (es fs left more all : List (Key × Cells)) (e : Key × Cells) (k : Key) (row : Cells) → WillCopy es left all → left ≡ e ∷ more → k ≡ e.0 → row ≡ e.1 → ((q : Key) → lookup (is_at (derived_cmp q)) fs ≡ cond (is_at (derived_cmp k) q) (Some row) (lookup (is_at (derived_cmp q)) es)) → WillCopy fs more all
+copied-more es fs left more all e k row before step key value is = record {
+  is = ap (λ f. update_all (eq_by_cmp derived_cmp) f more) (fun_ext (λ q. is q ∙ (λ i. cond (is_at (derived_cmp (key i)) q) (Some (value i)) (lookup (is_at (derived_cmp q)) es))))
+      ∙ ap (update_all (eq_by_cmp derived_cmp) (λ q. lookup (is_at (derived_cmp q)) es)) (sym step) ∙ before.is
+}
+
+pub from_entries-copied : (es fs left : List (Key × Cells)) → IsStrictlySortedBy derived_cmp (keys_of es) → WillCopy fs left es → left ≡ [] → fin.from_entries {R = key_cmp} fs ≡ fin.from_entries es
+from_entries-copied es fs left rise copied ended =
+    let is = ap (update_all (eq_by_cmp derived_cmp) (λ q. lookup (is_at (derived_cmp q)) fs)) (sym ended) ∙ copied.is in
+    from_entries-same es fs (λ q. ap (λ f. f q) is ∙ update_all_none (eq_by_cmp_equiv derived_total) (eq_by_cmp derived_cmp) (λ x y. refl) es q (IsDistinct-from_sorted derived_cmp (keys_of es) rise))

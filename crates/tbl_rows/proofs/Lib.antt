@@ -1,0 +1,4 @@
+pub mod Entries
+pub mod Listing
+pub mod Owned
+pub mod Together

@@ -1,0 +1,25 @@
+// What a call that found no memory hands back.
+use aria_base::{Key, Memory, Row};
+use std::error::Error;
+use std::fmt;
+
+/// There was no memory for a row that was to be put. The pair comes back, and nothing has changed.
+#[derive(Debug, Drop)]
+pub struct Refused {
+    pub key: Key,
+    pub row: Row,
+}
+
+impl fmt::Display for Refused {
+    fn fmt<W: fmt::Write>(&self, f: &mut fmt::Formatter<W>) -> fmt::Result {
+        f.write_str("no memory for a row")
+    }
+}
+
+impl Error for Refused {}
+
+impl From<Refused> for Memory {
+    fn from(_: Refused) -> Memory {
+        Memory
+    }
+}

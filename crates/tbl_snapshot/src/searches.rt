@@ -1,0 +1,51 @@
+// The searches of an overlay in its lists.
+ghost use Rattle.std.specs.Prelude.{◌≡◌, ◌++◌, ◌∷◌, [], IfOk, OnOk, OnErr, position, if◌then◌else◌};
+ghost use Rattle.std.specs.Ordering.{eq_by_cmp};
+ghost use Rattle.std.specs.Option.{option_copied};
+ghost use Rattle.aria_base.specs.Orders.{key_cmp};
+ghost use Rattle.batch_rules.specs.Touches.{is_among};
+
+use aria_base::{Duplicate, Key, Memory, Row, copy_key};
+use std::alloc::Global;
+
+/// The place of a key's write.
+pub(crate) fn place_of(writes: &Vec<(Key, Option<Row>)>, key: &Key) -> Option<usize>
+    ensures { result ≡ position (λ w. eq_by_cmp key_cmp key.now w.0) writes.now.items }
+{
+    writes.iter().position(|write| is_same(key, &write.0))
+}
+
+/// Adds a key to those that were read, where it is none of them.
+pub(crate) fn note(alloc: Global, reads: &mut Vec<Key>, key: &Key) -> Result<(), Memory>
+    ensures noted { OnOk result (reads.new.items ≡ (if is_among key_cmp reads.old.items key.now then reads.old.items else reads.old.items ++ key.now ∷ [])) }
+    ensures kept { OnErr result (reads.new.items ≡ reads.old.items) }
+{
+    if has(reads, key) {
+        return Ok(());
+    }
+    let key = copy_key(alloc, key)?;
+    reads.push(key)?;
+    Ok(())
+}
+
+/// A row that was found, as a value of its own.
+pub(crate) fn copy_found(alloc: Global, found: Option<&Row>) -> Result<Option<Row>, Memory>
+    ensures { IfOk result (λ row. row ≡ option_copied found.entry) }
+{
+    match found {
+        Some(row) => Ok(Some(row.duplicate(alloc)?)),
+        None => Ok(None),
+    }
+}
+
+fn has(keys: &Vec<Key>, key: &Key) -> bool
+    ensures { result ≡ is_among key_cmp keys.now.items key.now }
+{
+    keys.iter().any(|item| is_same(key, item))
+}
+
+fn is_same(a: &Key, b: &Key) -> bool
+    ensures { result ≡ eq_by_cmp key_cmp a.now b.now }
+{
+    a.cmp(b).is_eq()
+}
