@@ -48,7 +48,7 @@ module _ (tree : Request → Tree Key Cells End) where
 pub few_wait : (ds : List Decided) → length (waiting_after ds) ≤ length (requests_of ds)
 few_wait ds =
     let all : length (filter (λ d. waits d.verdict) ds) + length (filter (λ d. not (waits d.verdict)) ds) ≡ length ds =
-        length-filter_both (λ d. waits d.verdict) (λ d. not (waits d.verdict)) (λ d. refl) ds in
+    length-filter_both (λ d. waits d.verdict) (λ d. not (waits d.verdict)) (λ d. refl) ds in
     let same : length (requests_of ds) ≡ length ds = length-map ds (λ d. d.request) in
     let fewer : length (waiting_after ds) ≡ length (filter (λ d. waits d.verdict) ds) = length-map (filter (λ d. waits d.verdict) ds) (λ d. d.request) in
     omega (arith, all, same, fewer)

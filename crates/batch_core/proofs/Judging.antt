@@ -48,8 +48,8 @@ module _ (tree : Request → Tree Key Cells End) where
   verdicts-judged rule start earlier [] = refl
   verdicts-judged rule start earlier (me ∷ rest) =
       let tail : verdicts rule (map (sets_at start) earlier ++ sets_at start me ∷ []) (map (sets_at start) rest)
-              ≡ map (λ d. d.verdict) (judged is_done tree rule start (earlier ++ me ∷ []) rest) =
-          rw (sym (map-append (sets_at start) earlier (me ∷ []))) (verdicts-judged rule start (earlier ++ me ∷ []) rest) in
+      ≡ map (λ d. d.verdict) (judged is_done tree rule start (earlier ++ me ∷ []) rest) =
+      rw (sym (map-append (sets_at start) earlier (me ∷ []))) (verdicts-judged rule start (earlier ++ me ∷ []) rest) in
       λ i. verdict-map key_cmp reads_of writes_of (sets_at start) rule earlier me i ∷ tail i
 
   pub requests-judged : (rule : Rule) (start : Database) (earlier list : List Request) → map (λ d. d.request) (judged is_done tree rule start earlier list) ≡ list
@@ -69,14 +69,14 @@ module _ (tree : Request → Tree Key Cells End) where
   lines-same list start db [] = refl
   lines-same list start db (d ∷ ds) =
       let tail : map (line_of list) (entries_from is_done tree false start (map_at is_done tree false start db d.request d.verdict) ds)
-              ≡ map (line_after list) (map (decided_of start) ds) =
-              lines-same list start (map_at is_done tree false start db d.request d.verdict) ds in
+      ≡ map (line_after list) (map (decided_of start) ds) =
+      lines-same list start (map_at is_done tree false start db d.request d.verdict) ds in
       λ i. record { q = d.request.q; reply = line-same list start db (decided_of start d) d.request d.verdict refl i } ∷ tail i
 
   -- those of one verdict, in the list's order
   pub picked : (p : Verdict → Bool) (start db : Database) (ds : List (Judged Request))
       → map (λ e. e.judged.request.q) (filter (λ e. p e.judged.verdict) (entries_from is_done tree false start db ds))
-          ≡ map (λ d. d.request.q) (filter (λ d. p d.verdict) (map (decided_of start) ds))
+      ≡ map (λ d. d.request.q) (filter (λ d. p d.verdict) (map (decided_of start) ds))
   picked p start db [] = refl
   picked p start db (d ∷ ds) =
       kept (λ e. e.judged.request.q) (λ d. d.request.q) (p d.verdict) _ (decided_of start d) _ _ refl (picked p start (map_at is_done tree false start db d.request d.verdict) ds)
@@ -122,7 +122,7 @@ never (suc w) n h = let beyond : suc w * 100 < 101 * n = omega (arith, h) in rw 
 pub never_late : {Q : Type 0} (ds : List (Judged Q)) → late_runs 101 ds ≡ false
 never_late ds =
     let all : length (filter (λ d. waits d.verdict) ds) + length (filter (λ d. not (waits d.verdict)) ds) ≡ length ds =
-        length-filter_both (λ d. waits d.verdict) (λ d. not (waits d.verdict)) (λ d. refl) ds in
+    length-filter_both (λ d. waits d.verdict) (λ d. not (waits d.verdict)) (λ d. refl) ds in
     never (length (filter (λ d. waits d.verdict) ds)) (length ds) (omega (arith, all))
 
 module _ (tree : Request → Tree Key Cells End) where
@@ -132,10 +132,10 @@ module _ (tree : Request → Tree Key Cells End) where
   -- one batch without a late fold, by the decided requests of its list
   pub step-plain : (rule : Rule) (state : State) (calls : List Call)
       → let handed : Handed = record { rule = rule; percent = 101; calls = calls } in
-        let list = list_of state handed in
-        let ds = decided_in rule state list in
-        (step tree state handed ≡ record { rule = rule; percent = 101; rows = installed state.rows ds; waiting = waiting_after ds; batches = state.batches + 1; requests = state.requests + length calls })
-        × (answer tree state handed ≡ record { number = state.batches + 1; lines = map (line_after list) ds; order = order_after ds })
+      let list = list_of state handed in
+      let ds = decided_in rule state list in
+      (step tree state handed ≡ record { rule = rule; percent = 101; rows = installed state.rows ds; waiting = waiting_after ds; batches = state.batches + 1; requests = state.requests + length calls })
+      × (answer tree state handed ≡ record { number = state.batches + 1; lines = map (line_after list) ds; order = order_after ds })
   step-plain rule state calls =
       let handed : Handed = record { rule = rule; percent = 101; calls = calls } in
       let list = list_of state handed in
@@ -144,12 +144,13 @@ module _ (tree : Request → Tree Key Cells End) where
       let ds = map (decided_of tree state.rows) judges in
       let never = never_late judges in
       let left : map_from is_done tree (late_runs 101 judges) state.rows done judges ≡ installed state.rows ds =
-          rw (never, map_from-never is_done tree state.rows done judges) (installed-same tree state.rows state.rows judges) in
+      rw (never, map_from-never is_done tree state.rows done judges) (installed-same tree state.rows state.rows judges) in
       let waiting : map (λ e. e.judged.request) (carried (entries_from is_done tree (late_runs 101 judges) state.rows done judges)) ≡ waiting_after ds =
-          rw never (carried-same tree state.rows done judges) in
+      rw never (carried-same tree state.rows done judges) in
       let lines : map (line_of list) (entries_from is_done tree (late_runs 101 judges) state.rows done judges) ≡ map (line_after list) ds =
-          rw never (lines-same tree list state.rows done judges) in
+      rw never (lines-same tree list state.rows done judges) in
       let order : map (λ e. e.judged.request.q) (ordered (entries_from is_done tree (late_runs 101 judges) state.rows done judges)) ≡ order_after ds =
-          rw never (order-same tree state.rows done judges) in
-      ( (λ i. record { rule = rule; percent = 101; rows = left i; waiting = waiting i; batches = state.batches + 1; requests = state.requests + length calls })
-      , (λ i. record { number = state.batches + 1; lines = lines i; order = order i }))
+      rw never (order-same tree state.rows done judges) in (
+        (λ i. record { rule = rule; percent = 101; rows = left i; waiting = waiting i; batches = state.batches + 1; requests = state.requests + length calls }),
+        (λ i. record { number = state.batches + 1; lines = lines i; order = order i }),
+      )

@@ -55,9 +55,9 @@ module _ {X Y : Type 0} (f : X → Y) (name : Y → ℕ) where
   found low (x ∷ xs) high r = All-cons (λ z. find (λ y. name y == name (f z)) (f x ∷ map f xs) ≡ Some (f z)) x xs
       (ap (λ b. cond b (Some (f x)) (find (λ y. name y == name (f x)) (map f xs))) (eq-eqb (name (f x)) (name (f x)) refl))
       (λ k d below.
-          let z = slice_index_or xs k d in
-          let above : name (f x) < name (f z) = rise-above (λ x. name (f x)) (name (f x)) xs high r.1 k d below in
-          ap (λ b. cond b (Some (f x)) (find (λ y. name y == name (f z)) (map f xs))) (ne_eqb (name (f x)) (name (f z)) (λ e. omega (arith, above, e))) ∙ found (name (f x)) xs high r.1 k d below)
+      let z = slice_index_or xs k d in
+      let above : name (f x) < name (f z) = rise-above (λ x. name (f x)) (name (f x)) xs high r.1 k d below in
+      ap (λ b. cond b (Some (f x)) (find (λ y. name y == name (f z)) (map f xs))) (ne_eqb (name (f x)) (name (f z)) (λ e. omega (arith, above, e))) ∙ found (name (f x)) xs high r.1 k d below)
 
 -- where each look-up finds something, so does the list of them
 module _ {X Y : Type 0} (look : ℕ → Option Y) (number : X → ℕ) (f : X → Y) where

@@ -95,12 +95,12 @@ module _ (tree : Request → Tree Key Cells End) where
   stays_ended state (handed ∷ rest) request h old ended =
       let P : Request → Type 0 = λ other. other.q ≢ request.q in
       let fresh : All P (numbered state.requests handed.calls) = λ k d below same.
-          let above = rise-above (λ request. request.q) state.requests (numbered state.requests handed.calls) (state.requests + length handed.calls) (numbered-rise state.requests handed.calls) k d below in
-          omega (arith, above, same, old) in
+      let above = rise-above (λ request. request.q) state.requests (numbered state.requests handed.calls) (state.requests + length handed.calls) (numbered-rise state.requests handed.calls) k d below in
+      omega (arith, above, same, old) in
       let list = list_of state handed in
       let other : Request → Bool = λ request. not (is_named (answer tree state handed).order request) in
       stays_ended (step tree state handed) rest request (keeps_numbers tree state handed h) (omega arith)
-          (All-same P (step tree state handed).waiting _ (serial_answer tree state handed h).rest (All-filter other P list (All-append P state.waiting (numbered state.requests handed.calls) ended fresh)))
+      (All-same P (step tree state handed).waiting _ (serial_answer tree state handed h).rest (All-filter other P list (All-append P state.waiting (numbered state.requests handed.calls) ended fresh)))
 
   -- a request of the list has ended after the batch, or stands at a smaller place of what waits
   moves : (state : State) (handed : Handed) → IsNumbered state → (k : ℕ) (d : Request) → k < length (list_of state handed)

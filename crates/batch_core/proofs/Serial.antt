@@ -70,11 +70,11 @@ module _ (tree : Request → Tree Key Cells End) (state : State) (handed : Hande
       let once = each_once is_done tree handed.rule handed.percent state.rows list in
       let rises : RiseWithin number 0 es high = rise-unmapped (λ e. e.judged.request) (λ request. request.q) 0 es high (subst (λ l. RiseWithin (λ request. request.q) 0 l high) (sym list-is) (list-rises state handed h)) in
       let asked : All (λ e. request_numbered list (number e) ≡ Some e.judged.request) es =
-          λ k d below. ap (λ l. request_numbered l (number (slice_index_or es k d))) (sym list-is) ∙ found (λ e. e.judged.request) (λ request. request.q) 0 es high rises k d below in
+      λ k d below. ap (λ l. request_numbered l (number (slice_index_or es k d))) (sym list-is) ∙ found (λ e. e.judged.request) (λ request. request.q) 0 es high rises k d below in
       let replied : All (λ e. printed told (number e) ≡ Some (reply_of list e.fate)) es =
-          λ k d below. ap (option_map (λ line. line.reply)) (found (line_of list) (λ line. line.q) 0 es high rises k d below) in
+      λ k d below. ap (option_map (λ line. line.reply)) (found (line_of list) (λ line. line.q) 0 es high rises k d below) in
       let first : (P : Entry Key Request End → Type 0) → All P es → All P os =
-          λ P a. All-left P os (carried es) (All-permutation P es (os ++ carried es) (IsPermutation-sym _ _ once.parted) a) in
+      λ P a. All-left P os (carried es) (All-permutation P es (os ++ carried es) (IsPermutation-sym _ _ once.parted) a) in
       let asks = all_found (request_numbered list) number (λ e. e.judged.request) os (first (λ e. request_numbered list (number e) ≡ Some e.judged.request) asked) in
       let replies = all_found (printed told) number (λ e. reply_of list e.fate) os (first (λ e. printed told (number e) ≡ Some (reply_of list e.fate)) replied) in
       let runs : map (λ e. e.judged.request) os ≡ named list told.order = sym asks.1 in

@@ -53,7 +53,10 @@ fn ring_of_copies(rt: HostRuntime) -> Result<(), Fail> {
 #[test]
 fn least_writer_is_named_before_all(rt: HostRuntime) -> Result<(), Fail> {
     let alloc = rt.alloc();
-    let requests = sets(alloc, &[(&[], &[5]), (&[7], &[6]), (&[], &[6]), (&[5, 6], &[7, 6])])?;
+    let requests = sets(
+        alloc,
+        &[(&[], &[5]), (&[7], &[6]), (&[], &[6]), (&[5, 6], &[7, 6])],
+    )?;
     assert!(rt; requests.len() == 4);
     assert!(rt; decide_listed(&requests, 4, Rule::Reorder) == Verdict::Wait(Cause::Waw(2)));
     assert!(rt; decide_listed(&requests, 4, Rule::Plain) == Verdict::Wait(Cause::Waw(2)));

@@ -6,7 +6,9 @@ ghost use Rattle.proc_lang.specs.Values.{both, int_of, is_true, me_of, truth, tu
 ghost use Rattle.proc_lang.specs.Meaning.{value_of, values_of};
 ghost use Rattle.proc_exec.specs.Faults.{Computes};
 
-use crate::numbers::{difference, divided_by, holds, int, product, product_divided_by, remainder_by, sum, truth_value};
+use crate::numbers::{
+    difference, divided_by, holds, int, product, product_divided_by, remainder_by, sum, truth_value,
+};
 use crate::stops::Fault;
 use crate::texts::{front_of, join, same, show};
 use aria_base::{Arg, Duplicate, Items, Memory, Request, Tuple, Value};
@@ -121,15 +123,24 @@ pub fn eval(
             product_divided_by(factors, eval(alloc, request, item, registers, c)?)
         }
         Expr::Eq(a, b) => Ok(truth_value(same(&eval_both(alloc, request, item, registers, a, b)?))),
-        Expr::Ne(a, b) => Ok(truth_value(!same(&eval_both(alloc, request, item, registers, a, b)?))),
+        Expr::Ne(a, b) => Ok(truth_value(!same(&eval_both(
+            alloc, request, item, registers, a, b,
+        )?))),
         Expr::Lt(a, b) => Ok(less(&eval_both(alloc, request, item, registers, a, b)?)),
         Expr::Le(a, b) => Ok(at_most(&eval_both(alloc, request, item, registers, a, b)?)),
         Expr::And(a, b) => Ok(all_hold(&eval_both(alloc, request, item, registers, a, b)?)),
         Expr::Or(a, b) => Ok(one_holds(&eval_both(alloc, request, item, registers, a, b)?)),
         Expr::Not(a) => Ok(truth_value(!holds(&eval(alloc, request, item, registers, a)?))),
         Expr::Cat(a, b) => join(alloc, eval_both(alloc, request, item, registers, a, b)?),
-        Expr::Front(a, b, most) => front_of(alloc, eval_both(alloc, request, item, registers, a, b)?, *most),
-        Expr::Show(a) => Ok(Value::Text(show(alloc, int(&eval(alloc, request, item, registers, a)?))?)),
+        Expr::Front(a, b, most) => front_of(
+            alloc,
+            eval_both(alloc, request, item, registers, a, b)?,
+            *most,
+        ),
+        Expr::Show(a) => Ok(Value::Text(show(
+            alloc,
+            int(&eval(alloc, request, item, registers, a)?),
+        )?)),
     }
 }
 

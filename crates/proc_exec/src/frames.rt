@@ -49,22 +49,44 @@ impl Running {
     }
 
     /// The value of an expression.
-    pub fn value(&self, alloc: Global, request: &Request, item: &[i64], expr: &Expr) -> Result<Value, Fault>
+    pub fn value(
+        &self,
+        alloc: Global,
+        request: &Request,
+        item: &[i64],
+        expr: &Expr,
+    ) -> Result<Value, Fault>
         ensures { Computes result (value_of request.now item.now self.now.regs (term_of expr.now)) }
     {
         eval(alloc, request, item, &self.registers, expr)
     }
 
     /// The key in this table with the values of these expressions.
-    pub fn key(&self, alloc: Global, request: &Request, item: &[i64], table: u16, exprs: &Exprs) -> Result<Key, Fault>
+    pub fn key(
+        &self,
+        alloc: Global,
+        request: &Request,
+        item: &[i64],
+        table: u16,
+        exprs: &Exprs,
+    ) -> Result<Key, Fault>
         ensures { Computes result (key_from request.now item.now self.now.regs table exprs.now) }
     {
         let values = eval_all(alloc, request, item, &self.registers, exprs)?;
-        Ok(Key { table, parts: parts(alloc, values)? })
+        Ok(Key {
+            table,
+            parts: parts(alloc, values)?,
+        })
     }
 
     /// The row with the values of these expressions.
-    pub fn row(&self, alloc: Global, request: &Request, item: &[i64], exprs: &Exprs) -> Result<Row, Fault>
+    pub fn row(
+        &self,
+        alloc: Global,
+        request: &Request,
+        item: &[i64],
+        exprs: &Exprs,
+    ) -> Result<Row, Fault>
         ensures { Computes result (row_from request.now item.now self.now.regs exprs.now) }
     {
         let mut values = eval_all(alloc, request, item, &self.registers, exprs)?.into_vec();

@@ -14,5 +14,5 @@ pub mod runs;
 pub mod stops;
 pub mod texts;
 
-pub use runs::{run_body, run_body_within};
 pub use outcomes::{Declared, Late, Outcome, Ran, Waiting, Within};
+pub use runs::{run_body, run_body_within};

@@ -24,7 +24,12 @@ use proc_lang::{Access, Block, End, Exprs, Stmt, Trap};
 use std::alloc::Global;
 
 /// Reads the row of a key.
-fn fetch<L: Limits, A: Access>(limits: &L, key: Key, state: &mut Running, access: &mut A) -> Result<Option<Row>, Stop>
+fn fetch<L: Limits, A: Access>(
+    limits: &L,
+    key: Key,
+    state: &mut Running,
+    access: &mut A,
+) -> Result<Option<Row>, Stop>
     ensures { Fetched result (L.declared limits.now) key state.old state.new (A.seen access.old) (A.seen access.new) }
 {
     state.count()?;
@@ -35,7 +40,13 @@ fn fetch<L: Limits, A: Access>(limits: &L, key: Key, state: &mut Running, access
 }
 
 /// Sets or removes the row of a key.
-fn store<L: Limits, A: Access>(limits: &L, key: Key, row: Option<Row>, state: &mut Running, access: &mut A) -> Result<(), Stop>
+fn store<L: Limits, A: Access>(
+    limits: &L,
+    key: Key,
+    row: Option<Row>,
+    state: &mut Running,
+    access: &mut A,
+) -> Result<(), Stop>
     ensures { (next : Next) → Follows result (L.declared limits.now) next state.new (A.seen access.new) (play (L.declared limits.now) (counted state.old (λ f. Writes key row (next f))) (A.seen access.old)) }
 {
     state.count()?;
@@ -48,7 +59,15 @@ fn store<L: Limits, A: Access>(limits: &L, key: Key, row: Option<Row>, state: &m
 
 /// Runs one statement.
 #[cycle(running)]
-fn run_stmt<L: Limits, A: Access>(alloc: Global, limits: &L, request: &Request, item: &[i64], stmt: &Stmt, state: &mut Running, access: &mut A) -> Result<(), Stop>
+fn run_stmt<L: Limits, A: Access>(
+    alloc: Global,
+    limits: &L,
+    request: &Request,
+    item: &[i64],
+    stmt: &Stmt,
+    state: &mut Running,
+    access: &mut A,
+) -> Result<(), Stop>
     ensures { (next : Next) → Follows result (L.declared limits.now) next state.new (A.seen access.new) (play (L.declared limits.now) (step_run request.now (step_of stmt.now) item.now next state.old) (A.seen access.old)) }
 {
     match stmt {
@@ -91,10 +110,16 @@ fn run_stmt<L: Limits, A: Access>(alloc: Global, limits: &L, request: &Request, 
             store(limits, key, None, state, access)
         }
         Stmt::If(test, first, second) => {
-            let block = if holds(&state.value(alloc, request, item, test)?) { first } else { second };
+            let block = if holds(&state.value(alloc, request, item, test)?) {
+                first
+            } else {
+                second
+            };
             run_block(alloc, limits, request, item, block, state, access)
         }
-        Stmt::Each(argument, body) => run_each(alloc, limits, request, *argument, body, state, access),
+        Stmt::Each(argument, body) => run_each(
+            alloc, limits, request, *argument, body, state, access,
+        ),
         Stmt::Give(expr) => {
             let value = state.value(alloc, request, item, expr)?;
             state.give(value)?;
@@ -106,7 +131,15 @@ fn run_stmt<L: Limits, A: Access>(alloc: Global, limits: &L, request: &Request, 
 
 /// Runs the statements of a block, one after another.
 #[cycle(running)]
-fn run_block<L: Limits, A: Access>(alloc: Global, limits: &L, request: &Request, item: &[i64], block: &Block, state: &mut Running, access: &mut A) -> Result<(), Stop>
+fn run_block<L: Limits, A: Access>(
+    alloc: Global,
+    limits: &L,
+    request: &Request,
+    item: &[i64],
+    block: &Block,
+    state: &mut Running,
+    access: &mut A,
+) -> Result<(), Stop>
     ensures { (next : Next) → Follows result (L.declared limits.now) next state.new (A.seen access.new) (play (L.declared limits.now) (steps_run request.now block.now item.now next state.old) (A.seen access.old)) }
 {
     for stmt in block.as_slice() {
@@ -117,17 +150,40 @@ fn run_block<L: Limits, A: Access>(alloc: Global, limits: &L, request: &Request,
 
 /// Runs a block for each tuple of a list argument.
 #[cycle(running)]
-fn run_each<L: Limits, A: Access>(alloc: Global, limits: &L, request: &Request, argument: u32, block: &Block, state: &mut Running, access: &mut A) -> Result<(), Stop>
+fn run_each<L: Limits, A: Access>(
+    alloc: Global,
+    limits: &L,
+    request: &Request,
+    argument: u32,
+    block: &Block,
+    state: &mut Running,
+    access: &mut A,
+) -> Result<(), Stop>
     ensures { (next : Next) → Follows result (L.declared limits.now) next state.new (A.seen access.new) (play (L.declared limits.now) (step_run request.now (step.Each argument block.now) [] next state.old) (A.seen access.old)) }
 {
     for tuple in tuples_at(request, argument) {
-        run_block(alloc, limits, request, tuple.as_slice(), block, state, access)?;
+        run_block(
+            alloc,
+            limits,
+            request,
+            tuple.as_slice(),
+            block,
+            state,
+            access,
+        )?;
     }
     Ok(())
 }
 
 /// Runs a whole body, within these limits.
-fn run_within<L: Limits, A: Access>(alloc: Global, limits: &L, body: &Block, registers: &Kinds, request: &Request, access: &mut A) -> Result<Ran, Memory>
+fn run_within<L: Limits, A: Access>(
+    alloc: Global,
+    limits: &L,
+    body: &Block,
+    registers: &Kinds,
+    request: &Request,
+    access: &mut A,
+) -> Result<Ran, Memory>
     ensures { IfOk result (λ ran. play (L.declared limits.now) (script body.now registers.now request.now) (A.seen access.old) ≡ record { end = end_of_ran ran; seen = A.seen access.new }) }
 {
     let mut state = Running::start(alloc, registers)?;
@@ -144,7 +200,13 @@ fn run_within<L: Limits, A: Access>(alloc: Global, limits: &L, body: &Block, reg
 /// kinds. The window then stands for the map as the run has it at its end, before a `Back` or a `Trap`
 /// puts the old map back, and has noted what the run touches. After want of memory nothing is said of
 /// the window.
-pub fn run_body<A: Access>(alloc: Global, body: &Block, registers: &Kinds, request: &Request, access: &mut A) -> Result<End, Memory>
+pub fn run_body<A: Access>(
+    alloc: Global,
+    body: &Block,
+    registers: &Kinds,
+    request: &Request,
+    access: &mut A,
+) -> Result<End, Memory>
     ensures played { IfOk result (λ end. play None (script body.now registers.now request.now) (A.seen access.old) ≡ record { end = Finishes end; seen = A.seen access.new }) }
     ensures run { IfOk result (EndsAs (script body.now registers.now request.now) (A.seen access.old) (A.seen access.new)) }
 {
@@ -157,7 +219,14 @@ pub fn run_body<A: Access>(alloc: Global, body: &Block, registers: &Kinds, reque
 /// The same within declared keys: the run stops before its first access that they do not allow, and
 /// names its key. Nothing is said of the window then.
 #[tactic(auto, using(crate::proofs::Ended::ends_within))]
-pub fn run_body_within<A: Access>(alloc: Global, body: &Block, registers: &Kinds, request: &Request, declared: &Declared, access: &mut A) -> Result<Ran, Memory>
+pub fn run_body_within<A: Access>(
+    alloc: Global,
+    body: &Block,
+    registers: &Kinds,
+    request: &Request,
+    declared: &Declared,
+    access: &mut A,
+) -> Result<Ran, Memory>
     ensures run { IfOk result (EndsWithin (touchable declared.now) (script body.now registers.now request.now) (A.seen access.old) (A.seen access.new)) }
 {
     run_within(alloc, declared, body, registers, request, access)

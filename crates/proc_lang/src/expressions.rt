@@ -123,7 +123,11 @@ pub fn copy_expr(alloc: Global, expr: &Expr) -> Result<Expr, Memory>
         Expr::Mul(a, b) => Ok(Expr::Mul(copy_box(alloc, a)?, copy_box(alloc, b)?)),
         Expr::Div(a, b) => Ok(Expr::Div(copy_box(alloc, a)?, copy_box(alloc, b)?)),
         Expr::Mod(a, b) => Ok(Expr::Mod(copy_box(alloc, a)?, copy_box(alloc, b)?)),
-        Expr::MulDiv(a, b, c) => Ok(Expr::MulDiv(copy_box(alloc, a)?, copy_box(alloc, b)?, copy_box(alloc, c)?)),
+        Expr::MulDiv(a, b, c) => Ok(Expr::MulDiv(
+            copy_box(alloc, a)?,
+            copy_box(alloc, b)?,
+            copy_box(alloc, c)?,
+        )),
         Expr::Eq(a, b) => Ok(Expr::Eq(copy_box(alloc, a)?, copy_box(alloc, b)?)),
         Expr::Ne(a, b) => Ok(Expr::Ne(copy_box(alloc, a)?, copy_box(alloc, b)?)),
         Expr::Lt(a, b) => Ok(Expr::Lt(copy_box(alloc, a)?, copy_box(alloc, b)?)),

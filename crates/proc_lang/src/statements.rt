@@ -103,17 +103,39 @@ pub fn copy_stmt(alloc: Global, stmt: &Stmt) -> Result<Stmt, Memory>
 {
     match stmt {
         Stmt::Let(register, value) => Ok(Stmt::Let(*register, copy_expr(alloc, value)?)),
-        Stmt::Get(table, key, registers) => Ok(Stmt::Get(*table, key.duplicate(alloc)?, registers.duplicate(alloc)?)),
+        Stmt::Get(table, key, registers) => Ok(Stmt::Get(
+            *table,
+            key.duplicate(alloc)?,
+            registers.duplicate(alloc)?,
+        )),
         Stmt::Need(table, key, registers, code) => {
-            Ok(Stmt::Need(*table, key.duplicate(alloc)?, registers.duplicate(alloc)?, *code))
+            Ok(Stmt::Need(
+                *table,
+                key.duplicate(alloc)?,
+                registers.duplicate(alloc)?,
+                *code,
+            ))
         }
         Stmt::Find(table, key, registers, flag) => {
-            Ok(Stmt::Find(*table, key.duplicate(alloc)?, registers.duplicate(alloc)?, *flag))
+            Ok(Stmt::Find(
+                *table,
+                key.duplicate(alloc)?,
+                registers.duplicate(alloc)?,
+                *flag,
+            ))
         }
-        Stmt::Put(table, key, columns) => Ok(Stmt::Put(*table, key.duplicate(alloc)?, columns.duplicate(alloc)?)),
+        Stmt::Put(table, key, columns) => Ok(Stmt::Put(
+            *table,
+            key.duplicate(alloc)?,
+            columns.duplicate(alloc)?,
+        )),
         Stmt::Del(table, key) => Ok(Stmt::Del(*table, key.duplicate(alloc)?)),
         Stmt::If(test, first, second) => {
-            Ok(Stmt::If(copy_expr(alloc, test)?, first.duplicate(alloc)?, second.duplicate(alloc)?))
+            Ok(Stmt::If(
+                copy_expr(alloc, test)?,
+                first.duplicate(alloc)?,
+                second.duplicate(alloc)?,
+            ))
         }
         Stmt::Each(argument, body) => Ok(Stmt::Each(*argument, body.duplicate(alloc)?)),
         Stmt::Give(value) => Ok(Stmt::Give(copy_expr(alloc, value)?)),

@@ -94,7 +94,7 @@ pub record WillCopy (done left all : List (Key × Cells)) : Type 0 where
 pub copied-more : (es fs left more all : List (Key × Cells)) (e : Key × Cells) (k : Key) (row : Cells) → WillCopy es left all → left ≡ e ∷ more → k ≡ e.0 → row ≡ e.1 → ((q : Key) → lookup (is_at (derived_cmp q)) fs ≡ cond (is_at (derived_cmp k) q) (Some row) (lookup (is_at (derived_cmp q)) es)) → WillCopy fs more all
 copied-more es fs left more all e k row before step key value is = record {
   is = ap (λ f. update_all (eq_by_cmp derived_cmp) f more) (fun_ext (λ q. is q ∙ (λ i. cond (is_at (derived_cmp (key i)) q) (Some (value i)) (lookup (is_at (derived_cmp q)) es))))
-      ∙ ap (update_all (eq_by_cmp derived_cmp) (λ q. lookup (is_at (derived_cmp q)) es)) (sym step) ∙ before.is
+      ∙ ap (update_all (eq_by_cmp derived_cmp) (λ q. lookup (is_at (derived_cmp q)) es)) (sym step) ∙ before.is;
 }
 
 pub from_entries-copied : (es fs left : List (Key × Cells)) → IsStrictlySortedBy derived_cmp (keys_of es) → WillCopy fs left es → left ≡ [] → fin.from_entries {R = key_cmp} fs ≡ fin.from_entries es

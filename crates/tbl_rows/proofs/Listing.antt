@@ -59,7 +59,7 @@ distinct-append : (xs ys : Entries) → Distinct xs → Distinct ys → ((q : Ke
 distinct-append [] ys first second apart = second
 distinct-append (x ∷ xs) ys first second apart =
     let none : fin.find key_cmp x.0 (xs ++ ys) ≡ None =
-        find-append x.0 xs ys ∙ ap (λ row. option_or row (fin.find key_cmp x.0 ys)) (find_none x.0 xs (IsDistinct-head _ x.0 (keys_of xs) first)) ∙ apart x.0 (some_first x xs) in
+    find-append x.0 xs ys ∙ ap (λ row. option_or row (fin.find key_cmp x.0 ys)) (find_none x.0 xs (IsDistinct-head _ x.0 (keys_of xs) first)) ∙ apart x.0 (some_first x xs) in
     IsDistinct-cons _ x.0 (keys_of (xs ++ ys)) (none_found x.0 (xs ++ ys) none)
     (distinct-append xs ys (IsDistinct-tail _ x.0 (keys_of xs) first) second (λ q some. apart q (some_more q x xs some)))
 
@@ -86,9 +86,9 @@ distinct_listed n [] numbered own = nil_distinct
 distinct_listed n (p ∷ ps) numbered own =
     distinct-append (fin.entries p.rows) (listed ps) (distinct_from_sorted _ (fin.entries_sorted p.rows)) (distinct_listed (suc n) ps (later n p ps numbered) (own_later p ps own))
     (λ q some.
-      let at : home q ≡ p.number = own 0 p (omega arith) q (subst IsSome (sym (fin.get-entries p.rows q)) some) in
-      let here : p.number ≡ n = numbered 0 p (omega arith) ∙ omega arith in
-      past (suc n) ps q (later n p ps numbered) (own_later p ps own) (omega (arith, at, here)))
+    let at : home q ≡ p.number = own 0 p (omega arith) q (subst IsSome (sym (fin.get-entries p.rows q)) some) in
+    let here : p.number ≡ n = numbered 0 p (omega arith) ∙ omega arith in
+    past (suc n) ps q (later n p ps numbered) (own_later p ps own) (omega (arith, at, here)))
 
 found-lookup : (q : Key) (es : Entries) → lookup (eq_by_cmp key_cmp q) es ≡ fin.find key_cmp q es
 found-lookup q [] = refl
@@ -128,14 +128,14 @@ rise : (fs : Entries) → Distinct fs → IsSortedBy (λ a b. is_lt (key_cmp a.0
 rise [] distinct sorted = nil_rises
 rise (f ∷ fs) distinct sorted =
     sorted_from_all_adjacent key_cmp_total (keys_of (f ∷ fs)) f.0 (λ k below.
-      let inside : k + 1 < length (f ∷ fs) = subst (λ n. k + 1 < n) (length-keys_of (f ∷ fs)) below in
-      let keys = keys_of (f ∷ fs) in
-      let here = get_or-map (λ e. e.0) (f ∷ fs) k f f.0 (omega (arith, inside)) in
-      let next = get_or-map (λ e. e.0) (f ∷ fs) (k + 1) f f.0 inside in
-      rises (key_cmp (slice_index_or keys k f.0) (slice_index_or keys (k + 1) f.0)) (key_cmp (slice_index_or keys (k + 1) f.0) (slice_index_or keys k f.0))
-      (key_cmp_total.antisymm (slice_index_or keys (k + 1) f.0) (slice_index_or keys k f.0))
-      ((λ i. is_lt (key_cmp (next i) (here i))) ∙ sorted k f (omega arith) inside)
-      (apart_from_distinct (eq_by_cmp key_cmp) (keys_of (f ∷ fs)) k (k + 1) f.0 distinct (omega arith) below))
+    let inside : k + 1 < length (f ∷ fs) = subst (λ n. k + 1 < n) (length-keys_of (f ∷ fs)) below in
+    let keys = keys_of (f ∷ fs) in
+    let here = get_or-map (λ e. e.0) (f ∷ fs) k f f.0 (omega (arith, inside)) in
+    let next = get_or-map (λ e. e.0) (f ∷ fs) (k + 1) f f.0 inside in
+    rises (key_cmp (slice_index_or keys k f.0) (slice_index_or keys (k + 1) f.0)) (key_cmp (slice_index_or keys (k + 1) f.0) (slice_index_or keys k f.0))
+    (key_cmp_total.antisymm (slice_index_or keys (k + 1) f.0) (slice_index_or keys k f.0))
+    ((λ i. is_lt (key_cmp (next i) (here i))) ∙ sorted k f (omega arith) inside)
+    (apart_from_distinct (eq_by_cmp key_cmp) (keys_of (f ∷ fs)) k (k + 1) f.0 distinct (omega arith) below))
 
 -- elements in order by what f shows of them
 sorted-map : {X Y : Type 0} (f : X → Y) (lt : Y → Y → Bool) (xs : List X) → IsSortedBy (λ a b. lt (f a) (f b)) xs → IsSortedBy lt (map f xs)
@@ -152,7 +152,7 @@ entries-sorted ps rows sorted whole all moved rising =
     let fs = map deref_pair sorted in
     let moved : IsPermutation (listed ps) fs = subst (λ es. IsPermutation es fs) all (IsPermutation-map deref_pair rows sorted moved) in
     let ordered : IsSortedBy (λ a b. is_lt (key_cmp a.0 b.0)) fs =
-        λ k d low below. sym (ap is_lt (derived-is (slice_index_or fs (k + 1) d).0 (slice_index_or fs k d).0)) ∙ sorted-map deref_pair (λ a b. is_lt (derived_cmp a.0 b.0)) sorted rising k d low below in
+    λ k d low below. sym (ap is_lt (derived-is (slice_index_or fs (k + 1) d).0 (slice_index_or fs k d).0)) ∙ sorted-map deref_pair (λ a b. is_lt (derived_cmp a.0 b.0)) sorted rising k d low below in
     let first = distinct_listed 0 ps (λ i d below. whole.numbered i d below ∙ omega arith) whole.own in
     let second = IsDistinct-IsPermutation (eq_by_cmp key_cmp) ((eq_by_cmp_equiv key_cmp_total).symm) (keys_of (listed ps)) (keys_of fs) (IsPermutation-map (λ e. e.0) (listed ps) fs moved) first in
     sym (entries-is (joined ps) fs (rise fs second ordered) (λ q. fin.get-from_entries key_cmp_total (listed ps) q ∙ find-permutation (listed ps) fs q first second moved))

@@ -85,11 +85,11 @@ get-at_home ps n p q whole at is =
 IsWhole-set : (ps : List Piece) (i : ℕ) (p : Piece) → IsWhole ps → i < 16 → p.number ≡ i → IsOwn p → IsWhole (slice_set ps i p)
 IsWhole-set ps i p whole below number own =
     let each : (P : ℕ → Piece → Type 0) → P i p → ((j : ℕ) (d : Piece) → j < length ps → P j (slice_index_or ps j d)) → (j : ℕ) (d : Piece) → j < length (slice_set ps i p) → P j (slice_index_or (slice_set ps i p) j d) =
-        λ P here others j d inside. let inside : j < length ps = subst (λ n. j < n) (length-set ps i p) inside in
-          ⊎_elim
-          (λ e. subst (λ n. P n (slice_index_or (slice_set ps i p) n d)) (sym e) (subst (P i) (sym (get_or-set_same ps i p d (subst (λ n. n < length ps) e inside))) here))
-          (λ apart. subst (P j) (sym (get_or-set_other ps i j p d apart)) (others j d inside))
-          (cases_eq j i) in
+    λ P here others j d inside. let inside : j < length ps = subst (λ n. j < n) (length-set ps i p) inside in
+    ⊎_elim
+    (λ e. subst (λ n. P n (slice_index_or (slice_set ps i p) n d)) (sym e) (subst (P i) (sym (get_or-set_same ps i p d (subst (λ n. n < length ps) e inside))) here))
+    (λ apart. subst (P j) (sym (get_or-set_other ps i j p d apart)) (others j d inside))
+    (cases_eq j i) in
     record {
       count = length-set ps i p ∙ whole.count;
       numbered = each (λ j s. s.number ≡ j) number whole.numbered;
@@ -109,12 +109,12 @@ changed ps i p k w whole at after is q =
     let below : i < length ps = omega (arith, whole.count, at, home-below k) in
     get-joined (slice_set ps i p) after q
     ∙ ⊎_elim
-      (λ here. ap (λ n. fin.get (slice_index_or (slice_set ps i p) n (bare 0)).rows q) here
-        ∙ ap (λ s. fin.get s.rows q) (get_or-set_same ps i p (bare 0) below)
-        ∙ is q ∙ ap (λ n. cond (eq_by_cmp key_cmp q k) w (fin.get (slice_index_or ps n (bare 0)).rows q)) (sym here))
-      (λ apart. ap (λ s. fin.get s.rows q) (get_or-set_other ps i (home q) p (bare 0) apart)
-        ∙ sym (apart_stays q k w (at_home ps q) (λ e. apart (ap home e ∙ sym at))))
-      (cases_eq (home q) i)
+    (λ here. ap (λ n. fin.get (slice_index_or (slice_set ps i p) n (bare 0)).rows q) here
+    ∙ ap (λ s. fin.get s.rows q) (get_or-set_same ps i p (bare 0) below)
+    ∙ is q ∙ ap (λ n. cond (eq_by_cmp key_cmp q k) w (fin.get (slice_index_or ps n (bare 0)).rows q)) (sym here))
+    (λ apart. ap (λ s. fin.get s.rows q) (get_or-set_other ps i (home q) p (bare 0) apart)
+    ∙ sym (apart_stays q k w (at_home ps q) (λ e. apart (ap home e ∙ sym at))))
+    (cases_eq (home q) i)
     ∙ ap (cond (eq_by_cmp key_cmp q k) w) (sym (get-joined ps whole q))
 
 -- in the forms of the calls: old stood at the place i, and new stands there now
@@ -128,18 +128,18 @@ joined-put ps i old new k row whole at is put own =
     let below : i < length ps = omega (arith, whole.count, at, home-below k) in
     let after = IsWhole-put ps i old new k whole at is (ap (λ p. p.number) put) own in
     fin.same_map key_cmp_total key_cmp-IsAntisymmetric _ _ (λ q.
-      changed ps i new k (Some row) whole at after
-      (λ q. ap (λ p. fin.get p.rows q) put ∙ fin.get-insert key_cmp_total old.rows k row q ∙ ap (λ p. cond (eq_by_cmp key_cmp q k) (Some row) (fin.get p.rows q)) (is ∙ get_or_default ps i old (bare 0) below)) q
-      ∙ sym (fin.get-insert key_cmp_total (joined ps) k row q))
+    changed ps i new k (Some row) whole at after
+    (λ q. ap (λ p. fin.get p.rows q) put ∙ fin.get-insert key_cmp_total old.rows k row q ∙ ap (λ p. cond (eq_by_cmp key_cmp q k) (Some row) (fin.get p.rows q)) (is ∙ get_or_default ps i old (bare 0) below)) q
+    ∙ sym (fin.get-insert key_cmp_total (joined ps) k row q))
 
 pub joined-deleted : (ps : List Piece) (i : ℕ) (old new : Piece) (k : Key) → IsWhole ps → i ≡ home k → old ≡ slice_index_or ps i old → new ≡ without_row old k → IsOwn new → joined (slice_set ps i new) ≡ fin.remove (joined ps) k
 joined-deleted ps i old new k whole at is deleted own =
     let below : i < length ps = omega (arith, whole.count, at, home-below k) in
     let after = IsWhole-put ps i old new k whole at is (ap (λ p. p.number) deleted) own in
     fin.same_map key_cmp_total key_cmp-IsAntisymmetric _ _ (λ q.
-      changed ps i new k None whole at after
-      (λ q. ap (λ p. fin.get p.rows q) deleted ∙ fin.get-remove key_cmp_total old.rows k q ∙ ap (λ p. cond (eq_by_cmp key_cmp q k) None (fin.get p.rows q)) (is ∙ get_or_default ps i old (bare 0) below)) q
-      ∙ sym (fin.get-remove key_cmp_total (joined ps) k q))
+    changed ps i new k None whole at after
+    (λ q. ap (λ p. fin.get p.rows q) deleted ∙ fin.get-remove key_cmp_total old.rows k q ∙ ap (λ p. cond (eq_by_cmp key_cmp q k) None (fin.get p.rows q)) (is ∙ get_or_default ps i old (bare 0) below)) q
+    ∙ sym (fin.get-remove key_cmp_total (joined ps) k q))
 
 -- sixteen shards with no rows
 pub record AllBare (n : ℕ) (pieces : List Piece) : Type 0 where
@@ -155,5 +155,5 @@ IsWhole-bare ps bares = record {
 
 pub joined-bare : (ps : List Piece) → AllBare 16 ps → joined ps ≡ fin.empty
 joined-bare ps bares = fin.same_map key_cmp_total key_cmp-IsAntisymmetric _ _ (λ q.
-  get-joined ps (IsWhole-bare ps bares) q ∙ ap (λ p. fin.get p.rows q) (bares.each (home q) (bare 0) (home-below q))
-  ∙ fin.get-empty key_cmp q ∙ sym (fin.get-empty key_cmp q))
+    get-joined ps (IsWhole-bare ps bares) q ∙ ap (λ p. fin.get p.rows q) (bares.each (home q) (bare 0) (home-below q))
+    ∙ fin.get-empty key_cmp q ∙ sym (fin.get-empty key_cmp q))

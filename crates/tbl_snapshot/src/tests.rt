@@ -48,15 +48,35 @@ fn an_overlay_answers_from_its_writes_first(rt: HostRuntime) -> Result<(), Fail>
     overlay.write(key(alloc, 2)?, None)?;
     overlay.write(key(alloc, 9)?, Some(row(alloc, 90)?))?;
     overlay.write(key(alloc, 1)?, Some(row(alloc, 11)?))?;
-    for (number, wanted) in [(1, Some(11)), (2, None), (9, Some(90)), (8, None), (3, Some(3))] {
+    for (number, wanted) in [
+        (1, Some(11)),
+        (2, None),
+        (9, Some(90)),
+        (8, None),
+        (3, Some(3)),
+    ] {
         assert_eq!(rt; read(alloc, &mut overlay, number)?, wanted, "at {number}");
     }
     overlay.write(key(alloc, 3)?, None)?;
     let (reads, writes) = overlay.parts();
-    assert!(rt; reads.as_slice() == &[key(alloc, 3)?, key(alloc, 8)?][..], "in the order of first reads");
-    let wanted = vec![in alloc; (key(alloc, 1)?, Some(row(alloc, 11)?)), (key(alloc, 2)?, None), (key(alloc, 9)?, Some(row(alloc, 90)?)), (key(alloc, 3)?, None)]?;
-    assert!(rt; writes.as_slice() == wanted.as_slice(), "in the order of first writes");
-    assert!(rt; snapshot.get(&key(alloc, 1)?) == Some(&row(alloc, 1)?), "the snapshot stays");
+    assert!(rt;
+        reads.as_slice() == &[key(alloc, 3)?, key(alloc, 8)?][..],
+        "in the order of first reads"
+    );
+    let wanted = vec![in alloc;
+        (key(alloc, 1)?, Some(row(alloc, 11)?)),
+        (key(alloc, 2)?, None),
+        (key(alloc, 9)?, Some(row(alloc, 90)?)),
+        (key(alloc, 3)?, None),
+    ]?;
+    assert!(rt;
+        writes.as_slice() == wanted.as_slice(),
+        "in the order of first writes"
+    );
+    assert!(rt;
+        snapshot.get(&key(alloc, 1)?) == Some(&row(alloc, 1)?),
+        "the snapshot stays"
+    );
     Ok(())
 }
 

@@ -11,7 +11,9 @@ const RING: &str = "tx copy 1 2\ntx copy 2 3\ntx copy 3 1\nend 1\n";
 const RING_ANSWER: &str =
     "batch 1\n1 ok 10\n2 wait raw 1\n3 wait raw 2\norder 1\nend 1\nstate 1\nrow acct 1 = 10\nrow acct 2 = 10\nrow acct 3 = 30\nend state\n";
 
-/// A run: what it read, what it was to write, which calls of the source and the sink fail.
+/// A run: its words and its input, in pieces of how many bytes, and which calls of the source and of
+/// the sink fail.
+#[derive(Clone, Copy)]
 struct Case<'a> {
     words: &'a [&'a str],
     input: &'a str,
@@ -102,14 +104,14 @@ fn other_inputs_and_words_are_refused(rt: HostRuntime) -> Result<(), Fail> {
     let cut = &ring.as_bytes()[..ring.len() - 1];
     let (status, bytes) = run(alloc, &plain(std::str::from_utf8(cut)?, 7))?;
     assert!(rt; status == REFUSED);
-    assert!(rt; bytes.as_slice() == b"refused form\n");
+    assert!(rt; bytes.as_slice() == b"refused form\n".as_slice());
     let case = Case {
         words: &["once"],
         ..plain(ring.as_str(), 7)
     };
     let (status, bytes) = run(alloc, &case)?;
     assert!(rt; status == USAGE);
-    assert!(rt; bytes.as_slice() == b"refused usage\n");
+    assert!(rt; bytes.as_slice() == b"refused usage\n".as_slice());
     let joined = Case {
         words: &["once", "--rule=plain"],
         ..plain(ring.as_str(), 7)

@@ -21,11 +21,11 @@ invariant-run_block-loop-stmt g l =
     let declared = g.L.Limits.declared l.limits in
     let seen = g.A.Access.seen in
     (next : Next) → play declared (steps_run l.request l.block l.item next l.initial.state) (seen l.initial.access)
-        ≡ play declared (steps_run l.request (steps_of (drop l.stmt-index l.stmt-items)) l.item next l.state) (seen l.access)
+    ≡ play declared (steps_run l.request (steps_of (drop l.stmt-index l.stmt-items)) l.item next l.state) (seen l.access)
 
 abbrev pub invariant-run_each-loop-tuple : goal.invariant-run_each-loop-tuple
 invariant-run_each-loop-tuple g l =
     let declared = g.L.Limits.declared l.limits in
     let seen = g.A.Access.seen in
     (next : Next) → play declared (for_each (steps_run l.request l.block) (tuples_of (slice_get l.request.call.args l.argument)) next l.initial.state) (seen l.initial.access)
-        ≡ play declared (for_each (steps_run l.request l.block) (drop l.tuple-index l.tuple-items) next l.state) (seen l.access)
+    ≡ play declared (for_each (steps_run l.request l.block) (drop l.tuple-index l.tuple-items) next l.state) (seen l.access)

@@ -8,7 +8,6 @@ use Rattle.tbl_rows.proofs.Together.{listed}
 use Rattle.tbl_rows.proofs.Listing.{entries-sorted}
 use Rattle.tbl_rows.proofs.tables.Tables.rows.Goals as goal
 
-
 pub returns : goal.returns
 returns c =
     let left : listed (drop c.loop-shard.shard-index c.deref-shard-items.result.now) ≡ [] = ap listed (drop_all c.loop-shard.shard-index c.deref-shard-items.result.now c.loop-shard-test.false) in

@@ -6,14 +6,14 @@ use Rattle.tbl_snapshot.proofs.overlays.OverlayAccess.read.Goals as goal
 pub returns-in-Some-clause-row : goal.returns-in-Some-clause-row
 returns-in-Some-clause-row c = rw (← c.self.view_is)
     (IfOk-weaker c.duplicate.result _ _
-      (λ row is. is ∙ row-at c.self.inside.snapshot.tables.now c.self.inside.writes.items c.args.key.now c.in-Some.place c.index.result.now (sym c.place_of.ensures ∙ c.in-Some.is) c.index.ensures)
-      c.duplicate.ensures)
+    (λ row is. is ∙ row-at c.self.inside.snapshot.tables.now c.self.inside.writes.items c.args.key.now c.in-Some.place c.index.result.now (sym c.place_of.ensures ∙ c.in-Some.is) c.index.ensures)
+    c.duplicate.ensures)
 
 pub returns-in-Some-clause-read : goal.returns-in-Some-clause-read
 returns-in-Some-clause-read c = rw (← c.self.view_is)
     (IfOk-weaker c.duplicate.result _ _
-      (λ _ _. seen-read _ c.self.inside.reads.items _ _ c.args.key.now (reads-at c.self.inside.reads.items c.self.inside.writes.items c.args.key.now c.in-Some.place c.index.result.now (sym c.place_of.ensures ∙ c.in-Some.is)))
-      c.duplicate.ensures)
+    (λ _ _. seen-read _ c.self.inside.reads.items _ _ c.args.key.now (reads-at c.self.inside.reads.items c.self.inside.writes.items c.args.key.now c.in-Some.place c.index.result.now (sym c.place_of.ensures ∙ c.in-Some.is)))
+    c.duplicate.ensures)
 
 pub returns-clause-row : goal.returns-clause-row
 returns-clause-row c = rw (← c.self.view_is)

@@ -1,0 +1,5 @@
+pub mod Gates
+pub mod Reached
+pub mod Scans
+pub mod Stages
+pub mod Torn
