@@ -34,7 +34,10 @@ fn row(alloc: Global, number: i64) -> Result<Row, Memory> {
 fn hundred(alloc: Global) -> Result<Tables, Fail> {
     let mut tables = Tables::new(alloc)?;
     for number in 0..100 {
-        tables.put(number_key(alloc, 99 - number)?, row(alloc, (99 - number) * 10)?)?;
+        tables.put(
+            number_key(alloc, 99 - number)?,
+            row(alloc, (99 - number) * 10)?,
+        )?;
     }
     Ok(tables)
 }
@@ -61,9 +64,15 @@ fn rows_are_put_found_deleted_and_listed(rt: HostRuntime) -> Result<(), Fail> {
     let numbers: Vec<i64> = (0..100).collect(alloc)?;
     assert!(rt; lists(alloc, &tables, &numbers)?, "a hundred rows in order");
     tables.put(number_key(alloc, 42)?, row(alloc, -1)?)?;
-    assert!(rt; tables.get(&present) == Some(&row(alloc, -1)?), "the later row stays");
+    assert!(rt;
+        tables.get(&present) == Some(&row(alloc, -1)?),
+        "the later row stays"
+    );
     for number in 3..100 {
-        assert!(rt; tables.delete(&number_key(alloc, number)?), "{number} was there");
+        assert!(rt;
+            tables.delete(&number_key(alloc, number)?),
+            "{number} was there"
+        );
     }
     assert!(rt; !tables.delete(&present), "it is gone");
     assert!(rt; lists(alloc, &tables, &[0, 1, 2])?, "three are left");
@@ -82,7 +91,13 @@ fn keys_are_listed_by_table_then_by_parts(rt: HostRuntime) -> Result<(), Fail> {
     first.table = 2;
     tables.put(first, row(alloc, 1)?)?;
     let rows = tables.rows()?;
-    let wanted: Vec<Row> = vec![in alloc; row(alloc, 1)?, row(alloc, 2)?, row(alloc, 3)?, row(alloc, 4)?, row(alloc, 5)?]?;
+    let wanted: Vec<Row> = vec![in alloc;
+        row(alloc, 1)?,
+        row(alloc, 2)?,
+        row(alloc, 3)?,
+        row(alloc, 4)?,
+        row(alloc, 5)?,
+    ]?;
     assert_eq!(rt; rows.len(), 5);
     for ((_, found), wanted) in rows.iter().zip(&wanted) {
         assert!(rt; *found == wanted);
