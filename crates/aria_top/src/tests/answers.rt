@@ -101,8 +101,8 @@ fn sum_out_of_range_is_a_trap(rt: HostRuntime) -> Result<(), Fail> {
 fn other_inputs_and_words_are_refused(rt: HostRuntime) -> Result<(), Fail> {
     let alloc = rt.alloc();
     let ring = with_head(alloc, RING)?;
-    let cut = &ring.as_bytes()[..ring.len() - 1];
-    let (status, bytes) = run(alloc, &plain(std::str::from_utf8(cut)?, 7))?;
+    let cut = with_head(alloc, "tx copy 1 2\ntx copy 2 3\ntx copy 3 1\nend 1")?;
+    let (status, bytes) = run(alloc, &plain(cut.as_str(), 7))?;
     assert!(rt; status == REFUSED);
     assert!(rt; bytes.as_slice() == b"refused form\n".as_slice());
     let case = Case {
