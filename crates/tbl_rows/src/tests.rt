@@ -30,11 +30,9 @@ fn row(alloc: Global, number: i64) -> Result<Row, Memory> {
 // The rows 0 to 99 of one table, put from the last to the first, each with ten times its number.
 fn hundred(alloc: Global) -> Result<Tables, Fail> {
     let mut tables = Tables::new(alloc)?;
-    for number in 0..100 {
-        tables.put(
-            number_key(alloc, 99 - number)?,
-            row(alloc, (99 - number) * 10)?,
-        )?;
+    for number in (0..100_i64).rev() {
+        let tenfold = row(alloc, number.saturating_mul(10))?;
+        tables.put(number_key(alloc, number)?, tenfold)?;
     }
     Ok(tables)
 }

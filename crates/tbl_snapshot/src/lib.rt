@@ -19,6 +19,3 @@ pub mod snapshots;
 
 pub use overlays::Overlay;
 pub use snapshots::Snapshot;
-
-#[cfg(test)]
-mod tests;
