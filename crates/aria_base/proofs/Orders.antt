@@ -1,5 +1,6 @@
--- The order of keys is total, and keys that tie are equal.
-use Rattle.std.proofs.Common.{◌≡◌, refl, ap}
+-- The order of keys is total, keys that tie are equal, and the order is the derived one.
+use Rattle.std.proofs.Common.{◌≡◌, refl, sym, ap, subst}
+use Rattle.std.proofs.Math.Path.{fun_ext}
 use Rattle.std.specs.Cmp.{IsTotalOrder}
 use Rattle.std.specs.FinMap.{IsAntisymmetric, slice_cmp-IsAntisymmetric, int_cmp-IsAntisymmetric, nat_cmp-IsAntisymmetric}
 use Rattle.std.proofs.lemmas.Cmp.{int_cmp_total, nat_cmp_total, nat_list_cmp_total, lists_total, on_total, then_total}
@@ -9,6 +10,9 @@ use Rattle.std.specs.Ordering.{nat_cmp, ordering_reverse, ordering_then}
 use Rattle.std.specs.Cmp.Lexicographic.{slice_cmp}
 use Rattle.aria_base.specs.declared.keys.Part.{Part}
 use Rattle.aria_base.specs.declared.keys.Part.TheVariants as part
+use Rattle.aria_base.specs.declared.keys.Key.{Key}
+use Rattle.aria_base.specs.contracts.keys.PartOrd.TheImpl as part_order
+use Rattle.aria_base.specs.contracts.keys.KeyOrd.TheImpl as key_order
 use Rattle.aria_base.specs.Orders.{part_cmp, key_cmp}
 
 part_back : (x y : Part) → part_cmp x y ≡ ordering_reverse (part_cmp y x)
@@ -57,3 +61,23 @@ key_cmp-IsAntisymmetric a b e =
     let table = nat_cmp-IsAntisymmetric a.table b.table ties.0 in
     let parts = slice_cmp-IsAntisymmetric part_cmp-IsAntisymmetric a.parts b.parts ties.1 in
     λ i. record { table = table i; parts = parts i }
+
+-- ---- the order of the derived comparison
+
+abbrev pub derived_cmp : Key → Key → Ordering
+derived_cmp = key_order.cmp-value.it
+
+part-is : (x y : Part) → part_order.cmp-value.it x y ≡ part_cmp x y
+part-is (part.Int x) (part.Int y) = refl
+part-is (part.Int x) (part.Text y) = refl
+part-is (part.Text x) (part.Int y) = refl
+part-is (part.Text x) (part.Text y) = refl
+
+pub derived-is : (x y : Key) → derived_cmp x y ≡ key_cmp x y
+derived-is x y = ap (λ cmp. ordering_then (nat_cmp x.table y.table) (slice_cmp cmp x.parts y.parts)) (fun_ext (λ a. fun_ext (part-is a)))
+
+pub derived_same : derived_cmp ≡ key_cmp
+derived_same = fun_ext (λ x. fun_ext (derived-is x))
+
+pub derived_total : IsTotalOrder derived_cmp
+derived_total = subst IsTotalOrder (sym derived_same) key_cmp_total

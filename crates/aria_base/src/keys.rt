@@ -1,4 +1,5 @@
 ghost use Rattle.std.specs.Prelude.{◌≡◌, IfOk};
+ghost use Rattle.std.specs.Ordering.{eq_by_cmp};
 ghost use Rattle.aria_base.specs.Kinds.{part_kind};
 ghost use Rattle.aria_base.specs.Orders.{key_cmp};
 
@@ -80,4 +81,11 @@ pub fn compare_keys(a: &Key, b: &Key) -> Ordering
     ensures { result ≡ key_cmp a.now b.now }
 {
     a.cmp(b)
+}
+
+/// Whether the two keys are one.
+pub fn same_key(a: &Key, b: &Key) -> bool
+    ensures { result ≡ eq_by_cmp key_cmp a.now b.now }
+{
+    a.cmp(b).is_eq()
 }

@@ -42,7 +42,7 @@ mod values;
 
 pub use calls::{Arg, Args, Call, Request, Tuple, Tuples, copy_call};
 pub use copies::Duplicate;
-pub use keys::{Changes, Key, Keys, Part, Parts, compare_keys, copy_key};
+pub use keys::{Changes, Key, Keys, Part, Parts, compare_keys, copy_key, same_key};
 pub use lists::{Bytes, Few, Items};
 pub use marks::Mark;
 pub use memory::Memory;
@@ -51,5 +51,5 @@ pub use paces::{Free, Pace, Place};
 pub use schemas::{Schema, Table};
 pub use standard_streams::{FileSink, FileSource};
 pub use streams::{Failed, Sink, Source};
-pub use texts::{LONGEST_TEXT, Txt, TxtRefused};
+pub use texts::{LONGEST_TEXT, LONGEST_WORD, Txt, TxtRefused, is_word};
 pub use values::{Kind, Kinded, Kinds, Row, Value, copy_row};

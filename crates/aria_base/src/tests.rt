@@ -5,7 +5,7 @@ use crate::{
     Arg, Args, Bytes, Call, Changes, Duplicate, Failed, FileSink, FileSource, Free, Items, Key,
     Keys, Kind, Kinded, Kinds, MemSink, MemSource, Memory, Pace, Part, Parts, Place, Request, Row,
     Schema, Sink, Source, Table, Tuple, Tuples, Txt, TxtRefused, Value, compare_keys, copy_call,
-    copy_key, copy_row,
+    copy_key, copy_row, is_word, same_key,
 };
 use std::alloc::Global;
 use std::cell::Cell;
@@ -136,6 +136,17 @@ fn causes_are_printed(rt: HostRuntime) -> Result<(), Fail> {
 }
 
 #[test]
+fn words_are_told_from_other_bytes(rt: HostRuntime) -> Result<(), Fail> {
+    for word in ["a", "acct", "c_data", "z9_", "abcdefghijklmnop"] {
+        assert!(rt; is_word(word.as_bytes()), "{word}");
+    }
+    for other in ["", "A", "9a", "_a", "a-b", "a b", "aB", "abcdefghijklmnopq"] {
+        assert!(rt; !is_word(other.as_bytes()), "{other}");
+    }
+    Ok(())
+}
+
+#[test]
 fn keys_are_in_order(rt: HostRuntime) -> Result<(), Fail> {
     let mut keys = Vec::new(rt.alloc());
     for (table, parts) in [
@@ -158,6 +169,7 @@ fn keys_are_in_order(rt: HostRuntime) -> Result<(), Fail> {
         for (place, b) in keys.iter().enumerate() {
             assert_eq!(rt; compare_keys(a, b), at.cmp(&place), "{at} and {place}");
             assert_eq!(rt; a == b, at == place, "{at} and {place}");
+            assert_eq!(rt; same_key(a, b), at == place, "{at} and {place}");
         }
     }
     Ok(())

@@ -1,5 +1,6 @@
 ghost use Rattle.std.specs.Prelude.{◌≡◌, ℕ, List, IfOk, IfErr, position, not, true, IsNone, All};
-ghost use Rattle.aria_base.specs.Texts.{may_hold, IsText};
+ghost use Rattle.std.specs.Option.{option_copied};
+ghost use Rattle.aria_base.specs.Texts.{may_hold, IsText, begins_word, is_in_word, is_word};
 ghost use Rattle.aria_base.specs.Refusals.{IsNoText};
 ghost use Rattle.aria_base.specs.declared.texts.TxtRefused.TheVariants.{Memory};
 
@@ -13,6 +14,9 @@ use std::marker::Model;
 
 /// The most bytes that a text has.
 pub const LONGEST_TEXT: usize = 500;
+
+/// The most bytes that a word has.
+pub const LONGEST_WORD: usize = 16;
 
 /// Why bytes are no text.
 #[derive(Clone, Copy, Debug, PartialEq, Eq)]
@@ -107,4 +111,40 @@ fn first_bad(bytes: &[u8]) -> Option<usize>
     bytes
         .iter()
         .position(|&b| b < 32 || 126 < b || b == b'"' || b == b'\\')
+}
+
+/// Whether these bytes are a word, as the names of tables and procedures are: a lower-case letter,
+/// then lower-case letters, digits and underlines, at most 16 bytes in all.
+pub fn is_word(bytes: &[u8]) -> bool
+    ensures { result ≡ is_word bytes.now }
+{
+    if bytes.len() > LONGEST_WORD {
+        return false;
+    }
+    if !begins_word(bytes.first()) {
+        return false;
+    }
+    for byte in bytes {
+        if !is_in_word(*byte) {
+            return false;
+        }
+    }
+    true
+}
+
+/// Whether a word may begin with this byte.
+fn begins_word(first: Option<&u8>) -> bool
+    ensures { result ≡ begins_word (option_copied first.entry) }
+{
+    match first {
+        Some(byte) => byte.is_ascii_lowercase(),
+        None => false,
+    }
+}
+
+/// Whether a word may go on with this byte.
+fn is_in_word(byte: u8) -> bool
+    ensures { result ≡ is_in_word byte }
+{
+    byte.is_ascii_lowercase() || byte.is_ascii_digit() || byte == b'_'
 }

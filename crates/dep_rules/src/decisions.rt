@@ -7,9 +7,8 @@ ghost use Rattle.batch_rules.specs.Verdicts.{meets, least, verdict, verdict_by, 
 ghost use Rattle.dep_rules.specs.Decisions.{reads_of, writes_of, side_of};
 
 use crate::sets::Sets;
-use aria_base::{Key, Keys};
+use aria_base::{Key, Keys, same_key};
 use batch_rules::verdicts::{Cause, Rule, Verdict};
-use std::cmp::Ordering;
 
 /// One of the two sets of a request.
 #[derive(Clone, Copy, PartialEq, Eq)]
@@ -82,12 +81,5 @@ fn meet(keys: &Keys, others: &Keys) -> bool
 fn holds(keys: &Keys, key: &Key) -> bool
     ensures { result ≡ is_among key_cmp keys.now key.now }
 {
-    keys.as_slice().iter().any(|other| is_same(key, other))
-}
-
-/// Whether the two keys are one.
-fn is_same(a: &Key, b: &Key) -> bool
-    ensures { result ≡ eq_by_cmp key_cmp a.now b.now }
-{
-    a.cmp(b) == Ordering::Equal
+    keys.as_slice().iter().any(|other| same_key(key, other))
 }

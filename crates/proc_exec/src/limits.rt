@@ -1,6 +1,5 @@
 // What a run may touch.
 ghost use Rattle.std.specs.Prelude.{◌≡◌, Option, Some, None};
-ghost use Rattle.std.specs.Ordering.{eq_by_cmp};
 ghost use Rattle.aria_base.specs.Orders.{key_cmp};
 ghost use Rattle.aria_base.specs.declared.keys.Key.{Key};
 ghost use Rattle.batch_rules.specs.Touches.{Declared as Touchable, is_among};
@@ -8,7 +7,7 @@ ghost use Rattle.batch_rules.specs.Plays.{allows_read, allows_write};
 ghost use Rattle.proc_exec.specs.Limits.{touchable};
 
 use crate::outcomes::Declared;
-use aria_base::{Key, Keys};
+use aria_base::{Key, Keys, same_key};
 
 /// What a run may touch: everything, or declared keys.
 pub trait Limits {
@@ -62,11 +61,4 @@ fn stands_in(keys: &Keys, key: &Key) -> bool
         }
     }
     false
-}
-
-/// Whether the two keys are one.
-fn same_key(key: &Key, other: &Key) -> bool
-    ensures { result ≡ eq_by_cmp key_cmp key.now other.now }
-{
-    key.cmp(other).is_eq()
 }

@@ -16,31 +16,8 @@ use Rattle.std.specs.BTreeMap.{is_at}
 use Rattle.std.specs.FinMap as fin
 use Rattle.std.specs.FinMap.Entries.{below_all}
 use Rattle.aria_base.specs.Orders.{part_cmp, key_cmp, Cells, Database}
-use Rattle.aria_base.specs.declared.keys.Part.{Part}
-use Rattle.aria_base.specs.declared.keys.Part.TheVariants as part
 use Rattle.aria_base.specs.declared.keys.Key.{Key}
-use Rattle.aria_base.specs.contracts.keys.PartOrd.TheImpl as part_order
-use Rattle.aria_base.specs.contracts.keys.KeyOrd.TheImpl as key_order
-use Rattle.aria_base.proofs.Orders.{key_cmp_total, key_cmp-IsAntisymmetric}
-
--- the order of the derived comparison
-abbrev pub derived_cmp : Key → Key → Ordering
-derived_cmp = key_order.cmp-value.it
-
-part-is : (x y : Part) → part_order.cmp-value.it x y ≡ part_cmp x y
-part-is (part.Int x) (part.Int y) = refl
-part-is (part.Int x) (part.Text y) = refl
-part-is (part.Text x) (part.Int y) = refl
-part-is (part.Text x) (part.Text y) = refl
-
-pub derived-is : (x y : Key) → derived_cmp x y ≡ key_cmp x y
-derived-is x y = ap (λ cmp. ordering_then (nat_cmp x.table y.table) (slice_cmp cmp x.parts y.parts)) (fun_ext (λ a. fun_ext (part-is a)))
-
-derived_same : derived_cmp ≡ key_cmp
-derived_same = fun_ext (λ x. fun_ext (derived-is x))
-
-pub derived_total : IsTotalOrder derived_cmp
-derived_total = subst IsTotalOrder (sym derived_same) key_cmp_total
+use Rattle.aria_base.proofs.Orders.{key_cmp_total, key_cmp-IsAntisymmetric, derived_cmp, derived-is, derived_same, derived_total}
 
 lookup-find : (es : List (Key × Cells)) (q : Key) → lookup (is_at (derived_cmp q)) es ≡ fin.find key_cmp q es
 lookup-find [] q = refl

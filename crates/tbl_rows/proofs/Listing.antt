@@ -22,7 +22,8 @@ use Rattle.aria_base.specs.Orders.{key_cmp, Cells, Database}
 use Rattle.aria_base.specs.declared.keys.Key.{Key}
 use Rattle.aria_base.proofs.Orders.{key_cmp_total, key_cmp-IsAntisymmetric}
 use Rattle.tbl_rows.specs.Shards.{home, Piece, IsOwn, AllOwn, IsWhole, joined}
-use Rattle.tbl_rows.proofs.Entries.{derived_cmp, derived-is, entries-is}
+use Rattle.aria_base.proofs.Orders.{derived_cmp, derived-is}
+use Rattle.tbl_rows.proofs.Entries.{entries-is}
 use Rattle.tbl_rows.proofs.Owned.{same_key}
 use Rattle.tbl_rows.proofs.Together.{listed, find-append, AllNumberedFrom, later, own_later, past, find-listed}
 

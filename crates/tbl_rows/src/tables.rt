@@ -22,7 +22,7 @@ pub struct Tables {
 
 impl Model for Tables {
     ghost use Rattle.aria_base.specs.Orders.{Database};
-    ghost use Rattle.tbl_rows.specs.Codes.{database_code};
+    ghost use Rattle.aria_base.specs.Codes.{database_code};
     ghost use Rattle.tbl_rows.specs.Shards.{IsWhole, joined};
 
     ghost Value = { Database };

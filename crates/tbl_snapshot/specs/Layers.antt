@@ -2,12 +2,11 @@
 use Rattle.std.specs.Prelude.{List, Option, refl}
 use Rattle.std.specs.Coded.{Coded, code_by, coded×, coded_list, coded_option}
 use Rattle.aria_base.specs.contracts.keys.Key as key
-use Rattle.aria_base.specs.contracts.values.Value as value
 use Rattle.aria_base.specs.Orders.{key_cmp, Cells, Database}
 use Rattle.aria_base.specs.declared.keys.Key.{Key}
 use Rattle.batch_rules.specs.Touches.{Noted, overwritten}
 use Rattle.batch_rules.specs.Plays.{Seen}
-use Rattle.tbl_rows.specs.Codes.{database_code}
+use Rattle.aria_base.specs.Codes.{cells_code, database_code}
 
 pub record Layer : Type 0 where
   pub base : Database
@@ -21,7 +20,7 @@ abbrev Stored : Type 0
 Stored = Database × (List Key × List (Key × Option Cells))
 
 abbrev stored_code : Coded Stored
-stored_code = coded× database_code (coded× (coded_list (key.the_row).coded) (coded_list (coded× (key.the_row).coded (coded_option (coded_list (value.the_row).coded)))))
+stored_code = coded× database_code (coded× (coded_list (key.the_row).coded) (coded_list (coded× (key.the_row).coded (coded_option cells_code))))
 
 abbrev pub layer_code : Coded Layer
 layer_code =

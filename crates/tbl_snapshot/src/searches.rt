@@ -5,14 +5,14 @@ ghost use Rattle.std.specs.Option.{option_copied};
 ghost use Rattle.aria_base.specs.Orders.{key_cmp};
 ghost use Rattle.batch_rules.specs.Touches.{is_among};
 
-use aria_base::{Duplicate, Key, Memory, Row, copy_key};
+use aria_base::{Duplicate, Key, Memory, Row, copy_key, same_key};
 use std::alloc::Global;
 
 /// The place of a key's write.
 pub(crate) fn place_of(writes: &Vec<(Key, Option<Row>)>, key: &Key) -> Option<usize>
     ensures { result ≡ position (λ w. eq_by_cmp key_cmp key.now w.0) writes.now.items }
 {
-    writes.iter().position(|write| is_same(key, &write.0))
+    writes.iter().position(|write| same_key(key, &write.0))
 }
 
 /// Adds a key to those that were read, where it is none of them.
@@ -41,11 +41,5 @@ pub(crate) fn copy_found(alloc: Global, found: Option<&Row>) -> Result<Option<Ro
 fn has(keys: &Vec<Key>, key: &Key) -> bool
     ensures { result ≡ is_among key_cmp keys.now.items key.now }
 {
-    keys.iter().any(|item| is_same(key, item))
-}
-
-fn is_same(a: &Key, b: &Key) -> bool
-    ensures { result ≡ eq_by_cmp key_cmp a.now b.now }
-{
-    a.cmp(b).is_eq()
+    keys.iter().any(|item| same_key(key, item))
 }

@@ -3,7 +3,7 @@ use Rattle.std.proofs.lemmas.List.{drop_all, append-nil}
 use Rattle.std.proofs.lemmas.List.Sorted.{ranks_by, answers_always}
 use Rattle.std.specs.Map.Iter.{deref_pair}
 use Rattle.std.specs.Ordering.{is_lt}
-use Rattle.tbl_rows.proofs.Entries.{derived_cmp, derived_total}
+use Rattle.aria_base.proofs.Orders.{derived_cmp, derived_total}
 use Rattle.tbl_rows.proofs.Together.{listed}
 use Rattle.tbl_rows.proofs.Listing.{entries-sorted}
 use Rattle.tbl_rows.proofs.tables.Tables.rows.Goals as goal
