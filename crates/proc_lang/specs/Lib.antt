@@ -1,3 +1,4 @@
+pub mod Catalogs
 pub mod Falls
 pub mod Meaning
 pub mod StepCodes
@@ -6,4 +7,5 @@ pub mod Syntax
 pub mod TermCodes
 pub mod TermOf
 pub mod Terms
+pub mod Typing
 pub mod Values

@@ -19,12 +19,13 @@ use Rattle.proc_lang.specs.declared.ends.Trap.TheVariants.{Overflow, Zero, Long}
 abbrev pub Got : Type 0 → Type 0
 Got A = Result A Trap
 
-abbrev pub got : {A B : Type 0} → Got A → (A → Got B) → Got B
+-- what follows on a result; an error ends it
+abbrev pub got : {A B E : Type 0} → Result A E → (A → Result B E) → Result B E
 got (Ok x) go = go x
-got (Err trap) go = Err trap
+got (Err e) go = Err e
 
--- the first, then the second; the first trap counts
-abbrev pub both : {A B : Type 0} → Got A → Got B → Got (A × B)
+-- the first, then the second; the first error counts
+abbrev pub both : {A B E : Type 0} → Result A E → Result B E → Result (A × B) E
 both g h = got g (λ x. got h (λ y. Ok (x, y)))
 
 abbrev pub int_of : Value → ℤ

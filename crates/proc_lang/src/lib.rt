@@ -10,11 +10,15 @@
 pub mod accesses;
 pub mod ends;
 pub mod expressions;
+pub mod flaws;
 pub mod procs;
 pub mod statements;
 
 pub use accesses::Access;
 pub use ends::{End, Gives, Trap};
 pub use expressions::{Expr, Exprs, copy_expr};
+pub use flaws::{
+    ARGUMENT, COLUMNS, KEY_LENGTH, KIND, MOST_BLOCKS, NESTING, REGISTER, UNKNOWN_TABLE, Wrong,
+};
 pub use procs::{ArgKind, ArgKinds, Path, PathPart, Proc};
 pub use statements::{Block, Regs, Stmt, copy_stmt};

@@ -1,0 +1,38 @@
+// Why a procedure is not well typed.
+
+/// The statement's table is not there.
+pub const UNKNOWN_TABLE: u8 = 1;
+
+/// The key has not as many parts as the table's keys.
+pub const KEY_LENGTH: u8 = 2;
+
+/// There are not as many columns, or registers for them, as the table has columns.
+pub const COLUMNS: u8 = 3;
+
+/// A value is of another kind than is wanted there.
+pub const KIND: u8 = 4;
+
+/// A register is not there, or it is read where it may not be set.
+pub const REGISTER: u8 = 5;
+
+/// An argument is not there, a list stands in the place of a plain one or the other way round, or an
+/// item is not one of the tuples that the statement goes over.
+pub const ARGUMENT: u8 = 6;
+
+/// An `if` or `each` lies in four blocks already, or an `each` in another one.
+pub const NESTING: u8 = 7;
+
+/// How many blocks a block may lie in. The body counts for none.
+pub const MOST_BLOCKS: usize = 4;
+
+/// Where a procedure first fails to be well typed, and why.
+#[derive(Clone, Copy, Debug, PartialEq, Eq)]
+pub struct Wrong {
+    /// The procedure's number.
+    pub proc: u16,
+    /// The statement's number, from 0: statements are counted as they are written, an `if` or `each`
+    /// before what its blocks hold.
+    pub place: u32,
+    /// One of the seven causes above.
+    pub cause: u8,
+}
