@@ -1,5 +1,5 @@
 -- The blocks within a block are smaller than it.
-use Rattle.std.specs.Prelude.{ℕ, ◌+◌, ◌≤◌, List, [], ◌∷◌}
+use Rattle.std.specs.Prelude.{◌≤◌, List, [], ◌∷◌}
 use Rattle.std.proofs.Common.{arith}
 use denote.Param.Weighed.{most}
 use Rattle.proc_lang.specs.declared.statements.Stmt.{Stmt}

@@ -1,3 +1,4 @@
+pub mod CatalogCodes
 pub mod Catalogs
 pub mod Falls
 pub mod Meaning

@@ -8,6 +8,7 @@
 #![tactic(auto)]
 
 pub mod accesses;
+pub mod catalogs;
 pub mod ends;
 pub mod expressions;
 pub mod flaws;
@@ -15,6 +16,10 @@ pub mod procs;
 pub mod statements;
 
 pub use accesses::Access;
+pub use catalogs::{
+    Catalog, Checked, DEEPEST_EXPR, GREATEST_CODE, MOST_ARGS, MOST_COLUMNS, MOST_FRONT,
+    MOST_KEY_PARTS, MOST_PROCS, MOST_REGS, MOST_STATEMENTS, MOST_TABLES,
+};
 pub use ends::{End, Gives, Trap};
 pub use expressions::{Expr, Exprs, copy_expr};
 pub use flaws::{
