@@ -65,9 +65,7 @@ fn row_kinds(alloc: Global, table: &Table) -> Result<Kinds, Memory>
     ensures { IfOk result (λ kinds. kinds ≡ table.now.key ++ table.now.cols) }
 {
     let mut kinds = table.key.duplicate(alloc)?.into_vec();
-    for kind in table.cols.as_slice() {
-        kinds.push(*kind)?;
-    }
+    kinds.extend_from_slice(table.cols.as_slice())?;
     Ok(Kinds::from_vec(kinds))
 }
 

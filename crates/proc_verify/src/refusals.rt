@@ -22,7 +22,10 @@ impl fmt::Display for VerifyRefused {
             VerifyRefused::Memory => f.write_str("no memory"),
             VerifyRefused::Wrong(wrong) => {
                 let Wrong { proc, place, cause } = *wrong;
-                write!(f, "procedure {proc} fails at statement {place}, cause {cause}")
+                write!(
+                    f,
+                    "procedure {proc} fails at statement {place}, cause {cause}"
+                )
             }
         }
     }

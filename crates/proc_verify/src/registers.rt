@@ -55,9 +55,9 @@ impl SetRegisters {
     pub fn copy(&self, alloc: Global) -> Result<SetRegisters, Memory>
         ensures { IfOk result (λ copy. copy ≡ self.now) }
     {
-        Ok(SetRegisters {
-            flags: self.flags.iter().copied().collect(alloc)?,
-        })
+        let mut flags = Vec::with_capacity(alloc, self.flags.len())?;
+        flags.extend_from_slice(&self.flags)?;
+        Ok(SetRegisters { flags })
     }
 
     /// The registers that are set both here and there.

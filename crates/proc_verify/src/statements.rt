@@ -77,12 +77,7 @@ fn goes_over(scope: &Scope, argument: u32) -> Typed<u8>
 
 /// One statement, with the statements of its blocks.
 #[cycle(typing)]
-fn typed_step(
-    alloc: Global,
-    scope: &Scope,
-    stmt: &Stmt,
-    reached: Reached,
-) -> Result<Reached, Stop>
+fn typed_step(alloc: Global, scope: &Scope, stmt: &Stmt, reached: Reached) -> Result<Reached, Stop>
     requires { reached.next + step_count (step_of stmt.now) ≤ MOST_STATEMENTS }
     ensures typed { Reaches result (typed_step (seen scope.now) (step_of stmt.now) (standing reached)) }
     ensures count { IfOk result (λ after. after.next ≡ reached.next + step_count (step_of stmt.now)) }
