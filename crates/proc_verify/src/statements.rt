@@ -131,15 +131,15 @@ fn typed_if(
         next: next + 1,
         set: set.copy(alloc)?,
     };
-    let one = typed_steps(alloc, &inside, first, start)?;
+    let after_first = typed_steps(alloc, &inside, first, start)?;
     let start = Reached {
-        next: one.next,
+        next: after_first.next,
         set,
     };
-    let other = typed_steps(alloc, &inside, second, start)?;
+    let after_second = typed_steps(alloc, &inside, second, start)?;
     Ok(Reached {
-        next: other.next,
-        set: one.set.in_both(alloc, &other.set)?,
+        next: after_second.next,
+        set: after_first.set.in_both(alloc, &after_second.set)?,
     })
 }
 

@@ -12,29 +12,44 @@ use std::test::Fail;
 /// The number that the procedures are given.
 const NUMBER: u16 = 7;
 
-/// One table: a key of one number, and two columns, a number and a text.
-fn schema(alloc: Global) -> Result<Schema, Fail> {
-    let table = Table {
-        name: Txt::of(alloc, b"t")?,
-        key: Kinds::from_vec(vec![in alloc; Kind::Int]?),
-        cols: Kinds::from_vec(vec![in alloc; Kind::Int, Kind::Text]?),
-    };
-    Ok(Schema::from_vec(vec![in alloc; table]?))
+/// These kinds.
+fn kinds(alloc: Global, kinds: &[Kind]) -> Result<Kinds, Memory> {
+    let mut copy = Vec::new(alloc);
+    copy.extend_from_slice(kinds)?;
+    Ok(Kinds::from_vec(copy))
 }
 
-/// Where a procedure with this body fails and why, None where it is sealed. Its arguments are a
-/// number, a list of pairs and a text, its registers a number, a text and a number.
+/// One table: a key of one number, and two columns, a number and a text.
+fn schema(alloc: Global) -> Result<Schema, Fail> {
+    let mut tables = Vec::new(alloc);
+    tables.push(Table {
+        name: Txt::of(alloc, b"t")?,
+        key: kinds(alloc, &[Kind::Int])?,
+        cols: kinds(alloc, &[Kind::Int, Kind::Text])?,
+    })?;
+    Ok(Schema::from_vec(tables))
+}
+
+/// A procedure with this body. Its arguments are a number, a list of pairs and a text, its registers
+/// a number, a text and a number.
+fn procedure(alloc: Global, body: Block) -> Result<Proc, Fail>
+    ensures { IfOk result (λ proc. proc.body ≡ body) }
+{
+    let mut args = Vec::new(alloc);
+    args.extend_from_slice(&[ArgKind::Int, ArgKind::List(2), ArgKind::Text])?;
+    Ok(Proc {
+        name: Txt::of(alloc, b"p")?,
+        args: ArgKinds::from_vec(args),
+        regs: kinds(alloc, &[Kind::Int, Kind::Text, Kind::Int])?,
+        body,
+    })
+}
+
+/// Where a procedure with this body fails and why, None where it is sealed.
 fn flaw(alloc: Global, body: Block) -> Result<Option<(u32, u8)>, Fail>
     requires { steps_count body ≤ MOST_STATEMENTS }
 {
-    let args = vec![in alloc; ArgKind::Int, ArgKind::List(2), ArgKind::Text]?;
-    let regs = vec![in alloc; Kind::Int, Kind::Text, Kind::Int]?;
-    let proc = Proc {
-        name: Txt::of(alloc, b"p")?,
-        args: ArgKinds::from_vec(args),
-        regs: Kinds::from_vec(regs),
-        body,
-    };
+    let proc = procedure(alloc, body)?;
     match verify(alloc, proc, NUMBER, &schema(alloc)?) {
         Ok(_) => Ok(None),
         Err(VerifyRefused::Memory) => Err(Fail::new("no memory")),
@@ -51,31 +66,40 @@ fn flaw(alloc: Global, body: Block) -> Result<Option<(u32, u8)>, Fail>
 fn one(alloc: Global, stmt: Stmt) -> Result<Block, Memory>
     ensures { IfOk result (λ block. steps_count block ≡ step_count (step_of stmt)) }
 {
-    Ok(Block::from_vec(vec![in alloc; stmt]?))
+    let mut stmts = Vec::new(alloc);
+    stmts.push(stmt)?;
+    Ok(Block::from_vec(stmts))
 }
 
 /// A block of two statements.
 fn two(alloc: Global, first: Stmt, second: Stmt) -> Result<Block, Memory>
     ensures { IfOk result (λ block. steps_count block ≡ step_count (step_of first) + step_count (step_of second)) }
 {
-    Ok(Block::from_vec(vec![in alloc; first, second]?))
+    let mut stmts = Vec::new(alloc);
+    stmts.push(first)?;
+    stmts.push(second)?;
+    Ok(Block::from_vec(stmts))
 }
 
-/// An `if` with these statements and an empty second block.
-fn within(alloc: Global, block: Block) -> Result<Block, Memory>
-    ensures { IfOk result (λ whole. steps_count whole ≡ steps_count block + 1) }
+/// No statements.
+fn nothing(alloc: Global) -> Block
+    ensures { steps_count result ≡ 0 }
 {
-    let none = Block::from_vec(Vec::new(alloc));
-    one(alloc, Stmt::If(Expr::Num(1), block, none))
+    Block::from_vec(Vec::new(alloc))
 }
 
-/// These expressions.
-fn exprs(alloc: Global, first: Expr, second: Option<Expr>) -> Result<Exprs, Memory> {
-    let mut exprs = vec![in alloc; first]?;
-    match second {
-        Some(second) => exprs.push(second)?,
-        None => {}
-    }
+/// These statements in two blocks.
+fn within(alloc: Global, block: Block) -> Result<Block, Memory>
+    ensures { IfOk result (λ whole. steps_count whole ≡ steps_count block + 2) }
+{
+    let inner = one(alloc, Stmt::If(Expr::Num(1), block, nothing(alloc)))?;
+    one(alloc, Stmt::If(Expr::Num(1), nothing(alloc), inner))
+}
+
+/// A list of one expression.
+fn single(alloc: Global, expr: Expr) -> Result<Exprs, Memory> {
+    let mut exprs = Vec::new(alloc);
+    exprs.push(expr)?;
     Ok(Exprs::from_vec(exprs))
 }
 
@@ -83,7 +107,7 @@ fn exprs(alloc: Global, first: Expr, second: Option<Expr>) -> Result<Exprs, Memo
 fn find(alloc: Global, registers: [u32; 2], flag: u32) -> Result<Stmt, Memory>
     ensures { IfOk result (λ stmt. step_count (step_of stmt) ≡ 1) }
 {
-    let key = exprs(alloc, Expr::Num(0), None)?;
+    let key = single(alloc, Expr::Num(0))?;
     let registers = Regs::from_vec(Vec::from_array(alloc, registers)?);
     Ok(Stmt::Find(0, key, registers, flag))
 }
@@ -99,16 +123,13 @@ fn failing(alloc: Global, cause: u8) -> Result<Stmt, Memory>
     ensures { IfOk result (λ stmt. step_count (step_of stmt) ≤ 2) }
 {
     match cause {
-        1 => Ok(Stmt::Del(7, exprs(alloc, Expr::Reg(0), None)?)),
-        2 => Ok(Stmt::Del(0, exprs(alloc, Expr::Num(0), Some(Expr::Num(0)))?)),
+        1 => Ok(Stmt::Del(7, single(alloc, Expr::Reg(0))?)),
+        2 => Ok(Stmt::Del(0, Exprs::from_vec(Vec::new(alloc)))),
         3 => put_number(alloc),
         4 => Ok(Stmt::Give(sum_with_text(alloc)?)),
         5 => Ok(Stmt::Give(Expr::Reg(0))),
         6 => Ok(Stmt::Give(Expr::Arg(1))),
-        _ => Ok(Stmt::Each(
-            1,
-            one(alloc, Stmt::Each(1, Block::from_vec(Vec::new(alloc))))?,
-        )),
+        _ => Ok(Stmt::Each(1, one(alloc, Stmt::Each(1, nothing(alloc)))?)),
     }
 }
 
@@ -116,16 +137,8 @@ fn failing(alloc: Global, cause: u8) -> Result<Stmt, Memory>
 fn put_number(alloc: Global) -> Result<Stmt, Memory>
     ensures { IfOk result (λ stmt. step_count (step_of stmt) ≡ 1) }
 {
-    let key = exprs(alloc, Expr::Num(0), None)?;
-    Ok(Stmt::Put(0, key, exprs(alloc, Expr::Num(0), None)?))
-}
-
-/// An `if` with these blocks, and then a read of register 0.
-fn read_after(alloc: Global, first: Block, second: Block) -> Result<Block, Memory>
-    ensures { IfOk result (λ whole. steps_count whole ≡ steps_count first + steps_count second + 2) }
-{
-    let branches = Stmt::If(Expr::Num(1), first, second);
-    two(alloc, branches, Stmt::Give(Expr::Reg(0)))
+    let key = single(alloc, Expr::Num(0))?;
+    Ok(Stmt::Put(0, key, single(alloc, Expr::Num(0))?))
 }
 
 /// A block that sets register 0.
@@ -133,6 +146,61 @@ fn sets(alloc: Global) -> Result<Block, Memory>
     ensures { IfOk result (λ block. steps_count block ≡ 1) }
 {
     one(alloc, Stmt::Let(0, Expr::Num(1)))
+}
+
+/// A statement, and then a read of register 0.
+fn read_after(alloc: Global, stmt: Stmt) -> Result<Block, Memory>
+    ensures { IfOk result (λ block. steps_count block ≡ step_count (step_of stmt) + 1) }
+{
+    two(alloc, stmt, Stmt::Give(Expr::Reg(0)))
+}
+
+/// An `if` with these blocks, and then a read of register 0.
+fn branches(alloc: Global, first: Block, second: Block) -> Result<Block, Memory>
+    ensures { IfOk result (λ block. steps_count block ≡ steps_count first + steps_count second + 2) }
+{
+    read_after(alloc, Stmt::If(Expr::Num(0), first, second))
+}
+
+/// A block that gives a value.
+fn gives(alloc: Global, value: Expr) -> Result<Block, Memory>
+    ensures { IfOk result (λ block. steps_count block ≡ 1) }
+{
+    one(alloc, Stmt::Give(value))
+}
+
+/// The bodies with blocks that are tried.
+#[derive(Clone, Copy, Debug)]
+enum Blocks {
+    SetInBoth,
+    SetInFirst,
+    SetInSecond,
+    SetInEach,
+    FlawInSecond,
+    ItemOfTuple,
+    ItemPastTuple,
+    Four,
+    Five,
+}
+
+/// That body.
+fn body(alloc: Global, blocks: Blocks) -> Result<Block, Memory>
+    ensures { IfOk result (λ block. steps_count block ≤ 10) }
+{
+    match blocks {
+        Blocks::SetInBoth => branches(alloc, sets(alloc)?, sets(alloc)?),
+        Blocks::SetInFirst => branches(alloc, sets(alloc)?, nothing(alloc)),
+        Blocks::SetInSecond => branches(alloc, nothing(alloc), sets(alloc)?),
+        Blocks::SetInEach => read_after(alloc, Stmt::Each(1, sets(alloc)?)),
+        Blocks::FlawInSecond => branches(alloc, sets(alloc)?, gives(alloc, Expr::Reg(2))?),
+        Blocks::ItemOfTuple => one(alloc, Stmt::Each(1, gives(alloc, Expr::Item(1))?)),
+        Blocks::ItemPastTuple => one(alloc, Stmt::Each(1, gives(alloc, Expr::Item(2))?)),
+        Blocks::Four => within(alloc, within(alloc, nothing(alloc))?),
+        Blocks::Five => {
+            let four = within(alloc, within(alloc, nothing(alloc))?)?;
+            branches(alloc, four, nothing(alloc))
+        }
+    }
 }
 
 #[test]
@@ -152,20 +220,6 @@ fn first_failure(rt: HostRuntime) -> Result<(), Fail> {
         let body = two(alloc, failing(alloc, first)?, failing(alloc, second)?)?;
         assert_eq!(rt; flaw(alloc, body)?, Some((0, first)));
     }
-    Ok(())
-}
-
-#[test]
-fn registers_that_are_set(rt: HostRuntime) -> Result<(), Fail> {
-    let alloc = rt.alloc();
-    let none = Block::from_vec(Vec::new(alloc));
-    let both = read_after(alloc, sets(alloc)?, sets(alloc)?)?;
-    assert_eq!(rt; flaw(alloc, both)?, None);
-    let first_alone = read_after(alloc, sets(alloc)?, none)?;
-    assert_eq!(rt; flaw(alloc, first_alone)?, Some((2, 5)));
-    let each = Stmt::Each(1, sets(alloc)?);
-    let behind_each = two(alloc, each, Stmt::Give(Expr::Reg(0)))?;
-    assert_eq!(rt; flaw(alloc, behind_each)?, Some((2, 5)));
     Ok(())
 }
 
@@ -191,25 +245,20 @@ fn registers_of_a_find(rt: HostRuntime) -> Result<(), Fail> {
 #[test]
 fn blocks_inside(rt: HostRuntime) -> Result<(), Fail> {
     let alloc = rt.alloc();
-    let none = Block::from_vec(Vec::new(alloc));
-    let three = within(alloc, within(alloc, within(alloc, none)?)?)?;
-    let four = within(alloc, three)?;
-    assert_eq!(rt; flaw(alloc, four)?, None);
-    let item = one(alloc, Stmt::Each(1, one(alloc, Stmt::Give(Expr::Item(2)))?))?;
-    assert_eq!(rt; flaw(alloc, item)?, Some((1, 6)));
-    let wrong = one(alloc, Stmt::Give(Expr::Reg(1)))?;
-    let second_block = read_after(alloc, sets(alloc)?, wrong)?;
-    assert_eq!(rt; flaw(alloc, second_block)?, Some((2, 5)));
-    Ok(())
-}
-
-#[test]
-fn fifth_block(rt: HostRuntime) -> Result<(), Fail> {
-    let alloc = rt.alloc();
-    let none = Block::from_vec(Vec::new(alloc));
-    let three = within(alloc, within(alloc, within(alloc, none)?)?)?;
-    let five = within(alloc, within(alloc, three)?)?;
-    assert_eq!(rt; flaw(alloc, five)?, Some((4, 7)));
+    for (blocks, wanted) in [
+        (Blocks::SetInBoth, None),
+        (Blocks::SetInFirst, Some((2, 5))),
+        (Blocks::SetInSecond, Some((2, 5))),
+        (Blocks::SetInEach, Some((2, 5))),
+        (Blocks::FlawInSecond, Some((2, 5))),
+        (Blocks::ItemOfTuple, None),
+        (Blocks::ItemPastTuple, Some((1, 6))),
+        (Blocks::Four, None),
+        (Blocks::Five, Some((4, 7))),
+    ] {
+        let body = body(alloc, blocks)?;
+        assert_eq!(rt; flaw(alloc, body)?, wanted, "{blocks:?}");
+    }
     Ok(())
 }
 
