@@ -1,3 +1,4 @@
 mod Counts
 mod Refused
+pub mod Routines
 mod Shapes

@@ -1,25 +1,23 @@
--- The bank's procedures, and what a request of it does.
-use Rattle.std.specs.Prelude.{ℕ, List, [], ◌∷◌, Option, Some, None}
-use Rattle.std.specs.List.{slice_get}
+-- The bank: its catalogue, and what a request of it does.
+use Rattle.std.specs.Prelude.{ℕ, List, [], ◌∷◌, codes, replicate}
 use Rattle.aria_base.specs.declared.calls.Request.{Request}
-use Rattle.batch_rules.specs.Trees.{Ends}
-use Rattle.proc_lang.specs.declared.ends.End.TheVariants as end
+use Rattle.proc_lang.specs.declared.procs.ArgKind.TheVariants as arg
+use Rattle.proc_lang.specs.declared.procs.Proc.{Proc}
+use Rattle.proc_lang.specs.Catalogs.{Plan, run_of}
+use Rattle.proc_lang.specs.Meaning.{Run}
 use Rattle.proc_lang.specs.Steps.{Steps}
-use Rattle.proc_lang.specs.Meaning.{Run, script}
-use Rattle.aria_top.specs.Accounts.{all_ints, add_body, copy_body, set_body, sum_body, hop_body, drop_body}
-use Rattle.aria_top.specs.declared.bank.Routine.{Routine}
+use Rattle.aria_top.specs.Accounts.{accounts, all_ints, add_body, copy_body, set_body, sum_body, hop_body, drop_body}
 
-abbrev pub routine_of : ℕ → Steps → Routine
-routine_of registers body = record { registers = all_ints registers; body = body }
+-- a procedure of so many arguments and registers, all whole numbers
+abbrev pub routine : List ℕ → ℕ → ℕ → Steps → Proc
+routine name arguments registers body = record { name = name; args = replicate arguments arg.Int; regs = all_ints registers; body = body }
 
 -- the procedures by their numbers
-abbrev pub bank : List Routine
-bank = routine_of 1 add_body ∷ routine_of 1 copy_body ∷ routine_of 0 set_body ∷ routine_of 2 sum_body ∷ routine_of 1 hop_body ∷ routine_of 0 drop_body ∷ []
+abbrev pub routines : List Proc
+routines = routine (codes "add") 2 1 add_body ∷ routine (codes "copy") 2 1 copy_body ∷ routine (codes "set") 2 0 set_body ∷ routine (codes "sum") 2 2 sum_body ∷ routine (codes "hop") 2 1 hop_body ∷ routine (codes "drop") 1 0 drop_body ∷ []
 
--- what a request does; one of no procedure does nothing
-abbrev pub run_by : Option Routine → Request → Run
-run_by None request = Ends (end.Done [])
-run_by (Some routine) request = script routine.body routine.registers request
+abbrev pub bank : Plan
+bank = record { tables = accounts; procs = routines }
 
 abbrev pub bank_run : Request → Run
-bank_run request = run_by (slice_get bank request.call.proc) request
+bank_run = run_of bank

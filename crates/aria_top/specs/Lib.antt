@@ -4,6 +4,7 @@ pub mod Bank
 pub mod Engines
 pub mod Inputs
 pub mod Lines
+pub mod Names
 pub mod Numbers
 pub mod Out
 pub mod Scripts

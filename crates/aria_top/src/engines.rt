@@ -4,20 +4,21 @@ ghost use Rattle.std.specs.Prelude.{◌≡◌, ◌+◌, ◌<◌, ◌≤◌, ◌^
 ghost use Rattle.batch_rules.specs.Touches.{overwritten};
 ghost use Rattle.batch_core.specs.Steps.{step, answer};
 ghost use Rattle.batch_core.specs.Outcomes.{installed, waiting_after};
-ghost use Rattle.aria_top.specs.Bank.{bank, bank_run};
+ghost use Rattle.proc_lang.specs.Catalogs.{run_of};
 ghost use Rattle.aria_top.specs.Engines.{state_of, executed_at};
 ghost use Rattle.aria_top.specs.Out.{handed};
 ghost use Rattle.reorder.specs.declared.placements.TheConstants.{MOST_REQUESTS};
 
-use crate::bank::Routine;
 use crate::batches::{decide_all, lines_of, number_calls, order_of};
-use crate::executions::execute;
 use aria_base::{Call, Changes, Memory, Request};
 use batch_core::{Answer, Decided};
 use dep_rules::{Rule, Verdict};
+use exec_phase::execute;
 use proc_exec::Outcome;
+use proc_lang::Catalog;
 use std::alloc::Global;
 use tbl_rows::Tables;
+use tbl_snapshot::Snapshot;
 
 /// A database between two batches.
 #[derive(Drop)]
@@ -31,16 +32,15 @@ pub struct Engine {
 /// Runs a batch of these calls by the plain rule, without a late fold.
 pub fn run_batch(
     alloc: Global,
-    routines: &[Routine],
+    catalog: &Catalog,
     engine: Engine,
     calls: Vec<Call>,
 ) -> Result<(Engine, Answer), Memory>
-    requires routines { routines.now ≡ bank }
     requires room { length engine.waiting.items ≤ engine.requests }
     requires numbers { engine.requests + length calls.items ≤ MOST_REQUESTS }
     requires batches { engine.batches + 1 < 2 ^ 64 }
-    ensures state { IfOk result (λ r. state_of r.0 ≡ step bank_run (state_of engine) (handed calls.items)) }
-    ensures answer { IfOk result (λ r. r.1 ≡ answer bank_run (state_of engine) (handed calls.items)) }
+    ensures state { IfOk result (λ r. state_of r.0 ≡ step (run_of catalog.now) (state_of engine) (handed calls.items)) }
+    ensures answer { IfOk result (λ r. r.1 ≡ answer (run_of catalog.now) (state_of engine) (handed calls.items)) }
     ensures room { IfOk result (λ r. length r.0.waiting.items ≤ r.0.requests) }
 {
     let Engine {
@@ -51,7 +51,7 @@ pub fn run_batch(
     } = engine;
     let total = requests + calls.len() as u64;
     let list = number_calls(waiting, calls, requests)?;
-    let executed = execute_all(alloc, routines, list, &tables)?;
+    let executed = execute_all(alloc, catalog, list, &tables)?;
     let decided = decide_all(alloc, executed, Rule::Plain)?;
     let answer = Answer {
         number: batches + 1,
@@ -71,16 +71,15 @@ pub fn run_batch(
 /// The outcome of each request of the list on these rows.
 fn execute_all(
     alloc: Global,
-    routines: &[Routine],
+    catalog: &Catalog,
     list: Vec<Request>,
     tables: &Tables,
 ) -> Result<Vec<(Request, Outcome)>, Memory>
-    requires { routines.now ≡ bank }
-    ensures { IfOk result (λ executed. executed.items ≡ map (executed_at tables.now) list.items) }
+    ensures { IfOk result (λ executed. executed.items ≡ map (executed_at catalog.now tables.now) list.items) }
 {
     let mut executed = Vec::with_capacity(alloc, list.len())?;
     for request in list {
-        let outcome = execute(alloc, routines, &request, tables)?;
+        let outcome = execute(alloc, catalog, &request, Snapshot::of(tables))?;
         executed.push((request, outcome))?;
     }
     Ok(executed)

@@ -9,11 +9,10 @@
 //! bytes ─> inputs ─> scripts ─> runs ─> answer_text ─> bytes
 //!                 (lines, numbers)│
 //!                              engines (one batch)
-//!                             /       |        \
-//!                     executions   batches    tbl_rows
-//!                    (one request) (decisions,
-//!                         |         the answer)
-//!                       bank
+//!                         /       |       |       \
+//!                    exec_phase batches reorder tbl_rows
+//!                  (one request) (decisions,
+//!                                 the answer)
 //! ```
 //!
 //! The reader of scripts (`scripts`, `lines`, `numbers`) takes the simple form alone and is temporary.
@@ -22,7 +21,6 @@
 mod bank;
 mod batches;
 mod engines;
-mod executions;
 mod inputs;
 mod laws;
 mod lines;

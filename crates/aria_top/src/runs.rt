@@ -6,7 +6,7 @@ ghost use Rattle.aria_top.specs.Bank.{bank};
 ghost use Rattle.aria_top.specs.Out.{out_of, rows_from, calls_in};
 ghost use Rattle.aria_top.specs.declared.scripts.TheConstants.{MOST_CALLS};
 
-use crate::bank::{Routine, routines, schema};
+use crate::bank;
 use crate::engines::{Engine, run_batch};
 use crate::scripts::Script;
 use answer_text::{append_answer, append_state};
@@ -19,8 +19,7 @@ pub fn run_script(alloc: Global, script: Script) -> Result<Vec<u8>, Memory>
     requires { calls_in script.batches ≤ MOST_CALLS }
     ensures { IfOk result (λ out. out.items ≡ out_of script) }
 {
-    let schema = schema(alloc)?;
-    let routines = routines(alloc)?;
+    let catalog = bank::catalog(alloc)?;
     let Script { rows, batches } = script;
     let mut engine = Engine {
         tables: load(alloc, rows)?,
@@ -30,12 +29,12 @@ pub fn run_script(alloc: Global, script: Script) -> Result<Vec<u8>, Memory>
     };
     let mut out = Vec::new(alloc);
     for calls in batches.into_vec() {
-        let (next, answer) = run_batch(alloc, &routines, engine, calls.into_vec())?;
-        append_answer(&mut out, &schema, &answer)?;
+        let (next, answer) = run_batch(alloc, &catalog, engine, calls.into_vec())?;
+        append_answer(&mut out, catalog.schema(), &answer)?;
         engine = next;
     }
     let listed = engine.tables.rows()?;
-    append_state(&mut out, &schema, &listed, engine.batches)?;
+    append_state(&mut out, catalog.schema(), &listed, engine.batches)?;
     Ok(out)
 }
 

@@ -50,38 +50,38 @@ fn left(alloc: Global, disk: &MemDisk, calls: u64, kept: bool, fill: u8) -> Resu
     Ok(stopped.bytes(1).to_vec(alloc)?)
 }
 
+// The place of the first of these stops that leaves other bytes of file 1.
+fn first_unlike(
+    alloc: Global,
+    disk: &MemDisk,
+    stops: &[(u64, bool, u8, &[u8])],
+) -> Result<Option<usize>, Fail> {
+    for (place, (calls, kept, fill, bytes)) in stops.iter().enumerate() {
+        if left(alloc, disk, *calls, *kept, *fill)?.as_slice() != *bytes {
+            return Ok(Some(place));
+        }
+    }
+    Ok(None)
+}
+
 #[test]
 fn writes_are_read_and_torn(rt: HostRuntime) -> Result<(), Fail> {
     let alloc = rt.alloc();
     let mut disk = small_disk(alloc, &[])?;
     assert_eq!(rt; write(&mut disk, 1, 3, &[7, 8, 9]), Ok(()));
     assert_eq!(rt; write(&mut disk, 1, 0, &[5]), Ok(()));
-    assert_eq!(rt; disk.bytes(1), [5, 2, 3, 7, 8, 9].as_slice());
     assert_eq!(rt; disk.len(1), Ok(6));
-    assert_eq!(rt; read(&mut disk)?, [3, 7, 8]);
-    assert_eq!(rt;
-        left(alloc, &disk, 0, false, 77)?.as_slice(),
-        [1, 2, 3, 4].as_slice()
-    );
-    assert_eq!(rt;
-        left(alloc, &disk, 1, false, 77)?.as_slice(),
-        [1, 2, 3, 77, 77, 77].as_slice()
-    );
-    assert_eq!(rt;
-        left(alloc, &disk, 1, true, 77)?.as_slice(),
-        [1, 2, 3, 7, 8, 9].as_slice()
-    );
-    assert_eq!(rt;
-        left(alloc, &disk, 2, false, 0)?.as_slice(),
-        [0, 2, 3, 0, 0, 0].as_slice()
-    );
+    assert_eq!(rt; read(&mut disk), Ok([3, 7, 8]));
     assert_eq!(rt; disk.sync(1), Ok(()));
-    assert_eq!(rt;
-        left(alloc, &disk, 5, false, 77)?.as_slice(),
-        [5, 2, 3, 7, 8, 9].as_slice()
-    );
-    assert_eq!(rt; disk.calls(), 5);
-    assert_eq!(rt; disk.faults(), 0);
+    assert_eq!(rt; (disk.calls(), disk.faults()), (5, 0));
+    let stops: [(u64, bool, u8, &[u8]); 5] = [
+        (0, false, 77, &[1, 2, 3, 4]),
+        (1, false, 77, &[1, 2, 3, 77, 77, 77]),
+        (1, true, 77, &[1, 2, 3, 7, 8, 9]),
+        (2, false, 0, &[0, 2, 3, 0, 0, 0]),
+        (5, false, 77, &[5, 2, 3, 7, 8, 9]),
+    ];
+    assert_eq!(rt; first_unlike(alloc, &disk, &stops)?, None);
     Ok(())
 }
 
@@ -91,20 +91,17 @@ fn told_calls_fail(rt: HostRuntime) -> Result<(), Fail> {
     let mut disk = small_disk(alloc, &[1, 3])?;
     assert_eq!(rt; write(&mut disk, 1, 1, &[7, 7]), Err(Failed));
     assert_eq!(rt; disk.bytes(1), [1, 2, 3, 4].as_slice());
-    // The range of a write that failed counts as written.
-    assert_eq!(rt;
-        left(alloc, &disk, 1, false, 9)?.as_slice(),
-        [1, 9, 9, 4].as_slice()
-    );
     assert_eq!(rt; write(&mut disk, 1, 0, &[5]), Ok(()));
     assert_eq!(rt; disk.sync(1), Err(Failed));
-    // A sync that failed makes nothing stable.
-    assert_eq!(rt;
-        left(alloc, &disk, 3, false, 9)?.as_slice(),
-        [9, 9, 9, 4].as_slice()
-    );
-    assert_eq!(rt; disk.faults(), 2);
-    assert_eq!(rt; disk.calls(), 3);
+    assert_eq!(rt; (disk.calls(), disk.faults()), (3, 2));
+
+    // The range of a write that failed counts as written, and a sync that failed makes nothing
+    // stable.
+    let stops: [(u64, bool, u8, &[u8]); 2] = [
+        (1, false, 9, &[1, 9, 9, 4]),
+        (3, false, 9, &[9, 9, 9, 4]),
+    ];
+    assert_eq!(rt; first_unlike(alloc, &disk, &stops)?, None);
     Ok(())
 }
 
@@ -116,8 +113,7 @@ fn calls_and_bytes_run_out(rt: HostRuntime) -> Result<(), Fail> {
     assert_eq!(rt; write(&mut disk, 0, 3, &[4, 5]), Err(Failed));
     assert_eq!(rt; write(&mut disk, 0, 3, &[4]), Ok(()));
     assert_eq!(rt; disk.len(0), Err(Failed));
-    assert_eq!(rt; disk.calls(), 3);
-    assert_eq!(rt; disk.faults(), 2);
+    assert_eq!(rt; (disk.calls(), disk.faults()), (3, 2));
     assert_eq!(rt; disk.bytes(0), [1, 2, 3, 4].as_slice());
     // A stopped disk has as much room as the first one was made with.
     let mut again = disk.stopped(alloc, 0, true, 0)?;
@@ -132,8 +128,8 @@ fn a_write_is_synced(rt: HostRuntime) -> Result<(), Fail> {
     let mut disk = small_disk(alloc, &[])?;
     assert_eq!(rt; write_synced(&mut disk, 1, 0, &[5]), Ok(()));
     assert_eq!(rt;
-        left(alloc, &disk, 2, false, 0)?.as_slice(),
-        [5, 2, 3, 4].as_slice()
+        first_unlike(alloc, &disk, &[(2, false, 0, &[5, 2, 3, 4])])?,
+        None
     );
     assert_eq!(rt; disk.calls(), 2);
     Ok(())

@@ -231,7 +231,8 @@ fn catalog(alloc: Global) -> Result<Catalog, Fail> {
         &schema,
     );
     let procs = Vec::from_array(alloc, [sealed])?;
-    Ok(Catalog::of(schema, procs))
+    let catalog = Catalog::of(schema, procs);
+    Ok(catalog)
 }
 
 // ---- ends
