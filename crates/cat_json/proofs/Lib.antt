@@ -1,0 +1,4 @@
+pub mod FaultReads
+pub mod Forms
+pub mod Operands
+pub mod Texts

@@ -1,0 +1,74 @@
+-- What the forms of expressions are called in JSON.
+use Rattle.std.specs.Prelude.{ℕ, List, Option, codes, find}
+use Rattle.std.specs.Str.{bytes_eq}
+use Rattle.proc_lang.specs.Terms.{Term}
+use Rattle.proc_lang.specs.Terms as term
+use Rattle.cat_json.specs.declared.names.Plain.{Plain}
+use Rattle.cat_json.specs.declared.names.Plain.TheVariants as plain
+use Rattle.cat_json.specs.declared.names.Unary.{Unary}
+use Rattle.cat_json.specs.declared.names.Unary.TheVariants as unary
+use Rattle.cat_json.specs.declared.names.Binary.{Binary}
+use Rattle.cat_json.specs.declared.names.Binary.TheVariants as binary
+use Rattle.cat_json.specs.declared.names.Form.{Form}
+use Rattle.cat_json.specs.declared.names.Form.TheVariants as form
+use Rattle.cat_json.specs.declared.names.TheConstants.{FORMS}
+
+abbrev pub plain_name : Plain → List ℕ
+plain_name plain.Reg = codes "reg"
+plain_name plain.Arg = codes "arg"
+plain_name plain.Item = codes "item"
+plain_name plain.Len = codes "len"
+
+abbrev pub unary_name : Unary → List ℕ
+unary_name unary.Not = codes "not"
+unary_name unary.Show = codes "show"
+
+abbrev pub binary_name : Binary → List ℕ
+binary_name binary.Add = codes "add"
+binary_name binary.Sub = codes "sub"
+binary_name binary.Mul = codes "mul"
+binary_name binary.Div = codes "div"
+binary_name binary.Mod = codes "mod"
+binary_name binary.Eq = codes "eq"
+binary_name binary.Ne = codes "ne"
+binary_name binary.Lt = codes "lt"
+binary_name binary.Le = codes "le"
+binary_name binary.And = codes "and"
+binary_name binary.Or = codes "or"
+binary_name binary.Cat = codes "cat"
+
+abbrev pub form_name : Form → List ℕ
+form_name form.Me = codes "me"
+form_name (form.Plain p) = plain_name p
+form_name (form.Unary u) = unary_name u
+form_name (form.Binary b) = binary_name b
+form_name form.MulDiv = codes "muldiv"
+form_name form.Front = codes "front"
+
+-- the form with this name
+abbrev pub form_named : List ℕ → Option Form
+form_named name = find (λ f. bytes_eq (form_name f) name) FORMS
+
+abbrev pub plain_term : Plain → ℕ → Term
+plain_term plain.Reg n = term.Reg n
+plain_term plain.Arg n = term.Arg n
+plain_term plain.Item n = term.Item n
+plain_term plain.Len n = term.Len n
+
+abbrev pub unary_term : Unary → Term → Term
+unary_term unary.Not a = term.Not a
+unary_term unary.Show a = term.Show a
+
+abbrev pub binary_term : Binary → Term → Term → Term
+binary_term binary.Add a b = term.Add a b
+binary_term binary.Sub a b = term.Sub a b
+binary_term binary.Mul a b = term.Mul a b
+binary_term binary.Div a b = term.Div a b
+binary_term binary.Mod a b = term.Mod a b
+binary_term binary.Eq a b = term.Eq a b
+binary_term binary.Ne a b = term.Ne a b
+binary_term binary.Lt a b = term.Lt a b
+binary_term binary.Le a b = term.Le a b
+binary_term binary.And a b = term.And a b
+binary_term binary.Or a b = term.Or a b
+binary_term binary.Cat a b = term.Cat a b

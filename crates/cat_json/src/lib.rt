@@ -1,0 +1,10 @@
+//! Catalogues as JSON text.
+#![tactic(auto)]
+
+mod faults;
+mod names;
+mod places;
+mod terms;
+
+pub use faults::Fault;
+pub use places::{Member, Place};
