@@ -1,6 +1,12 @@
--- What the forms of expressions are called in JSON.
-use Rattle.std.specs.Prelude.{ℕ, List, Option, codes, find}
+-- What expressions, statements and kinds are called in JSON.
+use Rattle.std.specs.Prelude.{ℕ, ◌+◌, List, [], ◌∷◌, ◌++◌, Option, codes, find, if◌then◌else◌}
 use Rattle.std.specs.Str.{bytes_eq}
+use Rattle.aria_base.specs.declared.values.Kind.{Kind}
+use Rattle.aria_base.specs.declared.values.Kind.TheVariants as kind
+use Rattle.proc_lang.specs.declared.procs.ArgKind.{ArgKind}
+use Rattle.proc_lang.specs.declared.procs.ArgKind.TheVariants as arg
+use Rattle.proc_lang.specs.Catalogs.{is_between}
+use Rattle.proc_lang.specs.declared.catalogs.TheConstants.{MOST_KEY_PARTS}
 use Rattle.proc_lang.specs.Terms.{Term}
 use Rattle.proc_lang.specs.Terms as term
 use Rattle.cat_json.specs.declared.names.Plain.{Plain}
@@ -11,7 +17,9 @@ use Rattle.cat_json.specs.declared.names.Binary.{Binary}
 use Rattle.cat_json.specs.declared.names.Binary.TheVariants as binary
 use Rattle.cat_json.specs.declared.names.Form.{Form}
 use Rattle.cat_json.specs.declared.names.Form.TheVariants as form
-use Rattle.cat_json.specs.declared.names.TheConstants.{FORMS}
+use Rattle.cat_json.specs.declared.names.Verb.{Verb}
+use Rattle.cat_json.specs.declared.names.Verb.TheVariants as verb
+use Rattle.cat_json.specs.declared.names.TheConstants.{FORMS, VERBS, KINDS, ARG_KINDS}
 
 abbrev pub plain_name : Plain → List ℕ
 plain_name plain.Reg = codes "reg"
@@ -72,3 +80,39 @@ binary_term binary.Le a b = term.Le a b
 binary_term binary.And a b = term.And a b
 binary_term binary.Or a b = term.Or a b
 binary_term binary.Cat a b = term.Cat a b
+
+-- ---- statements
+
+abbrev pub verb_name : Verb → List ℕ
+verb_name verb.Let = codes "let"
+verb_name verb.Get = codes "get"
+verb_name verb.Need = codes "need"
+verb_name verb.Find = codes "find"
+verb_name verb.Put = codes "put"
+verb_name verb.Del = codes "del"
+verb_name verb.If = codes "if"
+verb_name verb.Each = codes "each"
+verb_name verb.Give = codes "give"
+verb_name verb.Fail = codes "fail"
+
+-- the verb with this name
+abbrev pub verb_named : List ℕ → Option Verb
+verb_named name = find (λ v. bytes_eq (verb_name v) name) VERBS
+
+-- ---- kinds
+
+abbrev pub kind_name : Kind → List ℕ
+kind_name kind.Int = codes "int"
+kind_name kind.Text = codes "text"
+
+-- a list by the number of its tuples' numbers; where no tuple has so many, a name that no kind has
+abbrev pub arg_kind_name : ArgKind → List ℕ
+arg_kind_name arg.Int = codes "int"
+arg_kind_name arg.Text = codes "text"
+arg_kind_name (arg.List width) = if is_between 1 MOST_KEY_PARTS width then codes "list" ++ (48 + width) ∷ [] else codes "list"
+
+abbrev pub kind_named : List ℕ → Option Kind
+kind_named name = find (λ k. bytes_eq (kind_name k) name) KINDS
+
+abbrev pub arg_kind_named : List ℕ → Option ArgKind
+arg_kind_named name = find (λ k. bytes_eq (arg_kind_name k) name) ARG_KINDS

@@ -4,6 +4,7 @@
 mod faults;
 mod names;
 mod places;
+mod statements;
 mod terms;
 
 pub use faults::Fault;

@@ -1,9 +1,10 @@
-// The forms of expressions and what they are called in JSON.
+// What expressions, statements and kinds are called in JSON.
 ghost use Rattle.std.specs.Prelude.{◌≡◌};
 ghost use Rattle.proc_lang.specs.TermOf.{term_of};
-ghost use Rattle.cat_json.specs.Names.{plain_name, unary_name, binary_name, form_name, form_named, plain_term, unary_term, binary_term};
+ghost use Rattle.cat_json.specs.Names.{plain_name, unary_name, binary_name, form_name, form_named, plain_term, unary_term, binary_term, verb_name, verb_named, kind_name, kind_named, arg_kind_name, arg_kind_named};
 
-use proc_lang::Expr;
+use aria_base::Kind;
+use proc_lang::{ArgKind, Expr};
 
 /// The forms of one plain number.
 #[derive(Clone, Copy, Debug, PartialEq, Eq)]
@@ -73,6 +74,52 @@ pub const FORMS: [Form; 21] = [
     Form::MulDiv,
     Form::Front,
 ];
+
+/// What statements do.
+#[derive(Clone, Copy, Debug, PartialEq, Eq)]
+pub enum Verb {
+    Let,
+    Get,
+    Need,
+    Find,
+    Put,
+    Del,
+    If,
+    Each,
+    Give,
+    Fail,
+}
+
+/// All of them.
+pub const VERBS: [Verb; 10] = [
+    Verb::Let,
+    Verb::Get,
+    Verb::Need,
+    Verb::Find,
+    Verb::Put,
+    Verb::Del,
+    Verb::If,
+    Verb::Each,
+    Verb::Give,
+    Verb::Fail,
+];
+
+/// All kinds of values.
+pub const KINDS: [Kind; 2] = [Kind::Int, Kind::Text];
+
+/// All kinds of arguments.
+pub const ARG_KINDS: [ArgKind; 7] = [
+    ArgKind::Int,
+    ArgKind::Text,
+    ArgKind::List(1),
+    ArgKind::List(2),
+    ArgKind::List(3),
+    ArgKind::List(4),
+    ArgKind::List(5),
+];
+
+/// The number of a table whose name no table has.
+pub const NO_TABLE: u16 = 65535;
 
 impl Plain {
     /// The expression of this form.
@@ -184,4 +231,79 @@ pub fn form_named(name: &str) -> Option<Form>
         .iter()
         .copied()
         .find(|form| form.name().as_bytes() == name.as_bytes())
+}
+
+impl Verb {
+    pub fn name(self) -> &'static str
+        ensures { result.now ≡ verb_name self }
+    {
+        match self {
+            Verb::Let => "let",
+            Verb::Get => "get",
+            Verb::Need => "need",
+            Verb::Find => "find",
+            Verb::Put => "put",
+            Verb::Del => "del",
+            Verb::If => "if",
+            Verb::Each => "each",
+            Verb::Give => "give",
+            Verb::Fail => "fail",
+        }
+    }
+}
+
+/// The verb with this name.
+pub fn verb_named(name: &str) -> Option<Verb>
+    ensures { result ≡ verb_named name.now }
+{
+    VERBS
+        .iter()
+        .copied()
+        .find(|verb| verb.name().as_bytes() == name.as_bytes())
+}
+
+/// What a kind is called.
+pub fn kind_name(kind: Kind) -> &'static str
+    ensures { result.now ≡ kind_name kind }
+{
+    match kind {
+        Kind::Int => "int",
+        Kind::Text => "text",
+    }
+}
+
+/// What a kind of arguments is called.
+pub fn arg_kind_name(kind: ArgKind) -> &'static str
+    ensures { result.now ≡ arg_kind_name kind }
+{
+    match kind {
+        ArgKind::Int => "int",
+        ArgKind::Text => "text",
+        ArgKind::List(1) => "list1",
+        ArgKind::List(2) => "list2",
+        ArgKind::List(3) => "list3",
+        ArgKind::List(4) => "list4",
+        ArgKind::List(5) => "list5",
+        ArgKind::List(_) => "list",
+    }
+}
+
+/// The kind with this name.
+pub fn kind_named(name: &str) -> Option<Kind>
+    ensures { result ≡ kind_named name.now }
+{
+    KINDS
+        .iter()
+        .copied()
+        .find(|kind| kind_name(*kind).as_bytes() == name.as_bytes())
+}
+
+/// The kind of arguments with this name.
+pub fn arg_kind_named(name: &str) -> Option<ArgKind>
+    ensures { result ≡ arg_kind_named name.now }
+{
+    ARG_KINDS
+        .iter()
+        .copied()
+        .find(|kind| arg_kind_name(*kind).as_bytes() == name.as_bytes())
 }
