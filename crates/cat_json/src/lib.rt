@@ -6,6 +6,7 @@ mod names;
 mod places;
 mod statements;
 mod terms;
+mod walks;
 
 pub use faults::Fault;
 pub use places::{Member, Place};

@@ -16,7 +16,7 @@ use serde_json::Value;
 use std::alloc::Global;
 
 /// The number of the table with the name that the value says; `NO_TABLE` where no table has it.
-fn table_number(tables: &[Table], value: &Value) -> Option<u16>
+pub fn table_number(tables: &[Table], value: &Value) -> Option<u16>
     requires { length tables.now ≤ MOST_TABLES }
     ensures { result ≡ table_in tables.now (view value.now) }
 {
@@ -52,7 +52,7 @@ fn is_called(given: &Txt, name: &[u8]) -> bool
 }
 
 /// The code of a failure.
-fn code(value: &Value) -> Option<u16>
+pub fn code(value: &Value) -> Option<u16>
     ensures { result ≡ code (view value.now) }
 {
     match number_between(1, u32::from(GREATEST_CODE), value) {
@@ -62,7 +62,7 @@ fn code(value: &Value) -> Option<u16>
 }
 
 /// The numbers of an array.
-fn indexes(alloc: Global, value: &Value) -> Result<Option<Regs>, Memory>
+pub fn indexes(alloc: Global, value: &Value) -> Result<Option<Regs>, Memory>
     ensures { IfOk result (λ o. o ≡ indexes (view value.now)) }
 {
     let Some(items) = value.as_array() else {
@@ -79,7 +79,7 @@ fn indexes(alloc: Global, value: &Value) -> Result<Option<Regs>, Memory>
 }
 
 /// The expressions of the operand at this place.
-fn read_exprs(
+pub fn read_exprs(
     alloc: Global,
     place: &Place<'_>,
     at: usize,
