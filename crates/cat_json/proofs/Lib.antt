@@ -2,3 +2,4 @@ pub mod FaultReads
 pub mod Forms
 pub mod Operands
 pub mod Texts
+pub mod Verbs

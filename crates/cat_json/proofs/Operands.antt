@@ -1,5 +1,7 @@
--- Few values as the items of an array, from their number and each of them.
+-- Few values as the items of an array, from their number and each of them; and how large the rest of them is.
 use Rattle.std.proofs.Common.{◌≡◌, ℕ, ◌<◌, ◌≤◌, List, [], ◌∷◌, length, get_or, refl, arith}
+use denote.Param.Weighed.{most}
+use Rattle.serde_json.proofs.value.Value.TheLaws.{the_size}
 use Rattle.serde_json.specs.declared.value.Value.{Value}
 use Rattle.serde_json.specs.Data.{Items, no_items, item}
 use Rattle.serde_json.specs.View.{view, items_view}
@@ -29,3 +31,6 @@ four_items (r ∷ s ∷ []) w x y z low high a b c d = absurd (omega arith)
 four_items (r ∷ s ∷ t ∷ []) w x y z low high a b c d = absurd (omega arith)
 four_items (r ∷ s ∷ t ∷ u ∷ []) w x y z low high a b c d = cc
 four_items (r ∷ s ∷ t ∷ u ∷ v ∷ vs) w x y z low high a b c d = absurd (omega arith)
+
+pub most_rest : (v : Value) (vs : List Value) → most the_size vs ≤ most the_size (v ∷ vs)
+most_rest v vs = omega arith

@@ -1,5 +1,5 @@
 -- What expressions, statements and kinds are called in JSON.
-use Rattle.std.specs.Prelude.{ℕ, ◌+◌, List, [], ◌∷◌, ◌++◌, Option, codes, find, if◌then◌else◌}
+use Rattle.std.specs.Prelude.{ℕ, ◌+◌, Bool, true, false, List, [], ◌∷◌, ◌++◌, Option, codes, find, if◌then◌else◌}
 use Rattle.std.specs.Str.{bytes_eq}
 use Rattle.aria_base.specs.declared.values.Kind.{Kind}
 use Rattle.aria_base.specs.declared.values.Kind.TheVariants as kind
@@ -98,6 +98,19 @@ verb_name verb.Fail = codes "fail"
 -- the verb with this name
 abbrev pub verb_named : List ℕ → Option Verb
 verb_named name = find (λ v. bytes_eq (verb_name v) name) VERBS
+
+-- the statements of this verb hold blocks
+abbrev pub has_blocks : Verb → Bool
+has_blocks verb.Let = false
+has_blocks verb.Get = false
+has_blocks verb.Need = false
+has_blocks verb.Find = false
+has_blocks verb.Put = false
+has_blocks verb.Del = false
+has_blocks verb.If = true
+has_blocks verb.Each = true
+has_blocks verb.Give = false
+has_blocks verb.Fail = false
 
 -- ---- kinds
 
