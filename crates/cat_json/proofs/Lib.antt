@@ -1,3 +1,4 @@
+pub mod Counts
 pub mod FaultReads
 pub mod Forms
 pub mod Operands

@@ -3,7 +3,9 @@
 
 mod faults;
 mod names;
+mod objects;
 mod places;
+mod plans;
 mod statements;
 mod terms;
 mod walks;
