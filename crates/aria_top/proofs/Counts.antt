@@ -1,13 +1,11 @@
 -- A script has no more calls than it may have.
-use Rattle.std.proofs.Common.{◌≡◌, ◌+◌, ◌≤◌, ℕ, List, [], ◌∷◌, ◌++◌, length, Bool, true, false, cond, Option, Some, None, option_and_then, refl, ap, ◌∙◌, add-zero, sum_by, arith, nat_lt, ◌==◌, slice_index, ◌-◌, nat_le, ◌&&◌, take, codes, bytes_eq, length-append, lit≤}
+use Rattle.std.proofs.Common.{◌≡◌, ◌+◌, ◌≤◌, ℕ, List, [], ◌∷◌, length, Bool, true, false, cond, Option, Some, None, option_and_then, refl, arith, nat_lt, ◌==◌, slice_index, ◌-◌, nat_le, ◌&&◌, take, codes, bytes_eq, length-append, lit≤}
 use Rattle.std.proofs.lemmas.Bool.{ltb-true}
 use Rattle.std.proofs.lemmas.List.Sums.{sum_by-append}
 use Rattle.std.specs.Option.{IfSome}
 use Rattle.std.specs.List.{slice_split}
-use Rattle.aria_base.specs.declared.calls.Call.{Call}
 use Rattle.aria_top.specs.declared.lines.Item.{Item}
 use Rattle.aria_top.specs.declared.lines.Item.TheVariants as item
-use Rattle.aria_top.specs.declared.scripts.Script.{Script}
 use Rattle.aria_top.specs.declared.scripts.TheConstants.{MOST_BYTES, MOST_CALLS}
 use Rattle.aria_top.specs.Lines.{words_of, item_of}
 use Rattle.aria_top.specs.Scripts.{Draft, blank, is_head, with_item, with_lines, finished, script_by, script_of}

@@ -1,5 +1,5 @@
 -- Bytes that are no script, or the front of more than a script may have.
-use Rattle.std.proofs.Common.{◌≡◌, ◌+◌, ◌<◌, ◌≤◌, ℕ, List, [], ◌++◌, length, Bool, true, Option, Some, None, refl, sym, ap, ◌∙◌, arith, length-append, option_map, nat_le, inl, inr, Vec}
+use Rattle.std.proofs.Common.{◌≡◌, ◌+◌, ◌<◌, ◌≤◌, ℕ, List, [], ◌++◌, length, true, Option, Some, None, refl, ap, ◌∙◌, arith, length-append, inl, inr, Vec}
 use Rattle.std.specs.Option.{IfSome}
 use Rattle.std.specs.Io.KnownBytes.{Consumes, IsAtEnd}
 use Rattle.std.proofs.lemmas.Bool.{lt-leb, cases_order}

@@ -1,7 +1,7 @@
 -- What the program prints, and how it ends.
-use Rattle.std.specs.Prelude.{ℕ, ◌+◌, List, [], ◌∷◌, ◌++◌, length, sum_by, Option, Some, None, option_map, if◌then◌else◌}
+use Rattle.std.specs.Prelude.{ℕ, List, [], ◌∷◌, ◌++◌, length, sum_by, Option, Some, None, option_map, if◌then◌else◌}
 use Rattle.std.specs.FinMap as fin
-use Rattle.aria_base.specs.Orders.{key_cmp, Cells, Database}
+use Rattle.aria_base.specs.Orders.{Cells, Database}
 use Rattle.aria_base.specs.declared.keys.Key.{Key}
 use Rattle.aria_base.specs.declared.calls.Call.{Call}
 use Rattle.batch_rules.specs.declared.verdicts.Rule.TheVariants.{Plain}

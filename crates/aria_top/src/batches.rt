@@ -4,12 +4,14 @@ ghost use Rattle.batch_rules.specs.Touches.{keys_of};
 ghost use Rattle.batch_core.specs.Steps.{numbered, number_at, wait_of};
 ghost use Rattle.batch_core.specs.Outcomes.{sets_in, verdicts, reply_after, line_after, order_after};
 ghost use Rattle.batch_core.specs.Outcomes.{sets_of, decided_by, requests_of};
+ghost use Rattle.reorder.specs.declared.placements.TheConstants.{MOST_REQUESTS};
 
 use aria_base::{Call, Changes, Duplicate, Items, Keys, Memory, Request};
 use batch_core::{Decided, Line, Order, Replies, Reply, Wait};
 use dep_rules::{Cause, Rule, Sets, Verdict, decide_listed};
 use proc_exec::Outcome;
 use proc_lang::End;
+use reorder::place;
 use std::alloc::Global;
 
 /// The list of a batch: what waits, then the new calls with the next request numbers.
@@ -128,19 +130,32 @@ fn number(decided: &Vec<Decided>, tid: u32) -> u64
 
 /// The printed order.
 pub fn order_of(alloc: Global, decided: &Vec<Decided>) -> Result<Order, Memory>
+    requires { length decided.now.items ≤ MOST_REQUESTS }
     ensures { IfOk result (λ order. order ≡ order_after decided.now.items) }
 {
-    let mut order = Vec::with_capacity(alloc, decided.len())?;
+    let verdicts = verdicts_of(alloc, decided)?;
+    let tids = place(alloc, &verdicts)?;
+    numbers_of(alloc, decided, &tids)
+}
+
+/// The verdicts, in the order of the list.
+fn verdicts_of(alloc: Global, decided: &Vec<Decided>) -> Result<Vec<Verdict>, Memory>
+    ensures { IfOk result (λ verdicts. verdicts.items ≡ map (λ d. d.verdict) decided.now.items) }
+{
+    let mut verdicts = Vec::with_capacity(alloc, decided.len())?;
     for one in decided {
-        if one.verdict == (Verdict::Finish { raw: true }) {
-            order.push(one.request.q)?;
-        }
+        verdicts.push(one.verdict)?;
     }
-    order.reverse();
-    for one in decided {
-        if one.verdict == (Verdict::Finish { raw: false }) {
-            order.push(one.request.q)?;
-        }
+    Ok(verdicts)
+}
+
+/// The numbers of the requests at these places of the list.
+fn numbers_of(alloc: Global, decided: &Vec<Decided>, tids: &Vec<u32>) -> Result<Order, Memory>
+    ensures { IfOk result (λ order. order ≡ map (number_at (requests_of decided.now.items)) tids.now.items) }
+{
+    let mut order = Vec::with_capacity(alloc, tids.len())?;
+    for tid in tids {
+        order.push(number(decided, *tid))?;
     }
     Ok(Items::from_vec(order))
 }

@@ -7,6 +7,7 @@ ghost use Rattle.batch_core.specs.Outcomes.{installed, waiting_after};
 ghost use Rattle.aria_top.specs.Bank.{bank, bank_run};
 ghost use Rattle.aria_top.specs.Engines.{state_of, executed_at};
 ghost use Rattle.aria_top.specs.Out.{handed};
+ghost use Rattle.reorder.specs.declared.placements.TheConstants.{MOST_REQUESTS};
 
 use crate::bank::Routine;
 use crate::batches::{decide_all, lines_of, number_calls, order_of};
@@ -36,7 +37,7 @@ pub fn run_batch(
 ) -> Result<(Engine, Answer), Memory>
     requires routines { routines.now ≡ bank }
     requires room { length engine.waiting.items ≤ engine.requests }
-    requires numbers { engine.requests + length calls.items < 2 ^ 32 }
+    requires numbers { engine.requests + length calls.items ≤ MOST_REQUESTS }
     requires batches { engine.batches + 1 < 2 ^ 64 }
     ensures state { IfOk result (λ r. state_of r.0 ≡ step bank_run (state_of engine) (handed calls.items)) }
     ensures answer { IfOk result (λ r. r.1 ≡ answer bank_run (state_of engine) (handed calls.items)) }

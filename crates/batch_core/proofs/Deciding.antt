@@ -16,7 +16,8 @@ use Rattle.batch_rules.specs.Verdicts.{waits}
 use Rattle.batch_rules.specs.Batches.{Judged, judge, judged}
 use Rattle.batch_core.specs.declared.decided.Decided.{Decided}
 use Rattle.batch_core.specs.Steps.{State}
-use Rattle.batch_core.specs.Outcomes.{sets_in, sets_of, decided_by, requests_of, verdicts, outcome_at, waiting_after}
+use Rattle.proc_exec.specs.Outcomes.{outcome_at}
+use Rattle.batch_core.specs.Outcomes.{sets_in, sets_of, decided_by, requests_of, verdicts, waiting_after}
 use Rattle.batch_core.proofs.Judging.{verdicts-judged, requests-judged, decided_of, decided_in}
 
 module _ (tree : Request → Tree Key Cells End) where

@@ -26,7 +26,8 @@ use Rattle.batch_rules.proofs.Lates.{map_from-never}
 use Rattle.batch_core.specs.declared.answers.Reply.TheVariants as reply
 use Rattle.batch_core.specs.declared.decided.Decided.{Decided}
 use Rattle.batch_core.specs.Steps.{line_of, reply_of, State, Handed, list_of, step, answer}
-use Rattle.batch_core.specs.Outcomes.{sets_in, verdicts, outcome_at, line_after, reply_after, order_after, waiting_after, installed}
+use Rattle.proc_exec.specs.Outcomes.{outcome_at}
+use Rattle.batch_core.specs.Outcomes.{sets_in, verdicts, line_after, reply_after, order_after, waiting_after, installed}
 
 map-reverse_aux : {A B : Type 0} (f : A → B) (xs ys : List A) → map f (reverse_aux xs ys) ≡ reverse_aux (map f xs) (map f ys)
 map-reverse_aux f [] ys = refl

@@ -60,8 +60,3 @@ waiting_after ds = map (λ d. d.request) (filter (λ d. waits d.verdict) ds)
 abbrev pub installed : Database → List Decided → Database
 installed rows [] = rows
 installed rows (d ∷ ds) = installed (if finishes d.verdict then overwritten rows d.outcome.writes else rows) ds
-
-module _ (tree : Request → Tree Key Cells End) where
-  -- what the execution phase gives of a request on the start
-  abbrev pub outcome_at : Database → Request → Outcome
-  outcome_at start q = record { reads = reads_at is_done tree start q; writes = rows_at is_done tree start q; end = end_of (tree q) start }

@@ -1,6 +1,6 @@
 -- What is a text: fronts of two texts joined, and printed numbers.
-use Rattle.std.proofs.Common.{◌≡◌, ℕ, ◌<◌, ◌≤◌, ◌+◌, ◌^◌, List, [], ◌∷◌, ◌++◌, length, length-append, take, min, true, false, refl, arith, Bool, not, Some, ap}
-use Rattle.std.specs.Prelude.{zero, suc, slice_index_or, slice_index}
+use Rattle.std.proofs.Common.{◌≡◌, ℕ, ◌<◌, ◌≤◌, ◌+◌, List, ◌∷◌, ◌++◌, length, length-append, take, true, refl, arith, not, Some}
+use Rattle.std.specs.Prelude.{zero, suc, slice_index_or}
 use Rattle.std.specs.declared.result.Result.TheVariants.{Ok}
 use Rattle.std.specs.List.{All, position}
 use Rattle.std.specs.Fmt.{decimal, IsBoundedDecimal}

@@ -1,4 +1,6 @@
 pub mod Endings
 pub mod Faults
+pub mod Lates
 pub mod Limits
+pub mod Outcomes
 pub mod Steppings

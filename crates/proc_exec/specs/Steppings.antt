@@ -1,5 +1,5 @@
 -- What the steps of the interpreter say of the run that the meaning gives. Want of memory says nothing, here and below.
-use Rattle.std.specs.Prelude.{◌≡◌, ◌+◌, Bool, true, false, nat_lt, List, [], ◌∷◌, ◌++◌, length, Option, Result}
+use Rattle.std.specs.Prelude.{◌≡◌, ◌+◌, true, false, nat_lt, [], ◌∷◌, ◌++◌, length, Option, Result}
 use Rattle.std.specs.declared.result.Result.TheVariants.{Ok, Err}
 use Rattle.std.specs.FinMap as fin
 use Rattle.aria_base.specs.Orders.{key_cmp, Cells}

@@ -1,18 +1,25 @@
-//! The interpreter of procedures: it runs a body for a request through any window on a database.
+//! The interpreter of procedures: it runs a request of a catalogue through any window on a database.
 //!
-//! The end of a run is that of the body's tree of accesses on the window's map, and what the window
+//! The end of a run is that of the request's tree of accesses on the window's map, and what the window
 //! notes is what that tree touches. One interpreter serves both a run without limits and a run again
 //! within declared keys, which stops before its first access outside them.
+//!
+//! In `specs/`: `Endings` says what a run through a window comes to, `Outcomes` what one on a snapshot
+//! does, and `Lates` what the late fold of a batch is over the types here.
 #![tactic(auto)]
 
 pub mod evaluations;
 pub mod frames;
+pub mod interpretations;
 pub mod limits;
 pub mod numbers;
 pub mod outcomes;
 pub mod runs;
 pub mod stops;
+#[cfg(test)]
+mod tests;
 pub mod texts;
 
+pub use interpretations::{interpret, interpret_within};
 pub use outcomes::{Declared, Late, Outcome, Ran, Waiting, Within};
-pub use runs::{run_body, run_body_within};
+pub use runs::run_body;

@@ -219,7 +219,7 @@ pub fn run_body<A: Access>(
 /// The same within declared keys: the run stops before its first access that they do not allow, and
 /// names its key. Nothing is said of the window then.
 #[tactic(auto, using(crate::proofs::Ended::ends_within))]
-pub fn run_body_within<A: Access>(
+pub(crate) fn run_body_within<A: Access>(
     alloc: Global,
     body: &Block,
     registers: &Kinds,

@@ -14,6 +14,8 @@ pub mod expressions;
 pub mod flaws;
 pub mod procs;
 pub mod statements;
+#[cfg(test)]
+mod tests;
 
 pub use accesses::Access;
 pub use catalogs::{

@@ -1,8 +1,8 @@
 -- The rows of all shards, sorted by their keys, are the entries of the map.
-use Rattle.std.proofs.Common.{◌≡◌, ℕ, zero, suc, ◌+◌, ◌<◌, List, [], ◌∷◌, ◌++◌, length, Option, Some, None, Bool, cond, true, false, ◌&&◌, ◌||◌, refl, sym, ap, subst, ◌∙◌, map, arith}
+use Rattle.std.proofs.Common.{◌≡◌, ℕ, suc, ◌+◌, ◌<◌, List, [], ◌∷◌, ◌++◌, length, Some, None, Bool, cond, true, false, ◌&&◌, refl, sym, ap, subst, ◌∙◌, map, arith}
 use Rattle.std.specs.Prelude.{T, slice_index_or}
 use Rattle.std.specs.Option.{IsSome, option_or}
-use Rattle.std.specs.List.{AllByRecursion, IsDistinct, slice_get, Contains}
+use Rattle.std.specs.List.{AllByRecursion, IsDistinct, Contains}
 use Rattle.std.specs.List.Sorted.{IsStrictlySortedBy, IsPermutation, IsSortedBy}
 use Rattle.std.specs.Map.{keys_of, lookup}
 use Rattle.std.specs.Cmp.{eq_by_cmp_equiv}
@@ -18,14 +18,14 @@ use Rattle.std.proofs.lemmas.List.Sorted.{IsPermutation-map, IsPermutation-sym, 
 use Rattle.std.proofs.lemmas.Map.Entries.{place_from_lookup, lookup_from_place, length-keys_of}
 use Rattle.std.proofs.lemmas.Map.Keys.{IsDistinct-IsPermutation, IsDistinct-head, IsDistinct-tail, IsDistinct-cons, apart_from_distinct, sorted_from_all_adjacent}
 use Rattle.std.proofs.lemmas.Option.{get_or_from_slice_get, slice_get-get_or, slice_get_within}
-use Rattle.aria_base.specs.Orders.{key_cmp, Cells, Database}
+use Rattle.aria_base.specs.Orders.{key_cmp, Cells}
 use Rattle.aria_base.specs.declared.keys.Key.{Key}
-use Rattle.aria_base.proofs.Orders.{key_cmp_total, key_cmp-IsAntisymmetric}
-use Rattle.tbl_rows.specs.Shards.{home, Piece, IsOwn, AllOwn, IsWhole, joined}
+use Rattle.aria_base.proofs.Orders.{key_cmp_total}
+use Rattle.tbl_rows.specs.Shards.{home, Piece, AllOwn, IsWhole, joined}
 use Rattle.aria_base.proofs.Orders.{derived_cmp, derived-is}
 use Rattle.tbl_rows.proofs.Entries.{entries-is}
 use Rattle.tbl_rows.proofs.Owned.{same_key}
-use Rattle.tbl_rows.proofs.Together.{listed, find-append, AllNumberedFrom, later, own_later, past, find-listed}
+use Rattle.tbl_rows.proofs.Together.{listed, find-append, AllNumberedFrom, later, own_later, past}
 
 abbrev Entries : Type 0
 Entries = List (Key × Cells)

@@ -1,11 +1,11 @@
 -- The keys of a shard belong to it, whatever is put and deleted.
-use Rattle.std.proofs.Common.{◌≡◌, ◌≢◌, ℕ, List, Option, Some, None, cond, true, false, refl, sym, ap, subst, ◌∙◌}
+use Rattle.std.proofs.Common.{◌≡◌, ℕ, Some, None, cond, true, false, refl, ap, subst, ◌∙◌}
 use Rattle.std.specs.Option.{IsSome}
 use Rattle.std.specs.Ordering.{eq_by_cmp, is_eq}
 use Rattle.std.specs.declared.cmp.Ordering.{Ordering}
 use Rattle.std.specs.declared.cmp.Ordering.TheVariants.{Less, Equal, Greater}
 use Rattle.std.specs.FinMap as fin
-use Rattle.aria_base.specs.Orders.{key_cmp, Cells, Database}
+use Rattle.aria_base.specs.Orders.{key_cmp, Cells}
 use Rattle.aria_base.specs.declared.keys.Key.{Key}
 use Rattle.aria_base.proofs.Orders.{key_cmp_total, key_cmp-IsAntisymmetric}
 use Rattle.tbl_rows.specs.Shards.{home, Piece, IsOwn, with_row, without_row, bare}

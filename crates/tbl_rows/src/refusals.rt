@@ -1,4 +1,6 @@
 // What a call that found no memory hands back.
+ghost use Rattle.std.specs.Prelude.{Some, codes};
+
 use aria_base::{Key, Memory, Row};
 use std::error::Error;
 use std::fmt;
@@ -11,6 +13,8 @@ pub struct Refused {
 }
 
 impl fmt::Display for Refused {
+    ghost output = { λ _. Some (codes "no memory for a row") };
+
     fn fmt<W: fmt::Write>(&self, f: &mut fmt::Formatter<W>) -> fmt::Result {
         f.write_str("no memory for a row")
     }

@@ -19,3 +19,6 @@ pub mod snapshots;
 
 pub use overlays::Overlay;
 pub use snapshots::Snapshot;
+
+#[cfg(test)]
+mod tests;

@@ -1,6 +1,6 @@
 // Whole scripts against answers worked out by hand.
 use crate::{DONE, READ_FAULT, REFUSED, USAGE, WRITE_FAULT, aria};
-use aria_base::{MemSink, MemSource};
+use aria_base::{MemSink, MemSource, Memory};
 use std::alloc::Global;
 use std::test::Fail;
 
@@ -11,136 +11,163 @@ const RING: &str = "tx copy 1 2\ntx copy 2 3\ntx copy 3 1\nend 1\n";
 const RING_ANSWER: &str =
     "batch 1\n1 ok 10\n2 wait raw 1\n3 wait raw 2\norder 1\nend 1\nstate 1\nrow acct 1 = 10\nrow acct 2 = 10\nrow acct 3 = 30\nend state\n";
 
-/// A run: its words and its input, in pieces of how many bytes, and which calls of the source and of
-/// the sink fail.
+/// A run: its words, the two parts of its script, how many bytes the source gives at a time, and
+/// which call of the source and of the sink fails, 0 for none.
 #[derive(Clone, Copy)]
 struct Case<'a> {
-    words: &'a [&'a str],
-    input: &'a str,
+    words: &'a str,
+    head: &'a str,
+    batches: &'a str,
     piece: usize,
-    source_fails: &'a [u64],
-    sink_fails: &'a [u64],
+    failing_take: u64,
+    failing_give: u64,
+}
+
+/// The bank of three accounts with these batches, by the plain rule and with no fault.
+fn plain(batches: &str, piece: usize) -> Case<'_> {
+    Case {
+        words: "once --rule plain",
+        head: HEAD,
+        batches,
+        piece,
+        failing_take: 0,
+        failing_give: 0,
+    }
 }
 
 /// The status of a run, and what it wrote.
-fn run(alloc: Global, case: &Case) -> Result<(u8, Vec<u8>), Fail> {
+fn run(alloc: Global, case: &Case) -> Result<(u8, Vec<u8>), Memory> {
     let mut words = Vec::new(alloc);
-    for word in case.words {
-        words.push(word.to_string(alloc)?)?;
+    for word in case.words.split(' ') {
+        words.push(String::from_str(alloc, word)?)?;
     }
-    let fails = case.source_fails.to_vec(alloc)?;
-    let mut input = MemSource::new(
-        case.input.as_bytes().to_vec(alloc)?,
-        case.piece.max(1),
-        fails,
-    );
-    let mut out = MemSink::new(alloc, 1000, case.sink_fails.to_vec(alloc)?)?;
+    let mut script = Vec::from_slice(alloc, case.head.as_bytes())?;
+    script.extend_from_slice(case.batches.as_bytes())?;
+    let fails = Vec::from_array(alloc, [case.failing_take])?;
+    let mut input = MemSource::new(script, case.piece.max(1), fails);
+    let fails = Vec::from_array(alloc, [case.failing_give])?;
+    let mut out = MemSink::new(alloc, 1000, fails)?;
     let status = aria(alloc, &words, &mut input, &mut out);
-    Ok((status, out.bytes().to_vec(alloc)?))
+    Ok((status, Vec::from_slice(alloc, out.bytes())?))
 }
 
-fn plain<'a>(input: &'a str, piece: usize) -> Case<'a> {
-    Case {
-        words: &["once", "--rule", "plain"],
-        input,
-        piece,
-        source_fails: &[],
-        sink_fails: &[],
+/// Whether the run ends in this status and has written these bytes.
+fn ends(alloc: Global, case: &Case, status: u8, output: &str) -> bool {
+    match run(alloc, case) {
+        Ok((ending, bytes)) => ending == status && bytes.as_slice() == output.as_bytes(),
+        Err(Memory) => false,
     }
-}
-
-/// The head and these batches, in one text.
-fn with_head(alloc: Global, batches: &str) -> Result<String, Fail> {
-    let mut script = HEAD.to_string(alloc)?;
-    script.push_str(batches)?;
-    Ok(script)
 }
 
 #[test]
-fn scripts_are_answered_by_the_plain_rule(rt: HostRuntime) -> Result<(), Fail> {
-    let alloc = rt.alloc();
+fn batches_are_answered_by_the_plain_rule(rt: HostRuntime) -> Result<(), Fail> {
     let cases = [
-        (RING, RING_ANSWER),
+        (HEAD, RING, RING_ANSWER),
         (
+            HEAD,
             "tx add 1 5\ntx add 1 7\nend 1\nend 2\n",
             "batch 1\n1 ok 15\n2 wait waw 1\norder 1\nend 1\nbatch 2\n2 ok 22\norder 2\nend 2\nstate 2\nrow acct 1 = 22\nrow acct 2 = 20\nrow acct 3 = 30\nend state\n",
         ),
         (
+            HEAD,
             "tx drop 9\ntx set 9 4\nend 1\n",
             "batch 1\n1 ok\n2 wait waw 1\norder 1\nend 1\nstate 1\nrow acct 1 = 10\nrow acct 2 = 20\nrow acct 3 = 30\nend state\n",
         ),
         (
+            HEAD,
             "tx add 9 1\nend 1\n",
             "batch 1\n1 back 1\norder 1\nend 1\nstate 1\nrow acct 1 = 10\nrow acct 2 = 20\nrow acct 3 = 30\nend state\n",
         ),
+        (
+            "catalog bank\nrow acct 1 = 9223372036854775807\n",
+            "tx add 1 1\nend 1\n",
+            "batch 1\n1 trap overflow\norder 1\nend 1\nstate 1\nrow acct 1 = 9223372036854775807\nend state\n",
+        ),
+        (
+            HEAD,
+            "end 1\ntx add 1 -1\ntx copy 2 5\ntx set 6 7\ntx sum 2 3\ntx hop 2 8\ntx drop 3\ntx set -9223372036854775808 9\nend 2\n",
+            "batch 1\norder\nend 1\nbatch 2\n1 ok 9\n2 ok 20\n3 ok 7\n4 ok 50\n5 ok 8\n6 ok\n7 ok 9\norder 1 2 3 4 5 6 7\nend 2\nstate 2\nrow acct -9223372036854775808 = 9\nrow acct 1 = 9\nrow acct 2 = 20\nrow acct 5 = 20\nrow acct 6 = 7\nrow acct 20 = 8\nend state\n",
+        ),
     ];
-    for (batches, answer) in cases {
-        let script = with_head(alloc, batches)?;
-        for piece in [1, 7, 5000] {
-            let (status, bytes) = run(alloc, &plain(script.as_str(), piece))?;
-            assert!(rt; status == DONE, "at {batches:?}");
-            assert!(rt; bytes.as_slice() == answer.as_bytes(), "at {batches:?}");
+    for (head, batches, answer) in cases {
+        for piece in [1, 7] {
+            let case = Case {
+                head,
+                ..plain(batches, piece)
+            };
+            assert!(rt; ends(rt.alloc(), &case, DONE, answer), "at {batches:?}");
         }
     }
     Ok(())
 }
 
 #[test]
-fn sum_out_of_range_is_a_trap(rt: HostRuntime) -> Result<(), Fail> {
-    let alloc = rt.alloc();
-    let script = "catalog bank\nrow acct 1 = 9223372036854775807\ntx add 1 1\nend 1\n";
-    let answer =
-        "batch 1\n1 trap overflow\norder 1\nend 1\nstate 1\nrow acct 1 = 9223372036854775807\nend state\n";
-    let (status, bytes) = run(alloc, &plain(script, 7))?;
-    assert!(rt; status == DONE);
-    assert!(rt; bytes.as_slice() == answer.as_bytes());
-    Ok(())
-}
-
-#[test]
-fn other_inputs_and_words_are_refused(rt: HostRuntime) -> Result<(), Fail> {
-    let alloc = rt.alloc();
-    let ring = with_head(alloc, RING)?;
-    let cut = with_head(alloc, "tx copy 1 2\ntx copy 2 3\ntx copy 3 1\nend 1")?;
-    let (status, bytes) = run(alloc, &plain(cut.as_str(), 7))?;
-    assert!(rt; status == REFUSED);
-    assert!(rt; bytes.as_slice() == b"refused form\n".as_slice());
-    let case = Case {
-        words: &["once"],
-        ..plain(ring.as_str(), 7)
-    };
-    let (status, bytes) = run(alloc, &case)?;
-    assert!(rt; status == USAGE);
-    assert!(rt; bytes.as_slice() == b"refused usage\n".as_slice());
-    let joined = Case {
-        words: &["once", "--rule=plain"],
-        ..plain(ring.as_str(), 7)
-    };
-    let (status, bytes) = run(alloc, &joined)?;
-    assert!(rt; status == DONE);
-    assert!(rt; bytes.as_slice() == RING_ANSWER.as_bytes());
-    Ok(())
-}
-
-#[test]
-fn faults_end_the_run(rt: HostRuntime) -> Result<(), Fail> {
-    let alloc = rt.alloc();
-    let ring = with_head(alloc, RING)?;
-    for failing in [1, 2] {
-        let case = Case {
-            source_fails: &[failing],
-            ..plain(ring.as_str(), 7)
-        };
-        let (status, bytes) = run(alloc, &case)?;
-        assert!(rt; status == READ_FAULT);
-        assert!(rt; bytes.is_empty());
+fn refusals_and_faults_end_the_run(rt: HostRuntime) {
+    let ring = plain(RING, 7);
+    let cut = "tx copy 1 2\ntx copy 2 3\ntx copy 3 1\nend 1";
+    let cases = [
+        (plain(cut, 7), REFUSED, "refused form\n"),
+        (
+            Case {
+                words: "once --rule=plain",
+                ..ring
+            },
+            DONE,
+            RING_ANSWER,
+        ),
+        (
+            Case {
+                failing_take: 1,
+                ..ring
+            },
+            READ_FAULT,
+            "",
+        ),
+        (
+            Case {
+                failing_take: 2,
+                ..ring
+            },
+            READ_FAULT,
+            "",
+        ),
+        (
+            Case {
+                failing_give: 1,
+                ..ring
+            },
+            WRITE_FAULT,
+            "",
+        ),
+        // The output is given in one call.
+        (
+            Case {
+                failing_give: 2,
+                ..ring
+            },
+            DONE,
+            RING_ANSWER,
+        ),
+    ];
+    for (case, status, output) in cases {
+        assert!(rt; ends(rt.alloc(), &case, status, output), "at {status}");
     }
-    let case = Case {
-        sink_fails: &[1],
-        ..plain(ring.as_str(), 7)
-    };
-    let (status, bytes) = run(alloc, &case)?;
-    assert!(rt; status == WRITE_FAULT);
-    assert!(rt; bytes.is_empty());
-    Ok(())
+}
+
+/// Words that are no command, in lines.
+const NO_COMMANDS: &str =
+    "once\nonce --rule reorder\nonce --rule=plain plain\nonce plain --rule\nrun --rule plain\n--rule plain once\n";
+
+#[test]
+fn other_words_are_refused(rt: HostRuntime) {
+    for words in NO_COMMANDS.split('\n') {
+        let case = Case {
+            words,
+            ..plain(RING, 7)
+        };
+        assert!(rt;
+            ends(rt.alloc(), &case, USAGE, "refused usage\n"),
+            "at {words:?}"
+        );
+    }
 }

@@ -1,12 +1,11 @@
-use Rattle.std.proofs.Common.{rules, ◌≡◌, refl, ap, sym, ◌∙◌, suc, ◌+◌, ◌<◌, ◌≤◌, ◌++◌, [], ◌∷◌, length, map, List, arith, length-append, ℕ}
+use Rattle.std.proofs.Common.{rules, ◌≡◌, refl, ap, sym, ◌∙◌, suc, ◌+◌, ◌++◌, [], ◌∷◌, length, map, List, arith, length-append, ℕ}
 use Rattle.std.proofs.lemmas.List.{length-map}
-use Rattle.aria_base.specs.Orders.{Database}
 use Rattle.aria_base.specs.declared.calls.Call.{Call}
 use Rattle.aria_base.specs.declared.calls.Request.{Request}
 use Rattle.proc_exec.specs.declared.outcomes.Outcome.{Outcome}
 use Rattle.batch_rules.specs.declared.verdicts.Rule.TheVariants.{Plain}
 use Rattle.batch_core.specs.declared.decided.Decided.{Decided}
-use Rattle.batch_core.specs.Steps.{State, numbered, list_of, step, answer}
+use Rattle.batch_core.specs.Steps.{State, numbered, list_of}
 use Rattle.batch_core.specs.Outcomes.{decided_by, sets_of, verdicts, requests_of, installed, waiting_after, line_after, order_after}
 use Rattle.batch_core.proofs.Judging.{decided_in, step-plain}
 use Rattle.batch_core.proofs.Deciding.{decided-is, requests-decided, few_wait}
@@ -34,6 +33,18 @@ decided : (state : State) (calls : List Call) (list : List Request) (executed : 
     → list ≡ list_of state (handed calls) → executed ≡ map (executed_at state.rows) list → ds ≡ decided_by executed (verdicts Plain [] (sets_of executed))
     → ds ≡ decided_in bank_run Plain state (list_of state (handed calls))
 decided state calls list executed ds l e d = d ∙ rw (e, l) (decided-is bank_run Plain state (list_of state (handed calls)))
+
+pub order_of-requires : goal.order_of-requires
+order_of-requires c =
+    let state = state_of c.args.engine in
+    let calls = c.args.calls.items in
+    let list = list_of state (handed calls) in
+    let ds = decided_in bank_run Plain state list in
+    let same : c.in_ok-decided.decided.items ≡ ds =
+    decided state calls c.in_ok-list.list.items c.in_ok-executed.executed.items c.in_ok-decided.decided.items c.in_ok-list.ensures c.in_ok-executed.ensures c.in_ok-decided.ensures in
+    let size : length ds ≡ length c.args.engine.waiting.items + length calls =
+    sym (length-map ds (λ d. d.request)) ∙ ap length (requests-decided bank_run Plain state list) ∙ long c.args.engine.waiting.items c.args.engine.requests calls in
+    omega (arith, ap length same, size, c.requires.room, c.requires.numbers)
 
 pub returns-clause-state : goal.returns-clause-state
 returns-clause-state c =

@@ -1,5 +1,4 @@
 use Rattle.std.proofs.Common.{◌≡◌}
-use Rattle.std.specs.FinMap as fin
 use Rattle.std.specs.Vec.Iter.{into_iter_items}
 use Rattle.aria_top.specs.Out.{rows_from}
 use Rattle.aria_top.proofs.runs.load.Given as goal

@@ -1,6 +1,6 @@
-use Rattle.std.proofs.Common.{◌≡◌, ◌<◌, refl, suc, drop, length, drop-cons, arith, List, rules}
+use Rattle.std.proofs.Common.{◌<◌, suc, drop, length, drop-cons, arith, rules}
 use Rattle.std.proofs.lemmas.List.{drop_all}
-use Rattle.proc_lang.specs.Meaning.{Next, for_each, steps_run}
+use Rattle.proc_lang.specs.Meaning.{for_each, steps_run}
 use Rattle.proc_exec.proofs.runs.+running.Goals as goal
 
 -- the rest of the tuples is what comes next

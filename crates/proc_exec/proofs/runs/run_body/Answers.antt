@@ -1,4 +1,3 @@
-use Rattle.std.proofs.Common.{◌≡◌}
 use Rattle.proc_lang.specs.Meaning.{script}
 use Rattle.proc_exec.proofs.Ended.{ends_as, never_strays}
 use Rattle.proc_exec.proofs.runs.run_body.Goals as goal

@@ -1,4 +1,4 @@
-use Rattle.std.proofs.Common.{◌≡◌, sym, ap, subst, ◌∙◌}
+use Rattle.std.proofs.Common.{ap, ◌∙◌}
 use Rattle.std.specs.Option.{is_some}
 use Rattle.tbl_rows.proofs.Together.{get-at_home, IsWhole-put, joined-deleted}
 use Rattle.tbl_rows.proofs.tables.Tables.delete.Goals as goal

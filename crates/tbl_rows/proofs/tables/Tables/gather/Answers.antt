@@ -1,6 +1,5 @@
-use Rattle.std.proofs.Common.{ℕ, ◌<◌, ap, arith, length}
-use Rattle.std.specs.Prelude.{slice_index_or}
-use Rattle.tbl_rows.specs.Shards.{Piece, IsOwn, IsWhole}
+use Rattle.std.proofs.Common.{ap, arith, length}
+use Rattle.tbl_rows.specs.Shards.{IsWhole}
 use Rattle.tbl_rows.proofs.Together.{get-joined}
 use Rattle.tbl_rows.proofs.tables.Tables.gather.Goals as goal
 

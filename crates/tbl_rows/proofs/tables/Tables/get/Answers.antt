@@ -1,4 +1,4 @@
-use Rattle.std.proofs.Common.{sym, ◌∙◌}
+use Rattle.std.proofs.Common.{◌∙◌}
 use Rattle.tbl_rows.proofs.Together.{get-at_home}
 use Rattle.tbl_rows.proofs.tables.Tables.get.Goals as goal
 

@@ -1,6 +1,5 @@
-use Rattle.std.proofs.Common.{◌≡◌, sym, ap, subst, ◌∙◌}
+use Rattle.std.proofs.Common.{◌∙◌}
 use Rattle.std.proofs.lemmas.Result.{on_ok_weaker}
-use Rattle.tbl_rows.specs.Shards.{IsWhole}
 use Rattle.tbl_rows.proofs.Together.{IsWhole-put, joined-put}
 use Rattle.tbl_rows.proofs.tables.Tables.put.Goals as goal
 

@@ -1,4 +1,4 @@
-use Rattle.std.proofs.Common.{◌≡◌, ◌++◌, List, [], rules, sym, ap, map, drop, ◌∙◌}
+use Rattle.std.proofs.Common.{◌≡◌, ◌++◌, [], rules, sym, ap, map, drop, ◌∙◌}
 use Rattle.std.proofs.lemmas.List.{drop_all, append-nil}
 use Rattle.std.proofs.lemmas.List.Sorted.{ranks_by, answers_always}
 use Rattle.std.specs.Map.Iter.{deref_pair}

@@ -1,5 +1,4 @@
-use Rattle.std.proofs.Common.{sym, ap, ◌∙◌}
-use Rattle.std.specs.FinMap as fin
+use Rattle.std.proofs.Common.{sym}
 use Rattle.tbl_rows.proofs.Together.{get-joined}
 use Rattle.tbl_rows.proofs.tables.Tables.split.Goals as goal
 

@@ -1,0 +1,61 @@
+// What a request of a catalogue does through a window.
+ghost use Rattle.std.specs.Prelude.{◌≡◌, IfOk, []};
+ghost use Rattle.proc_lang.specs.Catalogs.{run_of};
+ghost use Rattle.proc_lang.specs.declared.ends.End.TheVariants as end;
+ghost use Rattle.proc_exec.specs.Endings.{EndsAs, EndsWithin};
+ghost use Rattle.proc_exec.specs.Limits.{touchable};
+
+use crate::outcomes::{Declared, Ran};
+use crate::runs::{run_body, run_body_within};
+use aria_base::{Memory, Request};
+use proc_lang::{Access, Catalog, End, Gives};
+use std::alloc::Global;
+
+/// Runs a request through the window: its end, or want of memory. A request of no procedure does
+/// nothing and is done. The window then stands for the map as the run has it at its end, before a
+/// `Back` or a `Trap` puts the old map back, and has noted what the run touches: the keys that it
+/// reads before it writes them, and the keys that it writes. After want of memory nothing is said of
+/// the window.
+pub fn interpret<A: Access>(
+    alloc: Global,
+    catalog: &Catalog,
+    request: &Request,
+    access: &mut A,
+) -> Result<End, Memory>
+    ensures { IfOk result (EndsAs (run_of catalog.now request.now) (A.seen access.old) (A.seen access.new)) }
+{
+    match catalog.procs().get(usize::from(request.call.proc)) {
+        Some(checked) => {
+            let proc = checked.proc();
+            run_body(alloc, &proc.body, &proc.regs, request, access)
+        }
+        None => Ok(nothing_given(alloc)),
+    }
+}
+
+/// The same within declared keys: the run stops before its first access that they do not allow, and
+/// names its key. Nothing is said of the window then, nor after want of memory.
+pub fn interpret_within<A: Access>(
+    alloc: Global,
+    catalog: &Catalog,
+    request: &Request,
+    declared: &Declared,
+    access: &mut A,
+) -> Result<Ran, Memory>
+    ensures { IfOk result (EndsWithin (touchable declared.now) (run_of catalog.now request.now) (A.seen access.old) (A.seen access.new)) }
+{
+    match catalog.procs().get(usize::from(request.call.proc)) {
+        Some(checked) => {
+            let proc = checked.proc();
+            run_body_within(alloc, &proc.body, &proc.regs, request, declared, access)
+        }
+        None => Ok(Ran::Ended(nothing_given(alloc))),
+    }
+}
+
+/// The end of a run that does nothing.
+fn nothing_given(alloc: Global) -> End
+    ensures { result ≡ end.Done [] }
+{
+    End::Done(Gives::from_vec(Vec::new(alloc)))
+}

@@ -1,0 +1,9 @@
+mod Accesses
+mod Examples
+mod Expressions
+mod Lists
+mod Registers
+mod Results
+pub mod Runs
+mod Statements
+mod Trees

@@ -1,0 +1,2 @@
+pub mod Careful
+pub mod Laws
