@@ -1,7 +1,7 @@
 -- What follows where a reading gives something.
-use Rattle.std.proofs.Common.{◌≡◌, ℕ, ◌≤◌, List, Option, Some, None, Bool, true, false, cond, Result, option_map, refl, arith}
+use Rattle.std.proofs.Common.{◌≡◌, ℕ, ◌≤◌, ◌<◌, List, Option, Some, None, Bool, true, false, cond, Result, option_map, refl, ap, arith}
 use Rattle.std.specs.declared.result.Result.TheVariants.{Ok, Err}
-use Rattle.std.specs.Prelude.{option_and_then, nat_le}
+use Rattle.std.specs.Prelude.{option_and_then, nat_le, nat_lt}
 use Rattle.std.proofs.lemmas.Grind.{common_steps}
 use Rattle.proc_lang.specs.declared.procs.PathPart.{PathPart}
 use Rattle.proc_lang.specs.declared.catalogs.TheConstants.{DEEPEST_EXPR, MOST_STATEMENTS}
@@ -16,7 +16,9 @@ bind_ok (Ok x) go y h = (x, refl, h)
 bind_ok (Err p) go y h = absurd (cc h)
 
 pub both_ok : {A B : Type 0} (g : Shaped A) (h : Shaped B) (x : A) (y : B) → both g h ≡ Ok (x, y) → (g ≡ Ok x) × (h ≡ Ok y)
-both_ok (Ok x) (Ok y) a b e = (cc e, cc e)
+both_ok {A} {B} (Ok x) (Ok y) a b e =
+    let p : ◌≡◌ {A = A × B} (x, y) (a, b) = cc e in
+    (ap (λ (q : A × B). Ok q.0) p, ap (λ (q : A × B). Ok q.1) p)
 both_ok (Ok x) (Err q) a b e = absurd (cc e)
 both_ok (Err p) h a b e = absurd (cc e)
 
@@ -42,4 +44,10 @@ pub number_ok : (low high n m : ℕ) → number_within low high n ≡ Some m →
 number_ok low high n m h = tested (is_between low high n) refl h where
   tested : (b : Bool) → is_between low high n ≡ b → cond b (Some n) None ≡ Some m → (n ≡ m) × (is_between low high m ≡ true)
   tested true e h = let same : n ≡ m = cc h in (same, rw (← same) e)
+  tested false e h = absurd (cc h)
+
+pub with_room_ok : {A : Type 0} (body : List PathPart) (seen : ℕ) (s : Shaped A) (x : A) → with_room body seen s ≡ Ok x → (seen < MOST_STATEMENTS) × (s ≡ Ok x)
+with_room_ok body seen s x h = tested (nat_lt seen MOST_STATEMENTS) refl h where
+  tested : (b : Bool) → nat_lt seen MOST_STATEMENTS ≡ b → cond b s (Err body) ≡ Ok x → (seen < MOST_STATEMENTS) × (s ≡ Ok x)
+  tested true e h = (grind (arith, common_steps, e), h)
   tested false e h = absurd (cc h)

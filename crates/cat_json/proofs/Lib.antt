@@ -3,6 +3,8 @@ pub mod Counts
 pub mod FaultReads
 pub mod Forms
 pub mod Operands
+pub mod PlanLimits
+pub mod StepLimits
 pub mod TermLimits
 pub mod Texts
 pub mod Verbs
