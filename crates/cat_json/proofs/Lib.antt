@@ -4,6 +4,7 @@ pub mod FaultReads
 pub mod Forms
 pub mod Operands
 pub mod PlanLimits
+pub mod Sealings
 pub mod StepLimits
 pub mod TermLimits
 pub mod Texts

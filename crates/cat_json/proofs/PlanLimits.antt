@@ -2,7 +2,7 @@
 use Rattle.std.proofs.Common.{◌≡◌, ℕ, ◌+◌, ◌≤◌, List, [], ◌∷◌, ◌++◌, length, map, Option, Some, None, Bool, true, false, cond, Result, refl, subst, ap, sym, ◌∙◌, arith, length-append}
 use Rattle.std.specs.declared.result.Result.TheVariants.{Ok, Err}
 use Rattle.std.specs.Prelude.{option_and_then, ◌&&◌, ◌||◌, not, nat_le, find}
-use Rattle.std.specs.List.{list_all, list_any}
+use Rattle.std.specs.List.{All, list_all, list_any}
 use Rattle.std.specs.Str.{bytes_eq}
 use Rattle.std.proofs.lemmas.List.Folds.{list_all-append}
 use Rattle.std.proofs.lemmas.Bool.Decides.{same_from_decides}
@@ -210,3 +210,17 @@ plan_limits d plan h =
       few_tables = omega (arith, t.1, tl);
       few_procs = omega (arith, p.1, pl);
     })
+
+-- and with the typing it is one
+pub is_catalog : (d : Data) (plan : Plan) → plan_of d ≡ Ok plan → All (IsWellTyped plan.tables) plan.procs → IsCatalog plan
+is_catalog d plan h typed =
+    let l = plan_limits d plan h in
+    record {
+      few_tables = l.few_tables;
+      few_procs = l.few_procs;
+      tables_fit = l.tables.fit;
+      procs_fit = l.procs.fit;
+      table_names = l.tables.names;
+      proc_names = l.procs.names;
+      typed = typed;
+    }

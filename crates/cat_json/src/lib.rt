@@ -6,9 +6,11 @@ mod names;
 mod objects;
 mod places;
 mod plans;
+mod readers;
+mod refusals;
 mod statements;
 mod terms;
 mod walks;
 
-pub use faults::Fault;
-pub use places::{Member, Place};
+pub use readers::read_catalog;
+pub use refusals::CatRefused;
