@@ -54,9 +54,9 @@ items_bounded : (low high : ℕ) (d : Data) (ds : Items) → items_between low h
 items_bounded low high d ds h =
     let a = chained_ok (λ ds. cond (is_between low high (items_len ds)) (Some ds) None) (as_array d) ds h in
     tested a.0 (is_between low high (items_len a.0)) refl a.2 where
-  tested : (es : Items) (b : Bool) → is_between low high (items_len es) ≡ b → cond b (Some es) None ≡ Some ds → is_between low high (items_len ds) ≡ true
-  tested es true e h = let same : es ≡ ds = cc h in subst (λ es. is_between low high (items_len es) ≡ true) same e
-  tested es false e h = absurd (cc h)
+      tested : (es : Items) (b : Bool) → is_between low high (items_len es) ≡ b → cond b (Some es) None ≡ Some ds → is_between low high (items_len ds) ≡ true
+      tested es true e h = let same : es ≡ ds = cc h in subst (λ es. is_between low high (items_len es) ≡ true) same e
+      tested es false e h = absurd (cc h)
 
 module _ {A : Type 0} (named : List ℕ → Option A) (fits : A → Bool) (all_fit : (s : List ℕ) (x : A) → named s ≡ Some x → fits x ≡ true) where
   named_fit : (path : List PathPart) (at : ℕ) (done : List A) (ds : Items) (xs : List A) → list_all fits done ≡ true → named_after named path at done ds ≡ Ok xs → (list_all fits xs ≡ true) × (length xs ≡ length done + items_len ds)

@@ -33,8 +33,20 @@ fn read_table(
         return Err(fault_at(alloc, place));
     };
     let name = read_name(alloc, &Place::Member(place, Member::Name), earlier, name)?;
-    let key: Kinds = read_named(alloc, &Place::Member(place, Member::Key), 1, MOST_KEY_PARTS, key)?;
-    let cols: Kinds = read_named(alloc, &Place::Member(place, Member::Cols), 0, MOST_COLUMNS, cols)?;
+    let key: Kinds = read_named(
+        alloc,
+        &Place::Member(place, Member::Key),
+        1,
+        MOST_KEY_PARTS,
+        key,
+    )?;
+    let cols: Kinds = read_named(
+        alloc,
+        &Place::Member(place, Member::Cols),
+        0,
+        MOST_COLUMNS,
+        cols,
+    )?;
     Ok(Table { name, key, cols })
 }
 
@@ -66,13 +78,31 @@ fn read_proc(
     ensures { Reads (λ p. p) result
         (proc_at tables.now (path_of place.now) (map (λ p. p.name) earlier.now) (view value.now)) }
 {
-    let members = four_members(value, Member::Name, Member::Args, Member::Regs, Member::Body);
+    let members = four_members(
+        value,
+        Member::Name,
+        Member::Args,
+        Member::Regs,
+        Member::Body,
+    );
     let Some((name, args, regs, body)) = members else {
         return Err(fault_at(alloc, place));
     };
     let name = read_name(alloc, &Place::Member(place, Member::Name), earlier, name)?;
-    let args: ArgKinds = read_named(alloc, &Place::Member(place, Member::Args), 0, MOST_ARGS, args)?;
-    let regs: Kinds = read_named(alloc, &Place::Member(place, Member::Regs), 0, MOST_REGS, regs)?;
+    let args: ArgKinds = read_named(
+        alloc,
+        &Place::Member(place, Member::Args),
+        0,
+        MOST_ARGS,
+        args,
+    )?;
+    let regs: Kinds = read_named(
+        alloc,
+        &Place::Member(place, Member::Regs),
+        0,
+        MOST_REGS,
+        regs,
+    )?;
     let body = read_body(alloc, tables, &Place::Member(place, Member::Body), body)?;
     Ok(Proc {
         name,

@@ -40,11 +40,7 @@ pub fn read_catalog(alloc: Global, text: &[u8]) -> Result<Catalog, CatRefused>
 }
 
 /// The procedures sealed one by one, or the first that is not well typed.
-fn sealed(
-    alloc: Global,
-    procs: Vec<Proc>,
-    schema: &Schema,
-) -> Result<Vec<Checked>, CatRefused>
+fn sealed(alloc: Global, procs: Vec<Proc>, schema: &Schema) -> Result<Vec<Checked>, CatRefused>
     requires fit { list_all proc_fits procs.items ≡ true }
     requires few { length procs.items ≤ MOST_PROCS }
     ensures sealed { IfOk result (λ done. done.items ≡ procs.items) }

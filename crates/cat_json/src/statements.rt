@@ -39,9 +39,7 @@ fn number_of(tables: &[Table], name: &[u8]) -> u16
 fn place_of(tables: &[Table], name: &[u8]) -> Option<usize>
     ensures { result ≡ position (λ t. bytes_eq t.name name.now) tables.now }
 {
-    tables
-        .iter()
-        .position(|table| is_called(&table.name, name))
+    tables.iter().position(|table| is_called(&table.name, name))
 }
 
 /// Whether the name is this one.

@@ -126,12 +126,7 @@ fn form_of(name: &Value) -> Option<Form>
 }
 
 /// The expression of the form without operands.
-fn read_alone(
-    alloc: Global,
-    place: &Place<'_>,
-    level: usize,
-    form: Form,
-) -> Result<Expr, Fault>
+fn read_alone(alloc: Global, place: &Place<'_>, level: usize, form: Form) -> Result<Expr, Fault>
     ensures { Reads term_of result (form_at (path_of place.now) level (Some form) no_items) }
 {
     match form {
@@ -203,7 +198,7 @@ fn read_three(
     requires { level ≤ DEEPEST_EXPR }
     ensures { Reads term_of result
         (form_at (path_of place.now) level (Some form)
-            (item (view x.now) (item (view y.now) (item (view z.now) no_items)))) }
+        (item (view x.now) (item (view y.now) (item (view z.now) no_items)))) }
 {
     match form {
         Form::MulDiv => {
@@ -234,7 +229,7 @@ fn read_both(
     requires { level ≤ DEEPEST_EXPR }
     ensures { Reads (λ ab. (term_of ab.0.value, term_of ab.1.value)) result
         (both (term_at (in_item (path_of place.now) 1) (level + 1) (view x.now))
-            (term_at (in_item (path_of place.now) 2) (level + 1) (view y.now))) }
+        (term_at (in_item (path_of place.now) 2) (level + 1) (view y.now))) }
 {
     let x = read_operand(alloc, place, level, 1, x)?;
     Ok((x, read_operand(alloc, place, level, 2, y)?))

@@ -61,7 +61,7 @@ fn read_registers(
 ) -> Result<(u16, Exprs, Regs), Fault>
     ensures { Reads (λ r. ((r.0, r.1), r.2)) result
         (read_at walk.now.tables.now (path_of place.now) (view table.now) (view key.now)
-            (view registers.now)) }
+        (view registers.now)) }
 {
     let (table, key) = read_row(walk, place, table, key)?;
     let Some(registers) = indexes(walk.alloc, registers)? else {
@@ -79,7 +79,7 @@ fn read_let(
 ) -> Result<Stmt, Fault>
     ensures { (seen : ℕ) → Reads (λ s. (step_of s, seen)) result
         (verb_at walk.now.tables.now (path_of walk.now.body.now) (path_of place.now) seen (Some verb.Let)
-            (item (view register.now) (item (view value.now) no_items))) }
+        (item (view register.now) (item (view value.now) no_items))) }
 {
     let Some(register) = index(register) else {
         return Err(fault_at(walk.alloc, place));
@@ -98,7 +98,7 @@ fn read_get(
 ) -> Result<Stmt, Fault>
     ensures { (seen : ℕ) → Reads (λ s. (step_of s, seen)) result
         (verb_at walk.now.tables.now (path_of walk.now.body.now) (path_of place.now) seen (Some verb.Get)
-            (item (view table.now) (item (view key.now) (item (view registers.now) no_items)))) }
+        (item (view table.now) (item (view key.now) (item (view registers.now) no_items)))) }
 {
     let (table, key, registers) = read_registers(walk, place, table, key, registers)?;
     Ok(Stmt::Get(table, key, registers))
@@ -115,7 +115,7 @@ fn read_need(
 ) -> Result<Stmt, Fault>
     ensures { (seen : ℕ) → Reads (λ s. (step_of s, seen)) result
         (verb_at walk.now.tables.now (path_of walk.now.body.now) (path_of place.now) seen (Some verb.Need)
-            (item (view table.now) (item (view key.now) (item (view registers.now) (item (view failure.now) no_items))))) }
+        (item (view table.now) (item (view key.now) (item (view registers.now) (item (view failure.now) no_items))))) }
 {
     let (table, key, registers) = read_registers(walk, place, table, key, registers)?;
     let Some(failure) = code(failure) else {
@@ -135,7 +135,7 @@ fn read_find(
 ) -> Result<Stmt, Fault>
     ensures { (seen : ℕ) → Reads (λ s. (step_of s, seen)) result
         (verb_at walk.now.tables.now (path_of walk.now.body.now) (path_of place.now) seen (Some verb.Find)
-            (item (view table.now) (item (view key.now) (item (view registers.now) (item (view flag.now) no_items))))) }
+        (item (view table.now) (item (view key.now) (item (view registers.now) (item (view flag.now) no_items))))) }
 {
     let (table, key, registers) = read_registers(walk, place, table, key, registers)?;
     let Some(flag) = index(flag) else {
@@ -154,7 +154,7 @@ fn read_put(
 ) -> Result<Stmt, Fault>
     ensures { (seen : ℕ) → Reads (λ s. (step_of s, seen)) result
         (verb_at walk.now.tables.now (path_of walk.now.body.now) (path_of place.now) seen (Some verb.Put)
-            (item (view table.now) (item (view key.now) (item (view columns.now) no_items)))) }
+        (item (view table.now) (item (view key.now) (item (view columns.now) no_items)))) }
 {
     let (table, key) = read_row(walk, place, table, key)?;
     let columns = read_exprs(walk.alloc, place, 3, columns)?;
@@ -162,15 +162,10 @@ fn read_put(
 }
 
 /// `del`: a table and a key.
-fn read_del(
-    walk: &Walk<'_>,
-    place: &Place<'_>,
-    table: &Value,
-    key: &Value,
-) -> Result<Stmt, Fault>
+fn read_del(walk: &Walk<'_>, place: &Place<'_>, table: &Value, key: &Value) -> Result<Stmt, Fault>
     ensures { (seen : ℕ) → Reads (λ s. (step_of s, seen)) result
         (verb_at walk.now.tables.now (path_of walk.now.body.now) (path_of place.now) seen (Some verb.Del)
-            (item (view table.now) (item (view key.now) no_items))) }
+        (item (view table.now) (item (view key.now) no_items))) }
 {
     let (table, key) = read_row(walk, place, table, key)?;
     Ok(Stmt::Del(table, key))
@@ -180,7 +175,7 @@ fn read_del(
 fn read_give(walk: &Walk<'_>, place: &Place<'_>, value: &Value) -> Result<Stmt, Fault>
     ensures { (seen : ℕ) → Reads (λ s. (step_of s, seen)) result
         (verb_at walk.now.tables.now (path_of walk.now.body.now) (path_of place.now) seen (Some verb.Give)
-            (item (view value.now) no_items)) }
+        (item (view value.now) no_items)) }
 {
     let value = read_expr(walk.alloc, &Place::Item(place, 1), 1, value)?;
     Ok(Stmt::Give(value))
@@ -190,7 +185,7 @@ fn read_give(walk: &Walk<'_>, place: &Place<'_>, value: &Value) -> Result<Stmt, 
 fn read_fail(walk: &Walk<'_>, place: &Place<'_>, failure: &Value) -> Result<Stmt, Fault>
     ensures { (seen : ℕ) → Reads (λ s. (step_of s, seen)) result
         (verb_at walk.now.tables.now (path_of walk.now.body.now) (path_of place.now) seen (Some verb.Fail)
-            (item (view failure.now) no_items)) }
+        (item (view failure.now) no_items)) }
 {
     match code(failure) {
         Some(failure) => Ok(Stmt::Fail(failure)),
@@ -208,7 +203,7 @@ fn read_flat(
     requires { has_blocks verb ≡ false }
     ensures { (seen : ℕ) → Reads (λ s. (step_of s, seen)) result
         (verb_at walk.now.tables.now (path_of walk.now.body.now) (path_of place.now) seen (Some verb)
-            (items_view operands.now)) }
+        (items_view operands.now)) }
 {
     match operands {
         [] => Err(fault_at(walk.alloc, place)),
@@ -224,7 +219,7 @@ fn read_flat(
 fn read_one(walk: &Walk<'_>, place: &Place<'_>, verb: Verb, x: &Value) -> Result<Stmt, Fault>
     ensures { (seen : ℕ) → Reads (λ s. (step_of s, seen)) result
         (verb_at walk.now.tables.now (path_of walk.now.body.now) (path_of place.now) seen (Some verb)
-            (item (view x.now) no_items)) }
+        (item (view x.now) no_items)) }
 {
     match verb {
         Verb::Give => read_give(walk, place, x),
@@ -244,7 +239,7 @@ fn read_two(
     requires { has_blocks verb ≡ false }
     ensures { (seen : ℕ) → Reads (λ s. (step_of s, seen)) result
         (verb_at walk.now.tables.now (path_of walk.now.body.now) (path_of place.now) seen (Some verb)
-            (item (view x.now) (item (view y.now) no_items))) }
+        (item (view x.now) (item (view y.now) no_items))) }
 {
     match verb {
         Verb::Let => read_let(walk, place, x, y),
@@ -265,7 +260,7 @@ fn read_three(
     requires { has_blocks verb ≡ false }
     ensures { (seen : ℕ) → Reads (λ s. (step_of s, seen)) result
         (verb_at walk.now.tables.now (path_of walk.now.body.now) (path_of place.now) seen (Some verb)
-            (item (view x.now) (item (view y.now) (item (view z.now) no_items)))) }
+        (item (view x.now) (item (view y.now) (item (view z.now) no_items)))) }
 {
     match verb {
         Verb::Get => read_get(walk, place, x, y, z),
@@ -286,7 +281,7 @@ fn read_four(
 ) -> Result<Stmt, Fault>
     ensures { (seen : ℕ) → Reads (λ s. (step_of s, seen)) result
         (verb_at walk.now.tables.now (path_of walk.now.body.now) (path_of place.now) seen (Some verb)
-            (item (view w.now) (item (view x.now) (item (view y.now) (item (view z.now) no_items))))) }
+        (item (view w.now) (item (view x.now) (item (view y.now) (item (view z.now) no_items))))) }
 {
     match verb {
         Verb::Need => read_need(walk, place, w, x, y, z),
@@ -313,7 +308,7 @@ fn read_stmt(
 ) -> Result<(Stmt, usize), Fault>
     ensures { Reads (λ s. (step_of s.0, s.1)) result
         (step_at walk.now.tables.now (path_of walk.now.body.now) (path_of place.now) seen
-            (view value.now)) }
+        (view value.now)) }
 {
     match value {
         Value::Array(items) => read_statement(walk, place, seen, items),
@@ -331,7 +326,7 @@ fn read_statement(
 ) -> Result<(Stmt, usize), Fault>
     ensures { Reads (λ s. (step_of s.0, s.1)) result
         (statement_at walk.now.tables.now (path_of walk.now.body.now) (path_of place.now) seen
-            (items_view items.now.items)) }
+        (items_view items.now.items)) }
 {
     let Some((name, operands)) = items.split_first() else {
         return Err(fault_at(walk.alloc, place));
@@ -353,7 +348,7 @@ fn read_verb(
 ) -> Result<(Stmt, usize), Fault>
     ensures { Reads (λ s. (step_of s.0, s.1)) result
         (verb_at walk.now.tables.now (path_of walk.now.body.now) (path_of place.now) seen (Some verb)
-            (items_view operands.now)) }
+        (items_view operands.now)) }
 {
     match verb {
         Verb::If => read_if(walk, place, seen, operands),
@@ -375,7 +370,7 @@ fn read_if(
 ) -> Result<(Stmt, usize), Fault>
     ensures { Reads (λ s. (step_of s.0, s.1)) result
         (verb_at walk.now.tables.now (path_of walk.now.body.now) (path_of place.now) seen (Some verb.If)
-            (items_view operands.now)) }
+        (items_view operands.now)) }
 {
     let [test, first, second] = operands else {
         return Err(fault_at(walk.alloc, place));
@@ -405,7 +400,7 @@ fn read_each(
 ) -> Result<(Stmt, usize), Fault>
     ensures { Reads (λ s. (step_of s.0, s.1)) result
         (verb_at walk.now.tables.now (path_of walk.now.body.now) (path_of place.now) seen (Some verb.Each)
-            (items_view operands.now)) }
+        (items_view operands.now)) }
 {
     let [list, block] = operands else {
         return Err(fault_at(walk.alloc, place));
@@ -429,7 +424,7 @@ fn read_block(
 ) -> Result<(Block, usize), Fault>
     ensures { Reads (λ b. (b.0, b.1)) result
         (block_at walk.now.tables.now (path_of walk.now.body.now) (path_of place.now) at seen
-            (view value.now)) }
+        (view value.now)) }
 {
     match value {
         Value::Array(items) => read_steps(walk, &Place::Item(&*place, at), seen, items),
@@ -447,7 +442,7 @@ fn read_steps(
 ) -> Result<(Block, usize), Fault>
     ensures { Reads (λ b. (b.0, b.1)) result
         (steps_after walk.now.tables.now (path_of walk.now.body.now) (path_of place.now) 0 seen []
-            (items_view items.now.items)) }
+        (items_view items.now.items)) }
 {
     let mut seen = seen;
     let mut stmts = Vec::with_capacity(walk.alloc, items.len())?;

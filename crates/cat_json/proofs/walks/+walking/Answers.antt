@@ -27,9 +27,9 @@ read_statement-read_verb-requires t c =
 
 pub read_each-returns-in_default : goal.read_each-returns-in_default
 read_each-returns-in_default t c = reads_fault (λ (s : Stmt × ℕ). (step_of s.0, s.1)) (path_of c.args.place.now) c.fault_at.result _ c.fault_at.ensures (other_than_two c.args.walk.now.tables.now (path_of c.args.walk.now.body.now) (path_of c.args.place.now) c.args.seen c.args.operands.now (elim c.in_default.branch [
-      read_each-in_default-via-then-operands-lt2 w ↦ inl (grind (arith, common_steps))
-    | read_each-in_default-via-else-operands-lt2+else-operands-lt3 w ↦ inr (grind (arith, common_steps))
-    ]))
+  | read_each-in_default-via-then-operands-lt2 w ↦ inl (grind (arith, common_steps))
+  | read_each-in_default-via-else-operands-lt2+else-operands-lt3 w ↦ inr (grind (arith, common_steps))
+]))
 
 pub read_each-returns-in_err-block : goal.read_each-returns-in_err-block
 read_each-returns-in_err-block t c =
@@ -43,9 +43,9 @@ read_each-returns t c =
 
 pub read_if-returns-in_default : goal.read_if-returns-in_default
 read_if-returns-in_default t c = reads_fault (λ (s : Stmt × ℕ). (step_of s.0, s.1)) (path_of c.args.place.now) c.fault_at.result _ c.fault_at.ensures (other_than_three c.args.walk.now.tables.now (path_of c.args.walk.now.body.now) (path_of c.args.place.now) c.args.seen c.args.operands.now (elim c.in_default.branch [
-      read_if-in_default-via-then-operands-lt3 w ↦ inl (grind (arith, common_steps))
-    | read_if-in_default-via-else-operands-lt3+else-operands-lt4 w ↦ inr (grind (arith, common_steps))
-    ]))
+  | read_if-in_default-via-then-operands-lt3 w ↦ inl (grind (arith, common_steps))
+  | read_if-in_default-via-else-operands-lt3+else-operands-lt4 w ↦ inr (grind (arith, common_steps))
+]))
 
 pub read_if-returns-in_err-first : goal.read_if-returns-in_err-first
 read_if-returns-in_err-first t c =
