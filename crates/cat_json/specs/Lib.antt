@@ -1,0 +1,10 @@
+pub mod Members
+pub mod Names
+pub mod Places
+pub mod PlanWalks
+pub mod Refusals
+pub mod Sealings
+pub mod Shapes
+pub mod StepWalks
+pub mod TermWalks
+pub mod Texts

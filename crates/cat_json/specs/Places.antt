@@ -1,0 +1,21 @@
+-- Places in a catalogue's JSON.
+use Rattle.std.specs.Prelude.{ℕ, ◌^◌, ◌-◌, List, [], ◌∷◌, ◌++◌, min}
+use Rattle.proc_lang.specs.declared.procs.PathPart.{PathPart}
+use Rattle.proc_lang.specs.declared.procs.PathPart.TheVariants as part
+use Rattle.cat_json.specs.declared.places.Member.{Member}
+use Rattle.cat_json.specs.declared.places.Place.{Place}
+use Rattle.cat_json.specs.declared.places.Place.TheVariants.{Root, Member', Item'}
+use Rattle.cat_json.specs.Members.{member_name}
+
+-- a member of the object at the path
+abbrev pub in_member : List PathPart → Member → List PathPart
+in_member path member = path ++ part.Member (member_name member) ∷ []
+
+-- an item of the array at the path, from 0; a path counts no further than its numbers go
+abbrev pub in_item : List PathPart → ℕ → List PathPart
+in_item path at = path ++ part.Place (min at (2 ^ 32 - 1)) ∷ []
+
+abbrev pub path_of : Place → List PathPart
+path_of Root = []
+path_of (Member' p before member) = in_member (path_of before) member
+path_of (Item' p before at) = in_item (path_of before) at
