@@ -1,5 +1,5 @@
 -- What follows where a reading gives something.
-use Rattle.std.proofs.Common.{◌≡◌, ℕ, ◌≤◌, ◌<◌, List, Option, Some, None, Bool, true, false, cond, Result, option_map, refl, ap, arith}
+use Rattle.std.proofs.Common.{◌≡◌, ℕ, ◌≤◌, ◌<◌, List, Option, Some, None, Bool, true, false, cond, option_map, refl, ap, arith}
 use Rattle.std.specs.declared.result.Result.TheVariants.{Ok, Err}
 use Rattle.std.specs.Prelude.{option_and_then, nat_le, nat_lt}
 use Rattle.std.proofs.lemmas.Grind.{common_steps}

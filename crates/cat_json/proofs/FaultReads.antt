@@ -1,6 +1,6 @@
 -- A reader that answers the fault of a path.
-use Rattle.std.proofs.Common.{◌≡◌, List, Result, ◌∙◌, ap, sym}
-use Rattle.std.specs.declared.result.Result.TheVariants.{Ok, Err}
+use Rattle.std.proofs.Common.{◌≡◌, List, ◌∙◌, ap, sym}
+use Rattle.std.specs.declared.result.Result.TheVariants.{Err}
 use Rattle.proc_lang.specs.declared.procs.PathPart.{PathPart}
 use Rattle.cat_json.specs.declared.faults.Fault.{Fault}
 use Rattle.cat_json.specs.declared.faults.Fault.TheVariants as fault

@@ -2,10 +2,15 @@ pub mod Binds
 pub mod Counts
 pub mod FaultReads
 pub mod Forms
+pub mod NoFloats
 pub mod Operands
 pub mod PlanLimits
+pub mod PlansAgain
 pub mod Sealings
+pub mod Soundness
 pub mod StepLimits
+pub mod StepsAgain
 pub mod TermLimits
+pub mod TermsAgain
 pub mod Texts
 pub mod Verbs

@@ -1,9 +1,9 @@
 -- Few values as the items of an array, from their number and each of them; and how large the rest of them is.
-use Rattle.std.proofs.Common.{◌≡◌, ℕ, ◌<◌, ◌≤◌, List, [], ◌∷◌, length, get_or, refl, arith}
+use Rattle.std.proofs.Common.{◌≡◌, ◌<◌, ◌≤◌, List, [], ◌∷◌, length, get_or, arith}
 use denote.Param.Weighed.{most}
 use Rattle.serde_json.proofs.value.Value.TheLaws.{the_size}
 use Rattle.serde_json.specs.declared.value.Value.{Value}
-use Rattle.serde_json.specs.Data.{Items, no_items, item}
+use Rattle.serde_json.specs.Data.{no_items, item}
 use Rattle.serde_json.specs.View.{view, items_view}
 
 pub one_item : (vs : List Value) (x : Value) → 1 ≤ length vs → length vs < 2 → x ≡ get_or vs 0 x → items_view vs ≡ item (view x) no_items

@@ -1,10 +1,11 @@
 -- What the walk reads as a catalogue is within the limits, under names of its own.
-use Rattle.std.proofs.Common.{◌≡◌, ℕ, ◌+◌, ◌≤◌, List, [], ◌∷◌, ◌++◌, length, map, Option, Some, None, Bool, true, false, cond, Result, refl, subst, ap, sym, ◌∙◌, arith, length-append}
-use Rattle.std.specs.declared.result.Result.TheVariants.{Ok, Err}
+use Rattle.std.proofs.Common.{◌≡◌, ℕ, ◌+◌, ◌≤◌, List, [], ◌∷◌, ◌++◌, length, map, Option, Some, None, Bool, true, false, cond, refl, subst, ap, sym, arith, length-append}
+use Rattle.std.specs.declared.result.Result.TheVariants.{Ok}
 use Rattle.std.specs.Prelude.{option_and_then, ◌&&◌, ◌||◌, not, nat_le, find}
 use Rattle.std.specs.List.{All, list_all, list_any}
 use Rattle.std.specs.Str.{bytes_eq}
 use Rattle.std.proofs.lemmas.List.Folds.{list_all-append}
+use Rattle.std.proofs.lemmas.List.{map-append}
 use Rattle.std.proofs.lemmas.Bool.Decides.{same_from_decides}
 use Rattle.std.proofs.lemmas.Slice.Eq.{bytes_eq-Decides}
 use Rattle.std.proofs.lemmas.Grind.{common_steps}
@@ -18,14 +19,14 @@ use Rattle.proc_lang.specs.declared.procs.ArgKind.{ArgKind}
 use Rattle.proc_lang.specs.declared.procs.PathPart.{PathPart}
 use Rattle.proc_lang.specs.declared.procs.Proc.{Proc}
 use Rattle.proc_lang.specs.declared.catalogs.TheConstants.{MOST_TABLES, MOST_PROCS, MOST_KEY_PARTS, MOST_COLUMNS, MOST_ARGS, MOST_REGS, MOST_STATEMENTS}
-use Rattle.proc_lang.specs.Catalogs.{Plan, IsCatalog, is_between, arg_kind_fits, table_fits, proc_fits, steps_fit, steps_count, distinct}
+use Rattle.proc_lang.specs.Catalogs.{Plan, IsCatalog, is_between, arg_kind_fits, table_fits, proc_fits, steps_count, distinct}
 use Rattle.proc_lang.specs.Typing.{IsWellTyped}
 use Rattle.cat_json.specs.declared.names.TheConstants.{ARG_KINDS}
 use Rattle.cat_json.specs.declared.places.Member.TheVariants.{Tables, Procs, Name, Key, Cols, Args, Regs, Body}
 use Rattle.cat_json.specs.Names.{kind_named, arg_kind_named, arg_kind_name}
 use Rattle.cat_json.specs.Places.{in_member, in_item}
-use Rattle.cat_json.specs.Shapes.{◌>>=◌, at_path}
-use Rattle.cat_json.specs.PlanWalks.{two_members, three_members, four_members, new_word, name_at, items_between, named_after, named_at, table_at, tables_after, tables_at, proc_at, procs_after, procs_at, plan_at, plan_of}
+use Rattle.cat_json.specs.Shapes.{at_path}
+use Rattle.cat_json.specs.PlanWalks.{two_members, three_members, four_members, new_word, name_at, items_between, named_after, named_at, table_at, tables_after, tables_at, proc_at, procs_after, procs_at, plan_of}
 use Rattle.cat_json.specs.StepWalks.{body_at}
 use Rattle.cat_json.proofs.Binds.{bind_ok, at_path_ok, chained_ok}
 use Rattle.cat_json.proofs.StepLimits.{body_fits}
@@ -91,7 +92,7 @@ arg_kind_ok s k h = find_passes (λ k. bytes_eq (arg_kind_name k) s) arg_kind_fi
 
 -- ---- names of their own
 
-bytes_eq-sym : (xs ys : List ℕ) → bytes_eq xs ys ≡ bytes_eq ys xs
+pub bytes_eq-sym : (xs ys : List ℕ) → bytes_eq xs ys ≡ bytes_eq ys xs
 bytes_eq-sym xs ys =
     let d = bytes_eq-Decides xs ys in
     let e = bytes_eq-Decides ys xs in
@@ -112,10 +113,6 @@ distinct-last (n ∷ names) new h e = tested (list_any (bytes_eq n) names) (byte
   tested false false f g h e rest = rw (list_any-last n names new f g, rest h e)
   tested true b f g h e rest = absurd (cc h)
   tested false true f g h e rest = absurd (cc e)
-
-map-last : {A B : Type 0} (f : A → B) (xs : List A) (x : A) → map f (xs ++ x ∷ []) ≡ map f xs ++ f x ∷ []
-map-last f [] x = refl
-map-last f (y ∷ ys) x = ap (λ zs. f y ∷ zs) (map-last f ys x)
 
 -- ---- tables
 
@@ -143,7 +140,7 @@ tables_ok path at done no_items ts a h =
 tables_ok path at done (item d ds) ts a h =
     let b = bind_ok (table_at (in_item path at) (map (λ t. t.name) done) d) _ ts h in
     let t = table_ok (in_item path at) (map (λ t. t.name) done) d b.0 b.1 in
-    let more : AreTables (done ++ b.0 ∷ []) = record { fit = rw (list_all-append table_fits done (b.0 ∷ []), a.fit, t.0); names = rw (map-last (λ (t : Table). t.name) done b.0) (distinct-last (map (λ (t : Table). t.name) done) b.0.name a.names t.1) } in
+    let more : AreTables (done ++ b.0 ∷ []) = record { fit = rw (list_all-append table_fits done (b.0 ∷ []), a.fit, t.0); names = rw (map-append (λ (t : Table). t.name) done (b.0 ∷ [])) (distinct-last (map (λ (t : Table). t.name) done) b.0.name a.names t.1) } in
     let rest = tables_ok path (at + 1) (done ++ b.0 ∷ []) ds ts more b.2 in
     (rest.0, omega (arith, rest.1, length-append done (b.0 ∷ [])))
 
@@ -177,7 +174,7 @@ procs_ok tables path at done no_items ps a h =
 procs_ok tables path at done (item d ds) ps a h =
     let b = bind_ok (proc_at tables (in_item path at) (map (λ p. p.name) done) d) _ ps h in
     let t = proc_ok tables (in_item path at) (map (λ p. p.name) done) d b.0 b.1 in
-    let more : AreProcs (done ++ b.0 ∷ []) = record { fit = rw (list_all-append proc_fits done (b.0 ∷ []), a.fit, t.0); names = rw (map-last (λ (p : Proc). p.name) done b.0) (distinct-last (map (λ (p : Proc). p.name) done) b.0.name a.names t.1) } in
+    let more : AreProcs (done ++ b.0 ∷ []) = record { fit = rw (list_all-append proc_fits done (b.0 ∷ []), a.fit, t.0); names = rw (map-append (λ (p : Proc). p.name) done (b.0 ∷ [])) (distinct-last (map (λ (p : Proc). p.name) done) b.0.name a.names t.1) } in
     let rest = procs_ok tables path (at + 1) (done ++ b.0 ∷ []) ds ps more b.2 in
     (rest.0, omega (arith, rest.1, length-append done (b.0 ∷ [])))
 

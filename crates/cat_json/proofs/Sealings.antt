@@ -1,10 +1,9 @@
 -- The procedures that are left, where the first of them is well typed.
-use Rattle.std.proofs.Common.{◌≡◌, ℕ, ◌+◌, List, ◌∷◌, Bool, true, false, Result, refl, arith, rules}
+use Rattle.std.proofs.Common.{◌≡◌, ℕ, ◌+◌, List, ◌∷◌, Bool, true, false, Result, refl, rules}
 use Rattle.std.specs.declared.result.Result.TheVariants.{Ok, Err}
 use Rattle.std.specs.Prelude.{◌&&◌, Option}
 use Rattle.std.specs.List.{list_all}
 use Rattle.std.specs.Result.{IsOk}
-use Rattle.std.proofs.lemmas.Grind.{common_steps}
 use Rattle.aria_base.specs.declared.schemas.Table.{Table}
 use Rattle.proc_lang.specs.declared.flaws.Wrong.{Wrong}
 use Rattle.proc_lang.specs.declared.procs.Proc.{Proc}

@@ -1,7 +1,7 @@
 -- What the walk reads as a body is within the limits.
-use Rattle.std.proofs.Common.{◌≡◌, ℕ, ◌+◌, ◌≤◌, ◌<◌, List, [], ◌∷◌, ◌++◌, Option, Some, Bool, true, Result, refl, subst, arith}
-use Rattle.std.specs.declared.result.Result.TheVariants.{Ok, Err}
-use Rattle.std.specs.Prelude.{option_and_then, ◌&&◌, nat_le}
+use Rattle.std.proofs.Common.{◌≡◌, ℕ, ◌+◌, ◌≤◌, List, [], ◌∷◌, ◌++◌, Option, Some, true, Result, refl, subst, arith}
+use Rattle.std.specs.declared.result.Result.TheVariants.{Ok}
+use Rattle.std.specs.Prelude.{option_and_then, ◌&&◌}
 use Rattle.std.specs.List.{list_all}
 use Rattle.std.proofs.lemmas.Grind.{common_steps}
 use Rattle.aria_base.specs.declared.schemas.Table.{Table}
@@ -10,16 +10,16 @@ use Rattle.serde_json.specs.Find.{as_str, as_array}
 use Rattle.proc_lang.specs.declared.procs.PathPart.{PathPart}
 use Rattle.proc_lang.specs.declared.catalogs.TheConstants.{MOST_STATEMENTS, GREATEST_CODE}
 use Rattle.proc_lang.specs.Terms.{Term}
-use Rattle.proc_lang.specs.Steps.{Step, Steps, NoMore, More, Let, Get, Need, Find, Put, Del, If, Each, Give, Fail}
+use Rattle.proc_lang.specs.Steps.{Step, Steps, NoMore, Let, Get, Need, Find, Put, Del, If, Each, Give, Fail}
 use Rattle.proc_lang.specs.Syntax.{in_turn}
 use Rattle.proc_lang.specs.Catalogs.{term_fits, code_fits, step_fits, steps_fit, step_count, steps_count}
 use Rattle.cat_json.specs.declared.names.Verb.{Verb}
 use Rattle.cat_json.specs.declared.names.Verb.TheVariants as verb
 use Rattle.cat_json.specs.Names.{verb_named}
 use Rattle.cat_json.specs.Places.{in_item}
-use Rattle.cat_json.specs.Shapes.{◌>>=◌, at_path, index}
-use Rattle.cat_json.specs.TermWalks.{term_at, terms_after}
-use Rattle.cat_json.specs.StepWalks.{table_in, code, indexes, terms_at, row_at, read_at, step_at, statement_at, verb_at, block_at, steps_after, with_room, body_at}
+use Rattle.cat_json.specs.Shapes.{at_path, index}
+use Rattle.cat_json.specs.TermWalks.{term_at}
+use Rattle.cat_json.specs.StepWalks.{table_in, code, indexes, terms_at, row_at, read_at, step_at, statement_at, verb_at, block_at, steps_after, body_at}
 use Rattle.cat_json.proofs.Binds.{bind_ok, at_path_ok, with_room_ok}
 use Rattle.cat_json.proofs.TermLimits.{term_limits, terms_limits, number_bounds}
 

@@ -1,7 +1,7 @@
 -- What the walk reads as an expression is within the limits.
-use Rattle.std.proofs.Common.{◌≡◌, ℕ, ◌+◌, ◌≤◌, List, Option, Some, None, Bool, true, option_map, refl, subst, arith, [], ◌∷◌, ◌++◌}
-use Rattle.std.specs.declared.result.Result.TheVariants.{Ok, Err}
-use Rattle.std.specs.Prelude.{option_and_then, max, nat_le}
+use Rattle.std.proofs.Common.{◌≡◌, ℕ, ◌+◌, ◌≤◌, List, Option, Some, true, refl, subst, arith, [], ◌∷◌, ◌++◌}
+use Rattle.std.specs.declared.result.Result.TheVariants.{Ok}
+use Rattle.std.specs.Prelude.{option_and_then, nat_le}
 use Rattle.std.specs.List.{list_all}
 use Rattle.std.proofs.lemmas.List.Folds.{list_all-append}
 use Rattle.std.proofs.lemmas.Grind.{common_steps}

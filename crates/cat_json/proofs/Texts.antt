@@ -1,15 +1,15 @@
 -- Bytes that are a text, and bytes that are none.
-use Rattle.std.proofs.Common.{◌≡◌, ℕ, ◌<◌, ◌≤◌, List, [], ◌∷◌, refl, length, Some, None, Bool, true, false, not, get_or, ap, sym, ◌∙◌, arith}
+use Rattle.std.proofs.Common.{◌≡◌, ℕ, ◌<◌, ◌≤◌, List, [], ◌∷◌, refl, length, Some, None, true, false, not, get_or, arith}
 use Rattle.std.specs.Prelude.{position}
 use Rattle.std.specs.List.{list_all}
 use Rattle.std.proofs.lemmas.List.Folds.{list_all_at}
 use Rattle.std.proofs.lemmas.List.Quantifiers.{position-Some}
 use Rattle.std.proofs.lemmas.List.Sums.{list_all-from_AllPass}
+use Rattle.std.specs.Str.{IsUtf8}
+use Rattle.std.proofs.lemmas.Str.{IsUtf8-from_ascii}
+use Rattle.std.proofs.lemmas.Str.Ascii.{IsAscii-from_reads}
 use Rattle.std.proofs.lemmas.Grind.{common_steps}
 use Rattle.aria_base.specs.Texts.{IsText, may_hold, is_word, is_in_word}
-use Rattle.aria_base.specs.Refusals.{IsNoText}
-use Rattle.aria_base.specs.declared.texts.TxtRefused.{TxtRefused}
-use Rattle.aria_base.specs.declared.texts.TxtRefused.TheVariants.{Memory, TooLong, BadByte}
 use Rattle.aria_base.specs.declared.texts.TheConstants.{LONGEST_TEXT, LONGEST_WORD}
 use Rattle.cat_json.specs.Shapes.{text_of, is_text}
 
@@ -58,3 +58,11 @@ word_has_no_bad_byte bytes at h p =
     let none : list_all may_hold bytes ≡ false = list_all_at may_hold bytes at 0 q.0 bad in
     let all = word_holds bytes h in
     absurd (grind (arith, common_steps, none, all))
+
+-- ---- UTF-8
+
+held_byte : (b : ℕ) → may_hold b ≡ true → b < 128
+held_byte b h = grind (arith, common_steps, h)
+
+pub text_is_utf8 : (bytes : List ℕ) → IsText bytes → IsUtf8 bytes
+text_is_utf8 bytes h = IsUtf8-from_ascii bytes (IsAscii-from_reads bytes (length bytes) (omega arith) (λ k below. held_byte (get_or bytes k 0) (h.1 k 0 below)))

@@ -1,3 +1,4 @@
+pub mod Held
 pub mod Members
 pub mod Names
 pub mod Places
@@ -8,3 +9,4 @@ pub mod Shapes
 pub mod StepWalks
 pub mod TermWalks
 pub mod Texts
+pub mod Written

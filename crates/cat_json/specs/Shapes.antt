@@ -1,13 +1,13 @@
 -- What is read of a catalogue's JSON: what stands there, or the first place in the walk that has not the stated form.
-use Rattle.std.specs.Prelude.{◌≡◌, ℕ, ◌&&◌, Bool, true, false, nat_le, List, length, if◌then◌else◌, Option, Some, None, option_and_then, Result}
+use Rattle.std.specs.Prelude.{◌≡◌, ℕ, ◌&&◌, Bool, nat_le, List, length, if◌then◌else◌, Option, Some, None, option_and_then, Result}
 use Rattle.std.specs.declared.result.Result.TheVariants.{Ok, Err}
 use Rattle.std.specs.List.{list_all}
 use Rattle.aria_base.specs.declared.texts.TheConstants.{LONGEST_TEXT}
-use Rattle.aria_base.specs.Texts.{may_hold, is_word}
+use Rattle.aria_base.specs.Texts.{may_hold}
 use Rattle.proc_lang.specs.Catalogs.{is_between}
 use Rattle.proc_lang.specs.declared.procs.PathPart.{PathPart}
 use Rattle.serde_json.specs.Data.{Data}
-use Rattle.serde_json.specs.Find.{as_str, as_number, as_u64}
+use Rattle.serde_json.specs.Find.{as_number, as_u64}
 use Rattle.cat_json.specs.declared.faults.Fault.{Fault}
 use Rattle.cat_json.specs.declared.faults.Fault.TheVariants as fault
 

@@ -1,4 +1,4 @@
-use Rattle.std.proofs.Common.{◌≡◌, sym, ◌∙◌}
+use Rattle.std.proofs.Common.{sym, ◌∙◌}
 use Rattle.serde_json.proofs.Views.{view-Object}
 use Rattle.cat_json.proofs.Counts.{members_counted}
 use Rattle.cat_json.proofs.objects.member_count.Goals as goal

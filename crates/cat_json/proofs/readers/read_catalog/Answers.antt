@@ -1,4 +1,4 @@
-use Rattle.std.proofs.Common.{◌≡◌, sym, ap, subst, List}
+use Rattle.std.proofs.Common.{sym, subst, List}
 use Rattle.std.specs.List.{All}
 use Rattle.aria_base.specs.declared.schemas.Table.{Table}
 use Rattle.serde_json.specs.View.{view}

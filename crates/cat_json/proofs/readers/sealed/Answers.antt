@@ -1,14 +1,9 @@
-use Rattle.std.proofs.Common.{◌≡◌, ◌+◌, ◌≤◌, List, [], ◌∷◌, ◌++◌, length, append_assoc, length-append, true, sym, ap, subst, ◌∙◌, arith, rules}
-use Rattle.std.specs.declared.result.Result.TheVariants.{Ok, Err}
-use Rattle.std.specs.List.{All, list_all}
-use Rattle.std.specs.Prelude.{◌&&◌}
+use Rattle.std.proofs.Common.{◌≡◌, List, [], ◌∷◌, ◌++◌, append_assoc, length-append, sym, subst, ◌∙◌, arith, rules}
+use Rattle.std.specs.List.{All}
 use Rattle.std.specs.Vec.Iter.{into_iter_items}
 use Rattle.std.proofs.lemmas.List.Elements.{All-push}
-use Rattle.std.proofs.lemmas.Grind.{common_steps}
 use Rattle.proc_lang.specs.declared.procs.Proc.{Proc}
-use Rattle.proc_lang.specs.Catalogs.{proc_fits}
-use Rattle.proc_lang.specs.Typing.{IsWellTyped, typed_proc}
-use Rattle.cat_json.specs.Texts.{wrong_from}
+use Rattle.proc_lang.specs.Typing.{IsWellTyped}
 use Rattle.cat_json.proofs.Sealings.{wrong_from-typed, rest_fit}
 use Rattle.cat_json.proofs.readers.sealed.Goals as goal
 

@@ -1,4 +1,4 @@
-use Rattle.std.proofs.Common.{◌≡◌, ◌≤◌, ◌+◌, ◌++◌, length, true}
+use Rattle.std.proofs.Common.{◌≡◌, ◌≤◌, ◌++◌, length, true}
 use Rattle.std.specs.List.{All, list_all}
 use Rattle.std.specs.Vec.Iter.{into_iter_items}
 use Rattle.proc_lang.specs.Catalogs.{proc_fits}

@@ -1,4 +1,4 @@
-use Rattle.std.proofs.Common.{◌≡◌, Some, sym, subst}
+use Rattle.std.proofs.Common.{Some, sym, subst}
 use Rattle.serde_json.specs.Data.{Items}
 use Rattle.proc_lang.specs.TermOf.{term_of}
 use Rattle.cat_json.specs.Places.{path_of}

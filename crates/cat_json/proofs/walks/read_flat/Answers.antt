@@ -1,4 +1,4 @@
-use Rattle.std.proofs.Common.{◌≡◌, ℕ, Some, sym, subst, arith}
+use Rattle.std.proofs.Common.{ℕ, Some, sym, subst, arith}
 use Rattle.serde_json.specs.Data.{Items}
 use Rattle.proc_lang.specs.Syntax.{step_of}
 use Rattle.cat_json.specs.Places.{path_of}
