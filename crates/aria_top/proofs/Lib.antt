@@ -1,4 +1,3 @@
 mod Counts
 mod Refused
-pub mod Routines
 mod Shapes

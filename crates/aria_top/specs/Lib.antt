@@ -1,10 +1,8 @@
-pub mod Accounts
 pub mod Answered
 pub mod Bank
 pub mod Engines
 pub mod Inputs
 pub mod Lines
-pub mod Names
 pub mod Numbers
 pub mod Out
 pub mod Scripts

@@ -10,7 +10,7 @@ use Rattle.answer_text.specs.Answers.{answer_text}
 use Rattle.answer_text.specs.States.{state_text}
 use Rattle.answer_text.specs.Refusals.{refused_text}
 use Rattle.answer_text.specs.declared.refusals.Refused.TheVariants.{Usage, Form}
-use Rattle.aria_top.specs.Accounts.{accounts}
+use Rattle.cat_builtin.specs.Bank.{accounts}
 use Rattle.aria_top.specs.Bank.{bank_run}
 use Rattle.aria_top.specs.Words.{is_line}
 use Rattle.aria_top.specs.Scripts.{script_of}

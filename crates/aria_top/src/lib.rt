@@ -18,7 +18,6 @@
 //! The reader of scripts (`scripts`, `lines`, `numbers`) takes the simple form alone and is temporary.
 #![tactic(auto)]
 
-mod bank;
 mod batches;
 mod engines;
 mod inputs;

@@ -1,16 +1,16 @@
 // A whole script: its rows, its batches, the listing.
 ghost use Rattle.std.specs.Prelude.{◌≡◌, ◌<◌, ◌≤◌, ◌++◌, [], IfOk};
 ghost use Rattle.std.specs.FinMap as fin;
-ghost use Rattle.aria_top.specs.Accounts.{accounts};
-ghost use Rattle.aria_top.specs.Bank.{bank};
+ghost use Rattle.cat_builtin.specs.Bank.{accounts, bank};
 ghost use Rattle.aria_top.specs.Out.{out_of, rows_from, calls_in};
 ghost use Rattle.aria_top.specs.declared.scripts.TheConstants.{MOST_CALLS};
 
-use crate::bank;
 use crate::engines::{Engine, run_batch};
 use crate::scripts::Script;
 use answer_text::{append_answer, append_state};
 use aria_base::{Items, Key, Memory, Row};
+use cat_builtin::builtin;
+use proc_lang::Catalog;
 use std::alloc::Global;
 use tbl_rows::Tables;
 
@@ -19,7 +19,7 @@ pub fn run_script(alloc: Global, script: Script) -> Result<Vec<u8>, Memory>
     requires { calls_in script.batches ≤ MOST_CALLS }
     ensures { IfOk result (λ out. out.items ≡ out_of script) }
 {
-    let catalog = bank::catalog(alloc)?;
+    let catalog = bank_catalog(alloc)?;
     let Script { rows, batches } = script;
     let mut engine = Engine {
         tables: load(alloc, rows)?,
@@ -36,6 +36,16 @@ pub fn run_script(alloc: Global, script: Script) -> Result<Vec<u8>, Memory>
     let listed = engine.tables.rows()?;
     append_state(&mut out, catalog.schema(), &listed, engine.batches)?;
     Ok(out)
+}
+
+/// The catalogue of the bank, which is built in.
+fn bank_catalog(alloc: Global) -> Result<Catalog, Memory>
+    ensures { IfOk result (λ catalog. catalog ≡ bank) }
+{
+    match builtin(alloc, b"bank")? {
+        Some(catalog) => Ok(catalog),
+        None => unreachable!(),
+    }
 }
 
 /// The tables of these rows; a later row of a key replaces an earlier one.
