@@ -1,7 +1,7 @@
-ghost use Rattle.std.specs.Prelude.{◌≡◌, ℕ, List, IfOk, IfErr, position, not, true, IsNone, All};
+ghost use Rattle.std.specs.Prelude.{◌≡◌, ℕ, List, IfOk, IfErr, position, not, true, IsNone, All, Some};
 ghost use Rattle.std.specs.Option.{option_copied};
 ghost use Rattle.aria_base.specs.Texts.{may_hold, IsText, begins_word, is_in_word, is_word};
-ghost use Rattle.aria_base.specs.Refusals.{IsNoText};
+ghost use Rattle.aria_base.specs.Refusals.{IsNoText, refusal_text};
 ghost use Rattle.aria_base.specs.declared.texts.TxtRefused.TheVariants.{Memory};
 
 use crate::copies::Duplicate;
@@ -30,6 +30,8 @@ pub enum TxtRefused {
 }
 
 impl fmt::Display for TxtRefused {
+    ghost output = { λ refused. Some (refusal_text refused) };
+
     fn fmt<W: fmt::Write>(&self, f: &mut fmt::Formatter<W>) -> fmt::Result {
         match self {
             TxtRefused::Memory => f.write_str("no memory"),

@@ -6,7 +6,7 @@ ghost use Rattle.cat_builtin.specs.Words.{MakesText};
 ghost use Rattle.cat_builtin.specs.Bank.{accounts, bank, routine, read_account, write_account, add_routine, copy_routine, set_routine, sum_routine, hop_routine, drop_routine};
 
 use crate::builders;
-use crate::builders::{exprs, int_args, ints, need, one, plus, put, text};
+use crate::builders::{exprs, int_args, ints, need, one, plus, put, text, then};
 use crate::seals::sealed;
 use aria_base::{Memory, Schema};
 use proc_lang::{Block, Catalog, Expr, Proc, Stmt};
@@ -22,12 +22,12 @@ pub fn catalog(alloc: Global) -> Result<Catalog, Memory>
 {
     let tables = tables(alloc)?;
     let mut procs = Vec::with_capacity(alloc, 6)?;
-    procs.push(add(alloc)?)?;
-    procs.push(copy(alloc)?)?;
-    procs.push(set(alloc)?)?;
-    procs.push(sum(alloc)?)?;
-    procs.push(hop(alloc)?)?;
-    procs.push(drop(alloc)?)?;
+    then(&mut procs, add(alloc))?;
+    then(&mut procs, copy(alloc))?;
+    then(&mut procs, set(alloc))?;
+    then(&mut procs, sum(alloc))?;
+    then(&mut procs, hop(alloc))?;
+    then(&mut procs, drop(alloc))?;
     sealed(alloc, tables, procs)
 }
 
@@ -44,9 +44,9 @@ fn add(alloc: Global) -> Result<Proc, Memory>
     ensures { IfOk result (λ made. made ≡ add_routine) }
 {
     let mut body = Vec::with_capacity(alloc, 3)?;
-    body.push(read(alloc, 0, 0)?)?;
+    then(&mut body, read(alloc, 0, 0))?;
     let raised = plus(alloc, Expr::Reg(0), Expr::Arg(1))?;
-    body.push(write(alloc, Expr::Arg(0), raised)?)?;
+    then(&mut body, write(alloc, Expr::Arg(0), raised))?;
     let given = plus(alloc, Expr::Reg(0), Expr::Arg(1))?;
     body.push(Stmt::Give(given))?;
     routine(alloc, b"add", 2, 1, Block::from_vec(body))
@@ -57,8 +57,8 @@ fn copy(alloc: Global) -> Result<Proc, Memory>
     ensures { IfOk result (λ made. made ≡ copy_routine) }
 {
     let mut body = Vec::with_capacity(alloc, 3)?;
-    body.push(read(alloc, 0, 0)?)?;
-    body.push(write(alloc, Expr::Arg(1), Expr::Reg(0))?)?;
+    then(&mut body, read(alloc, 0, 0))?;
+    then(&mut body, write(alloc, Expr::Arg(1), Expr::Reg(0)))?;
     body.push(Stmt::Give(Expr::Reg(0)))?;
     routine(alloc, b"copy", 2, 1, Block::from_vec(body))
 }
@@ -68,7 +68,7 @@ fn set(alloc: Global) -> Result<Proc, Memory>
     ensures { IfOk result (λ made. made ≡ set_routine) }
 {
     let mut body = Vec::with_capacity(alloc, 2)?;
-    body.push(write(alloc, Expr::Arg(0), Expr::Arg(1))?)?;
+    then(&mut body, write(alloc, Expr::Arg(0), Expr::Arg(1)))?;
     body.push(Stmt::Give(Expr::Arg(1)))?;
     routine(alloc, b"set", 2, 0, Block::from_vec(body))
 }
@@ -78,8 +78,8 @@ fn sum(alloc: Global) -> Result<Proc, Memory>
     ensures { IfOk result (λ made. made ≡ sum_routine) }
 {
     let mut body = Vec::with_capacity(alloc, 3)?;
-    body.push(read(alloc, 0, 0)?)?;
-    body.push(read(alloc, 1, 1)?)?;
+    then(&mut body, read(alloc, 0, 0))?;
+    then(&mut body, read(alloc, 1, 1))?;
     let given = plus(alloc, Expr::Reg(0), Expr::Reg(1))?;
     body.push(Stmt::Give(given))?;
     routine(alloc, b"sum", 2, 2, Block::from_vec(body))
@@ -90,8 +90,8 @@ fn hop(alloc: Global) -> Result<Proc, Memory>
     ensures { IfOk result (λ made. made ≡ hop_routine) }
 {
     let mut body = Vec::with_capacity(alloc, 3)?;
-    body.push(read(alloc, 0, 0)?)?;
-    body.push(write(alloc, Expr::Reg(0), Expr::Arg(1))?)?;
+    then(&mut body, read(alloc, 0, 0))?;
+    then(&mut body, write(alloc, Expr::Reg(0), Expr::Arg(1)))?;
     body.push(Stmt::Give(Expr::Arg(1)))?;
     routine(alloc, b"hop", 2, 1, Block::from_vec(body))
 }

@@ -2,7 +2,8 @@
 //
 // A list is pushed item by item where its items may fail to be made: then a function that gives up
 // has one list to let go, and no single statement or expression.
-ghost use Rattle.std.specs.Prelude.{◌≡◌, ◌<◌, [], ◌∷◌, map, length, IfOk};
+ghost use Rattle.std.specs.Prelude.{◌≡◌, ◌<◌, [], ◌∷◌, map, length, ◌++◌, IfOk};
+ghost use Rattle.std.specs.declared.result.Result.TheVariants.{Ok};
 ghost use Rattle.proc_lang.specs.Terms.{Add, Sub, Mul, Div, MulDiv, Eq, Ne, Le, And, Cat, Front, Show};
 ghost use Rattle.proc_lang.specs.TermOf.{term_of};
 ghost use Rattle.proc_lang.specs.Steps.{Get, Need, Put};
@@ -23,6 +24,14 @@ pub fn text(alloc: Global, bytes: &[u8]) -> Result<Txt, Memory>
         Err(TxtRefused::Memory) => Err(Memory),
         Err(_) => unreachable!(),
     }
+}
+
+/// Puts what was made behind the others. A long list made so has one way out at each item, not two.
+pub fn then<T: Drop>(items: &mut Vec<T>, made: Result<T, Memory>) -> Result<(), Memory>
+    ensures { IfOk result (λ _. (item : T) × (made ≡ Ok item) × (items.new.items ≡ items.old.items ++ item ∷ [])) }
+{
+    items.push(made?)?;
+    Ok(())
 }
 
 // ---- tables and kinds

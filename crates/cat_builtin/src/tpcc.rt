@@ -6,6 +6,7 @@ mod new_orders;
 mod payments;
 mod warehouses;
 
+use crate::builders::then;
 use crate::seals::sealed;
 use aria_base::Memory;
 use proc_lang::Catalog;
@@ -18,7 +19,7 @@ pub fn catalog(alloc: Global) -> Result<Catalog, Memory>
 {
     let tables = warehouses::tables(alloc)?;
     let mut procs = Vec::with_capacity(alloc, 2)?;
-    procs.push(new_orders::procedure(alloc)?)?;
-    procs.push(payments::procedure(alloc)?)?;
+    then(&mut procs, new_orders::procedure(alloc))?;
+    then(&mut procs, payments::procedure(alloc))?;
     sealed(alloc, tables, procs)
 }

@@ -4,7 +4,7 @@ ghost use Rattle.proc_lang.specs.Syntax.{step_of};
 ghost use Rattle.cat_builtin.specs.Ycsb.{rows, ycsb, transaction, read_row, fill_row, raise_row, fill_or_raise, make_access};
 
 use crate::builders;
-use crate::builders::{equal, ints, more, need, one, put, text};
+use crate::builders::{equal, ints, more, need, one, put, text, then};
 use crate::seals::sealed;
 use aria_base::{Memory, Schema};
 use proc_lang::{ArgKind, ArgKinds, Block, Catalog, Expr, Proc, Stmt};
@@ -63,7 +63,7 @@ fn make_access(alloc: Global) -> Result<Stmt, Memory>
     ensures { IfOk result (λ made. step_of made ≡ make_access) }
 {
     let mut given = Vec::with_capacity(alloc, 2)?;
-    given.push(read_row(alloc)?)?;
+    then(&mut given, read_row(alloc))?;
     given.push(Stmt::Give(Expr::Reg(FIRST)))?;
     let written = one(alloc, fill_or_raise(alloc)?)?;
     let test = equal(alloc, Expr::Item(OP), Expr::Num(0))?;
@@ -76,8 +76,8 @@ fn fill_or_raise(alloc: Global) -> Result<Stmt, Memory>
 {
     let filled = one(alloc, fill_row(alloc)?)?;
     let mut raised = Vec::with_capacity(alloc, 3)?;
-    raised.push(read_row(alloc)?)?;
-    raised.push(raise_row(alloc)?)?;
+    then(&mut raised, read_row(alloc))?;
+    then(&mut raised, raise_row(alloc))?;
     raised.push(Stmt::Give(more(alloc, FIRST, Expr::Arg(V))?))?;
     let test = equal(alloc, Expr::Item(OP), Expr::Num(1))?;
     Ok(Stmt::If(test, filled, Block::from_vec(raised)))

@@ -1,5 +1,5 @@
 -- What a refusal says of the typing of a procedure.
-use Rattle.std.specs.Prelude.{◌≡◌, ℕ, Result}
+use Rattle.std.specs.Prelude.{◌≡◌, ℕ, List, ◌++◌, Result, codes, decimal}
 use Rattle.std.specs.declared.result.Result.TheVariants.{Err}
 use Rattle.proc_lang.specs.Typing.{Flaw, Reached}
 use Rattle.proc_verify.specs.declared.refusals.VerifyRefused.{VerifyRefused}
@@ -9,3 +9,8 @@ use Rattle.proc_verify.specs.declared.refusals.VerifyRefused.TheVariants.{Memory
 abbrev pub NamesFirst : ℕ → Result Reached Flaw → VerifyRefused → Type 0
 NamesFirst number typed Memory = Unit {0}
 NamesFirst number typed (Wrong w) = (w.proc ≡ number) × (typed ≡ Err (record { place = w.place; cause = w.cause }))
+
+-- what `{}` prints of a refusal
+abbrev pub refusal_text : VerifyRefused → List ℕ
+refusal_text Memory = codes "no memory"
+refusal_text (Wrong w) = codes "procedure " ++ decimal w.proc ++ codes " fails at statement " ++ decimal w.place ++ codes ", cause " ++ decimal w.cause

@@ -1,5 +1,6 @@
 // Why a procedure is not sealed.
-ghost use Rattle.std.specs.Prelude.{◌≡◌};
+ghost use Rattle.std.specs.Prelude.{◌≡◌, Some};
+ghost use Rattle.proc_verify.specs.Refusals.{refusal_text};
 ghost use Rattle.proc_verify.specs.declared.refusals.VerifyRefused.TheVariants as refused;
 
 use aria_base::Memory;
@@ -17,6 +18,8 @@ pub enum VerifyRefused {
 }
 
 impl fmt::Display for VerifyRefused {
+    ghost output = { λ refused. Some (refusal_text refused) };
+
     fn fmt<W: fmt::Write>(&self, f: &mut fmt::Formatter<W>) -> fmt::Result {
         match self {
             VerifyRefused::Memory => f.write_str("no memory"),

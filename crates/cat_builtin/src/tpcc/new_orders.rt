@@ -10,7 +10,7 @@ use super::warehouses::{
 };
 use crate::builders::{
     at_most, both, differ, equal, exprs, get, ints, minus, more, need, one, plus, put, raise,
-    scaled, text, times, with_text,
+    scaled, text, then, times, with_text,
 };
 use aria_base::Memory;
 use proc_lang::{ArgKind, ArgKinds, Block, Expr, Exprs, Proc, Stmt};
@@ -101,15 +101,15 @@ fn body(alloc: Global) -> Result<Block, Memory>
     ensures { IfOk result (λ made. made ≡ new_order.body) }
 {
     let mut steps = Vec::with_capacity(alloc, 14)?;
-    steps.push(read_warehouse(alloc)?)?;
-    steps.push(read_district(alloc)?)?;
+    then(&mut steps, read_warehouse(alloc))?;
+    then(&mut steps, read_district(alloc))?;
     steps.push(Stmt::Let(ORDER, Expr::Reg(D_NEXT_O_ID)))?;
-    steps.push(count_order(alloc)?)?;
-    steps.push(read_customer(alloc)?)?;
+    then(&mut steps, count_order(alloc))?;
+    then(&mut steps, read_customer(alloc))?;
     steps.push(Stmt::Let(ALL_LOCAL, Expr::Num(1)))?;
-    steps.push(note_remote(alloc)?)?;
-    steps.push(write_order(alloc)?)?;
-    steps.push(open_order(alloc)?)?;
+    then(&mut steps, note_remote(alloc))?;
+    then(&mut steps, write_order(alloc))?;
+    then(&mut steps, open_order(alloc))?;
     steps.push(Stmt::Give(Expr::Reg(ORDER)))?;
     steps.push(Stmt::Let(SUM, Expr::Num(0)))?;
     steps.push(Stmt::Let(NUMBER, Expr::Num(0)))?;
@@ -218,16 +218,16 @@ fn order_line(alloc: Global) -> Result<Block, Memory>
     ensures { IfOk result (λ made. made ≡ in_turn order_line) }
 {
     let mut steps = Vec::with_capacity(alloc, 11)?;
-    steps.push(raise(alloc, NUMBER, Expr::Num(1))?)?;
-    steps.push(read_item(alloc)?)?;
-    steps.push(read_stock(alloc)?)?;
-    steps.push(take_stock(alloc)?)?;
-    steps.push(write_stock(alloc)?)?;
-    steps.push(price_line(alloc)?)?;
-    steps.push(raise(alloc, SUM, Expr::Reg(AMOUNT))?)?;
-    steps.push(write_line(alloc)?)?;
+    then(&mut steps, raise(alloc, NUMBER, Expr::Num(1)))?;
+    then(&mut steps, read_item(alloc))?;
+    then(&mut steps, read_stock(alloc))?;
+    then(&mut steps, take_stock(alloc))?;
+    then(&mut steps, write_stock(alloc))?;
+    then(&mut steps, price_line(alloc))?;
+    then(&mut steps, raise(alloc, SUM, Expr::Reg(AMOUNT)))?;
+    then(&mut steps, write_line(alloc))?;
     steps.push(Stmt::Give(Expr::Reg(REST)))?;
-    steps.push(give_brand(alloc)?)?;
+    then(&mut steps, give_brand(alloc))?;
     steps.push(Stmt::Give(Expr::Reg(AMOUNT)))?;
     Ok(Block::from_vec(steps))
 }
@@ -274,9 +274,9 @@ fn write_stock(alloc: Global) -> Result<Stmt, Memory>
     let key = exprs(alloc, [Expr::Item(SUPPLY), Expr::Item(ITEM)])?;
     let mut columns = Vec::with_capacity(alloc, 5)?;
     columns.push(Expr::Reg(REST))?;
-    columns.push(more(alloc, S_YTD, Expr::Item(QUANTITY))?)?;
-    columns.push(more(alloc, S_ORDER_CNT, Expr::Num(1))?)?;
-    columns.push(more(alloc, S_REMOTE_CNT, is_remote(alloc)?)?)?;
+    then(&mut columns, more(alloc, S_YTD, Expr::Item(QUANTITY)))?;
+    then(&mut columns, more(alloc, S_ORDER_CNT, Expr::Num(1)))?;
+    then(&mut columns, more(alloc, S_REMOTE_CNT, is_remote(alloc)?))?;
     columns.push(Expr::Reg(S_ORIGINAL))?;
     Ok(Stmt::Put(STOCKS, key, Exprs::from_vec(columns)))
 }

@@ -11,7 +11,7 @@ use super::warehouses::{
 };
 use crate::builders::{
     equal, exprs, front, get, int_args, ints, joined, minus, more, need, one, put, quotient, shown,
-    text, with_text,
+    text, then, with_text,
 };
 use aria_base::Memory;
 use proc_lang::{Block, Expr, Exprs, Proc, Stmt};
@@ -81,15 +81,15 @@ fn body(alloc: Global) -> Result<Block, Memory>
     ensures { IfOk result (λ made. made ≡ payment.body) }
 {
     let mut steps = Vec::with_capacity(alloc, 11)?;
-    steps.push(read_warehouse(alloc)?)?;
-    steps.push(pay_warehouse(alloc)?)?;
-    steps.push(read_district(alloc)?)?;
-    steps.push(pay_district(alloc)?)?;
-    steps.push(find_customer(alloc)?)?;
-    steps.push(read_customer(alloc)?)?;
-    steps.push(note_payment(alloc)?)?;
-    steps.push(pay_customer(alloc)?)?;
-    steps.push(write_payment(alloc)?)?;
+    then(&mut steps, read_warehouse(alloc))?;
+    then(&mut steps, pay_warehouse(alloc))?;
+    then(&mut steps, read_district(alloc))?;
+    then(&mut steps, pay_district(alloc))?;
+    then(&mut steps, find_customer(alloc))?;
+    then(&mut steps, read_customer(alloc))?;
+    then(&mut steps, note_payment(alloc))?;
+    then(&mut steps, pay_customer(alloc))?;
+    then(&mut steps, write_payment(alloc))?;
     steps.push(Stmt::Give(Expr::Reg(CUSTOMER)))?;
     steps.push(Stmt::Give(balance_after(alloc)?))?;
     Ok(Block::from_vec(steps))
@@ -150,8 +150,8 @@ fn find_customer(alloc: Global) -> Result<Stmt, Memory>
     ensures { IfOk result (λ made. step_of made ≡ find_customer) }
 {
     let mut by_name = Vec::with_capacity(alloc, 2)?;
-    by_name.push(count_namesakes(alloc)?)?;
-    by_name.push(find_namesake(alloc)?)?;
+    then(&mut by_name, count_namesakes(alloc))?;
+    then(&mut by_name, find_namesake(alloc))?;
     let by_name = Block::from_vec(by_name);
     let by_number = one(alloc, Stmt::Let(CUSTOMER, Expr::Arg(ID)))?;
     Ok(Stmt::If(Expr::Arg(BY_NAME), by_name, by_number))
@@ -241,9 +241,9 @@ fn pay_customer(alloc: Global) -> Result<Stmt, Memory>
     columns.push(Expr::Reg(C_FIRST))?;
     columns.push(Expr::Reg(C_CREDIT))?;
     columns.push(Expr::Reg(C_DISCOUNT))?;
-    columns.push(balance_after(alloc)?)?;
-    columns.push(more(alloc, C_YTD_PAYMENT, Expr::Arg(AMOUNT))?)?;
-    columns.push(more(alloc, C_PAYMENT_CNT, Expr::Num(1))?)?;
+    then(&mut columns, balance_after(alloc))?;
+    then(&mut columns, more(alloc, C_YTD_PAYMENT, Expr::Arg(AMOUNT)))?;
+    then(&mut columns, more(alloc, C_PAYMENT_CNT, Expr::Num(1)))?;
     columns.push(Expr::Reg(DATA_AFTER))?;
     Ok(Stmt::Put(CUSTOMERS, key, Exprs::from_vec(columns)))
 }

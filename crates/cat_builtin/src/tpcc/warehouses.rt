@@ -4,7 +4,7 @@ ghost use Rattle.proc_lang.specs.Syntax.{step_of};
 ghost use Rattle.cat_builtin.specs.Words.{MakesText, all_ints, with_text, table_of};
 ghost use Rattle.cat_builtin.specs.Warehouses.{tables, read_warehouse, read_district};
 
-use crate::builders::{get, ints, table, with_text};
+use crate::builders::{get, ints, table, then, with_text};
 use aria_base::{Memory, Schema, Table};
 use proc_lang::{Expr, Stmt};
 use std::alloc::Global;
@@ -53,17 +53,17 @@ pub fn tables(alloc: Global) -> Result<Schema, Memory>
     ensures { IfOk result (λ made. made ≡ tables) }
 {
     let mut tables = Vec::with_capacity(alloc, 11)?;
-    tables.push(numbers(alloc, b"warehouse", 1, 2)?)?;
-    tables.push(numbers(alloc, b"district", 2, 3)?)?;
-    tables.push(customers(alloc)?)?;
-    tables.push(numbers(alloc, b"history", 1, 7)?)?;
-    tables.push(numbers(alloc, b"new_order", 3, 0)?)?;
-    tables.push(numbers(alloc, b"orders", 3, 5)?)?;
-    tables.push(numbers(alloc, b"order_line", 4, 5)?)?;
-    tables.push(numbers(alloc, b"item", 1, 2)?)?;
-    tables.push(numbers(alloc, b"stock", 2, 5)?)?;
-    tables.push(numbers(alloc, b"name_count", 3, 1)?)?;
-    tables.push(numbers(alloc, b"name_place", 4, 1)?)?;
+    then(&mut tables, numbers(alloc, b"warehouse", 1, 2))?;
+    then(&mut tables, numbers(alloc, b"district", 2, 3))?;
+    then(&mut tables, customers(alloc))?;
+    then(&mut tables, numbers(alloc, b"history", 1, 7))?;
+    then(&mut tables, numbers(alloc, b"new_order", 3, 0))?;
+    then(&mut tables, numbers(alloc, b"orders", 3, 5))?;
+    then(&mut tables, numbers(alloc, b"order_line", 4, 5))?;
+    then(&mut tables, numbers(alloc, b"item", 1, 2))?;
+    then(&mut tables, numbers(alloc, b"stock", 2, 5))?;
+    then(&mut tables, numbers(alloc, b"name_count", 3, 1))?;
+    then(&mut tables, numbers(alloc, b"name_place", 4, 1))?;
     Ok(Schema::from_vec(tables))
 }
 
