@@ -10,7 +10,7 @@ use Rattle.aria_base.specs.declared.keys.Part.TheVariants as part
 use Rattle.aria_base.specs.declared.keys.Key.{Key}
 use Rattle.aria_base.specs.declared.values.Value.{Value}
 
--- numbers before texts, numbers by size, texts by bytes
+-- every number is less than every text; texts are compared byte by byte
 abbrev pub part_cmp : Part → Part → Ordering
 part_cmp (part.Int x) (part.Int y) = int_cmp x y
 part_cmp (part.Int x) (part.Text y) = Less

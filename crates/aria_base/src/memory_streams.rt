@@ -36,8 +36,9 @@ impl Model for MemSource {
 }
 
 impl MemSource {
-    /// A source that gives these bytes, at most `piece` of them in a call; exactly the calls whose
-    /// numbers, from 1, stand in `fails` fail, and give nothing.
+    /// A source of these bytes. A call gives the next `piece` of them, or what is left where that is
+    /// less. The calls that `fails` names by their numbers, counted from 1, fail and give none; no
+    /// other call does.
     pub fn new(bytes: Vec<u8>, piece: usize, fails: Vec<u64>) -> MemSource
         requires { 0 < piece }
         ensures { result ≡ record { left = bytes.items; piece = piece; fails = fails.items; calls = 0; faults = 0 } }
@@ -104,8 +105,9 @@ impl Model for MemSink {
 }
 
 impl MemSink {
-    /// A sink with room for `room` bytes, all of which it takes now. A call fails exactly where its
-    /// number, from 1, stands in `fails` or its bytes pass the room; it then appends nothing.
+    /// A sink with room for `room` bytes; the memory for them is taken here. Two things make a call
+    /// fail, and nothing else does: that `fails` names it by its number, counted from 1, or that what
+    /// it brings is more than there is room for. Of such a call the sink keeps nothing.
     pub fn new(alloc: Global, room: usize, fails: Vec<u64>) -> Result<MemSink, Memory>
         ensures { IfOk result (λ sink. sink ≡ record { given = []; room = room; fails = fails.items; calls = 0; faults = 0 }) }
     {

@@ -15,9 +15,9 @@ pub trait Source {
     /// Its count of faults.
     ghost faults: { Self → ℕ };
 
-    /// Puts some of the bytes that are left at the buffer's front and answers how many; 0 means the
-    /// end of the input. After `Failed`, which comes only where the count of faults rose or stands at
-    /// its last value, none was taken.
+    /// Moves bytes that are left to the front of the buffer and answers how many it moved, which is
+    /// none only where the input ends. After `Failed` none was moved; it comes where the count of faults
+    /// rose or stands at its last value.
     fn take(&mut self, buf: &mut [u8]) -> Result<usize, Failed>
         requires { 0 < length buf.old }
         ensures bytes { Takes (left self.old) (left self.new) result buf.new }
@@ -33,8 +33,8 @@ pub trait Sink {
     /// Its count of faults.
     ghost faults: { Self → ℕ };
 
-    /// Appends all the bytes, or answers `Failed` after a front of them, and then the count of
-    /// faults rose or stands at its last value.
+    /// Puts the bytes behind those that it was given. On `Failed` it may have taken a front of them, and
+    /// the count of faults rose or stands at its last value.
     fn give(&mut self, bytes: &[u8]) -> Result<(), Failed>
         ensures bytes { Gives (given self.old) (given self.new) result bytes.now }
         ensures kept { faults self.old ≤ faults self.new }

@@ -61,8 +61,8 @@ impl Model for Txt {
 }
 
 impl Txt {
-    /// The text of these bytes. `TooLong` comes exactly where there are more than 500 bytes; else
-    /// `BadByte` names the first byte that no text holds.
+    /// The text of these bytes. The length is looked at first: past 500 bytes the answer is
+    /// `TooLong`. Then `BadByte` tells where the first byte stands that a text may not hold.
     pub fn of(alloc: Global, bytes: &[u8]) -> Result<Txt, TxtRefused>
         ensures text { IfOk result (λ text. (text ≡ bytes.now) × IsText bytes.now) }
         ensures refused { IfErr result (IsNoText bytes.now) }

@@ -3,14 +3,22 @@
 
 ghost use Rattle.std.specs.Prelude.{◌≡◌, ◌<◌, ◌≤◌, List, [], length};
 ghost use Rattle.std.specs.List.{All};
-ghost use Rattle.aria_base.specs.Orders.{Cells};
+ghost use Rattle.aria_base.specs.Orders.{Cells, Database};
 ghost use Rattle.aria_base.specs.declared.calls.Request.{Request};
 ghost use Rattle.aria_base.specs.declared.keys.Key.{Key};
 ghost use Rattle.batch_rules.specs.Trees.{Tree};
+ghost use Rattle.batch_rules.specs.Laws.{Agreement};
 ghost use Rattle.batch_core.specs.Progress.{MakesProgress, FinishesWithin};
 ghost use Rattle.batch_core.specs.Serial.{IsNumbered, IsSerial, AllSerial};
 ghost use Rattle.batch_core.specs.Steps.{State, Handed, list_of, step, run};
 ghost use Rattle.proc_lang.specs.declared.ends.End.{End};
+ghost use Rattle.proc_lang.specs.Meaning.{is_done};
+
+/// Where two databases agree on the read set of a request's run on the first, its run on the second makes the same accesses, comes to
+/// the same end and has the same writes.
+pub fn agreement()
+    ensures { (tree : Request → Tree Key Cells End) (request : Request) (first second : Database) → Agreement is_done (tree request) first second }
+{}
 
 /// Where nothing waits, the numbers are in order.
 pub fn nothing_waits()
@@ -38,7 +46,8 @@ pub fn progress()
     ensures { (tree : Request → Tree Key Cells End) (state : State) (handed : Handed) → 0 < length (list_of state handed) → MakesProgress tree state handed }
 {}
 
-/// The request at place p of a batch's list has ended after the p-th batch, counted from that one, at the latest.
+/// No request waits longer than its place: the first of a batch's list ends in that batch, the second in the next one at the latest,
+/// and so on.
 pub fn finishes_within()
     ensures { (tree : Request → Tree Key Cells End) (state : State) (handed : Handed) (rest : List Handed) → IsNumbered state → FinishesWithin tree state handed rest }
 {}

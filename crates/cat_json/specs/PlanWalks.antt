@@ -1,4 +1,4 @@
--- The walk through a catalogue: each object itself first, then its members in their order, arrays from the front.
+-- What a catalogue's JSON says, or where it first has not the stated form: from the outside in, and from the front.
 use Rattle.std.specs.Prelude.{ℕ, ◌+◌, ◌==◌, ◌&&◌, not, List, [], ◌∷◌, ◌++◌, map, if◌then◌else◌, Option, Some, None, option_and_then}
 use Rattle.std.specs.declared.result.Result.TheVariants.{Ok}
 use Rattle.std.specs.List.{list_any}

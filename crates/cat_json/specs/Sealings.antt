@@ -7,8 +7,8 @@ use Rattle.cat_json.specs.declared.refusals.CatRefused.TheVariants as refused
 use Rattle.cat_json.specs.Texts.{wrong_from}
 
 -- it names the first that is not well typed; want of memory says nothing, and nothing else is found
-abbrev pub NamesFirst : List Table → List Proc → CatRefused → Type 0
-NamesFirst tables procs refused.Memory = Unit {0}
-NamesFirst tables procs refused.NotJson = ⊥
-NamesFirst tables procs (refused.Shape path) = ⊥
-NamesFirst tables procs (refused.Wrong w) = wrong_from tables 0 procs ≡ Some w
+abbrev pub NamesFirstWrong : List Table → List Proc → CatRefused → Type 0
+NamesFirstWrong tables procs refused.Memory = Unit {0}
+NamesFirstWrong tables procs refused.NotJson = ⊥
+NamesFirstWrong tables procs (refused.Shape path) = ⊥
+NamesFirstWrong tables procs (refused.Wrong w) = wrong_from tables 0 procs ≡ Some w

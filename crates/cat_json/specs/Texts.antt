@@ -42,5 +42,5 @@ Refuses text (refused.Shape path) = (d : Data) × Says text d × (plan_of d ≡ 
 Refuses text (refused.Wrong w) = (d : Data) × (plan : Plan) × Says text d × (plan_of d ≡ Ok plan) × (first_wrong plan ≡ Some w)
 
 -- the catalogue is what the text says
-abbrev pub Reads : List ℕ → Plan → Type 0
-Reads text plan = (d : Data) × Says text d × (plan_of d ≡ Ok plan)
+abbrev pub Tells : List ℕ → Plan → Type 0
+Tells text plan = (d : Data) × Says text d × (plan_of d ≡ Ok plan)

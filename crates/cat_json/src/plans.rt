@@ -9,6 +9,7 @@ use crate::faults::Fault;
 use crate::objects::{
     four_members, items_between, read_name, read_named, three_members, two_members,
 };
+use crate::places::Member::{Args, Body, Name, Regs};
 use crate::places::{Member, Place, fault_at};
 use crate::walks::read_body;
 use aria_base::{Kinds, Table};
@@ -78,32 +79,13 @@ fn read_proc(
     ensures { Reads (λ p. p) result
         (proc_at tables.now (path_of place.now) (map (λ p. p.name) earlier.now) (view value.now)) }
 {
-    let members = four_members(
-        value,
-        Member::Name,
-        Member::Args,
-        Member::Regs,
-        Member::Body,
-    );
-    let Some((name, args, regs, body)) = members else {
+    let Some((name, args, regs, body)) = four_members(value, Name, Args, Regs, Body) else {
         return Err(fault_at(alloc, place));
     };
-    let name = read_name(alloc, &Place::Member(place, Member::Name), earlier, name)?;
-    let args: ArgKinds = read_named(
-        alloc,
-        &Place::Member(place, Member::Args),
-        0,
-        MOST_ARGS,
-        args,
-    )?;
-    let regs: Kinds = read_named(
-        alloc,
-        &Place::Member(place, Member::Regs),
-        0,
-        MOST_REGS,
-        regs,
-    )?;
-    let body = read_body(alloc, tables, &Place::Member(place, Member::Body), body)?;
+    let name = read_name(alloc, &Place::Member(place, Name), earlier, name)?;
+    let args: ArgKinds = read_named(alloc, &Place::Member(place, Args), 0, MOST_ARGS, args)?;
+    let regs: Kinds = read_named(alloc, &Place::Member(place, Regs), 0, MOST_REGS, regs)?;
+    let body = read_body(alloc, tables, &Place::Member(place, Body), body)?;
     Ok(Proc {
         name,
         args,

@@ -120,7 +120,7 @@ const FRONT: &str =
 const BACK: &str = "}]}";
 
 /// Bodies and what the catalogue is read as.
-const BODIES: [(&str, &str); 52] = [
+const BODIES: [(&str, &str); 56] = [
     ("[7]", "shape /procs/0/body/0"),
     ("[[]]", "shape /procs/0/body/0"),
     (r#"[["give"]]"#, "shape /procs/0/body/0"),
@@ -129,8 +129,17 @@ const BODIES: [(&str, &str); 52] = [
     (r#"[["give",1],["give",null]]"#, "shape /procs/0/body/1/1"),
     (r#"[["give",1.0]]"#, "shape /procs/0/body/0/1"),
     (r#"[["give",-0]]"#, "shape /procs/0/body/0/1"),
+    (r#"[["give",1e2]]"#, "shape /procs/0/body/0/1"),
     (
         r#"[["give",9223372036854775808]]"#,
+        "shape /procs/0/body/0/1",
+    ),
+    (
+        r#"[["give",18446744073709551616]]"#,
+        "shape /procs/0/body/0/1",
+    ),
+    (
+        r#"[["give",-9223372036854775809]]"#,
         "shape /procs/0/body/0/1",
     ),
     (r#"[["give","\u0007"]]"#, "shape /procs/0/body/0/1"),
@@ -191,6 +200,7 @@ const BODIES: [(&str, &str); 52] = [
     (r#"[["put","t",[1],[]]]"#, "wrong 0 0 3"),
     (r#"[["give",["add",1,"a"]]]"#, "wrong 0 0 4"),
     (r#"[["give",["reg",0]]]"#, "wrong 0 0 5"),
+    (r#"[["give",["reg",4294967295]]]"#, "wrong 0 0 5"),
     (r#"[["give",["arg",1]]]"#, "wrong 0 0 6"),
     (
         r#"[["if",1,[["if",1,[["if",1,[["if",1,[["if",1,[],[]]],[]]],[]]],[]]],[]]]"#,

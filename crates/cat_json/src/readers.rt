@@ -3,8 +3,8 @@ ghost use Rattle.std.specs.Prelude.{◌≡◌, ◌≤◌, true, length, All, IfO
 ghost use Rattle.std.specs.List.{list_all};
 ghost use Rattle.proc_lang.specs.Catalogs.{proc_fits};
 ghost use Rattle.proc_lang.specs.Typing.{IsWellTyped};
-ghost use Rattle.cat_json.specs.Sealings.{NamesFirst};
-ghost use Rattle.cat_json.specs.Texts.{Reads, Refuses};
+ghost use Rattle.cat_json.specs.Sealings.{NamesFirstWrong};
+ghost use Rattle.cat_json.specs.Texts.{Tells, Refuses};
 
 use crate::plans::read_plan;
 use crate::refusals::CatRefused;
@@ -15,12 +15,13 @@ use serde_json::Value;
 use std::alloc::Global;
 
 /// The catalogue that the text says. `NotJson` comes exactly where the text is no JSON; bytes that
-/// are no UTF-8 are none. `Shape` names the first place in the walk that has not the stated form:
-/// each object is looked at itself first and then its members in their order, arrays from the front.
-/// `Wrong` names the first procedure that is not well typed. Memory is wanted for the JSON and for
-/// the catalogue, some hundred bytes for each value of the text.
+/// are no UTF-8 are none. A text that is JSON and has not the form of a catalogue gives `Shape` with
+/// the place that a reader from the outside in, and from the front, would point at: an object whose
+/// members are not the right ones before anything in it, and of two places the one that comes earlier.
+/// Typing is asked last, and `Wrong` names the first procedure that it refuses. Memory is taken for the
+/// whole JSON, and for the catalogue.
 pub fn read_catalog(alloc: Global, text: &[u8]) -> Result<Catalog, CatRefused>
-    ensures catalog { IfOk result (Reads text.now) }
+    ensures catalog { IfOk result (Tells text.now) }
     ensures refused { IfErr result (Refuses text.now) }
 {
     let value = match Value::from_slice(alloc, text) {
@@ -45,7 +46,7 @@ fn sealed(alloc: Global, procs: Vec<Proc>, schema: &Schema) -> Result<Vec<Checke
     requires few { length procs.items ≤ MOST_PROCS }
     ensures sealed { IfOk result (λ done. done.items ≡ procs.items) }
     ensures typed { IfOk result (λ _. All (IsWellTyped schema.now) procs.items) }
-    ensures refused { IfErr result (NamesFirst schema.now procs.items) }
+    ensures refused { IfErr result (NamesFirstWrong schema.now procs.items) }
 {
     let mut done = Vec::with_capacity(alloc, procs.len())?;
     let mut number: u16 = 0;

@@ -1,15 +1,17 @@
 // Why a text gives no catalogue.
-ghost use Rattle.std.specs.Prelude.{◌≡◌};
+ghost use Rattle.std.specs.Prelude.{◌≡◌, Some};
 ghost use Rattle.cat_json.specs.declared.refusals.CatRefused.TheVariants as refused;
-ghost use Rattle.cat_json.specs.Refusals.{of_fault, of_typing};
+ghost use Rattle.cat_json.specs.Refusals.{of_fault, of_typing, refusal_text};
 
 use crate::faults::Fault;
 use proc_lang::{Path, Wrong};
 use proc_verify::VerifyRefused;
 use std::alloc::{AllocError, AllocFailed};
+use std::error::Error;
+use std::fmt;
 
 /// Why a text gives no catalogue.
-#[derive(Debug, Drop)]
+#[derive(Debug, Drop, PartialEq, Eq)]
 pub enum CatRefused {
     /// There was no memory.
     Memory,
@@ -21,6 +23,21 @@ pub enum CatRefused {
     /// statement that fails first and its cause.
     Wrong(Wrong),
 }
+
+impl fmt::Display for CatRefused {
+    ghost output = { λ refused. Some (refusal_text refused) };
+
+    fn fmt<W: fmt::Write>(&self, f: &mut fmt::Formatter<W>) -> fmt::Result {
+        match self {
+            CatRefused::Memory => f.write_str("no memory"),
+            CatRefused::NotJson => f.write_str("the text is no JSON"),
+            CatRefused::Shape(_) => f.write_str("the text has not the form of a catalogue"),
+            CatRefused::Wrong(wrong) => wrong.fmt(f),
+        }
+    }
+}
+
+impl Error for CatRefused {}
 
 impl From<Fault> for CatRefused {
     ghost from_gives = { λ fault made. made ≡ of_fault fault };

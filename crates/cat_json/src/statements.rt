@@ -1,6 +1,5 @@
 // Statements and blocks read from JSON.
-ghost use Rattle.std.specs.Prelude.{◌≡◌, ◌≤◌, length, position, IfOk};
-ghost use Rattle.std.specs.Str.{bytes_eq};
+ghost use Rattle.std.specs.Prelude.{◌≡◌, ◌≤◌, length, IfOk};
 ghost use Rattle.serde_json.specs.View.{view};
 ghost use Rattle.cat_json.specs.Places.{path_of};
 ghost use Rattle.cat_json.specs.Shapes.{Reads};
@@ -10,8 +9,8 @@ use crate::faults::Fault;
 use crate::names::NO_TABLE;
 use crate::places::{Place, fault_at};
 use crate::terms::{index, number_between, read_expr};
-use aria_base::{Memory, Table, Txt};
-use proc_lang::{Exprs, GREATEST_CODE, MOST_TABLES, Regs};
+use aria_base::{Memory, Table};
+use proc_lang::{Exprs, GREATEST_CODE, MOST_TABLES, Regs, table_named};
 use serde_json::Value;
 use std::alloc::Global;
 
@@ -29,24 +28,10 @@ fn number_of(tables: &[Table], name: &[u8]) -> u16
     requires { length tables.now ≤ MOST_TABLES }
     ensures { result ≡ number_of tables.now name.now }
 {
-    match place_of(tables, name) {
+    match table_named(tables, name) {
         Some(place) => place as u16,
         None => NO_TABLE,
     }
-}
-
-/// The place of the table with this name.
-fn place_of(tables: &[Table], name: &[u8]) -> Option<usize>
-    ensures { result ≡ position (λ t. bytes_eq t.name name.now) tables.now }
-{
-    tables.iter().position(|table| is_called(&table.name, name))
-}
-
-/// Whether the name is this one.
-fn is_called(given: &Txt, name: &[u8]) -> bool
-    ensures { result ≡ bytes_eq given.now name.now }
-{
-    given.as_slice() == name
 }
 
 /// The code of a failure.

@@ -381,7 +381,8 @@ fn read_if(
     Ok((Stmt::If(Box::into_inner(test), first, second), seen))
 }
 
-/// The test of an `if`.
+/// The test of an `if`. It is in a box, since the proof of who reads the blocks behind it lets a box go
+/// in one step, and an expression by its cases.
 fn read_test(walk: &Walk<'_>, place: &Place<'_>, test: &Value) -> Result<Box<Expr>, Fault>
     ensures { Reads (λ e. term_of e.value) result
         (term_at (in_item (path_of place.now) 1) 1 (view test.now)) }
@@ -445,7 +446,7 @@ fn read_steps(
         (items_view items.now.items)) }
 {
     let mut seen = seen;
-    let mut stmts = Vec::with_capacity(walk.alloc, items.len())?;
+    let mut stmts = Vec::with_capacity(walk.alloc, items.len().min(MOST_STATEMENTS))?;
     for (at, item) in items.iter().enumerate() {
         if seen >= MOST_STATEMENTS {
             return Err(fault_at(walk.alloc, walk.body));

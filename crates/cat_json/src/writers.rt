@@ -5,7 +5,7 @@ ghost use Rattle.serde_json.specs.View.{view};
 ghost use Rattle.serde_json.specs.Written.{compact_text};
 ghost use Rattle.proc_lang.specs.Catalogs.{IsCatalog};
 ghost use Rattle.cat_json.specs.Held.{steps_held};
-ghost use Rattle.cat_json.specs.Texts.{Reads};
+ghost use Rattle.cat_json.specs.Texts.{Tells};
 ghost use Rattle.cat_json.specs.Written.{kinds_data, arg_kinds_data, list_data, table_data, proc_data, data_of};
 
 use crate::names::{arg_kind_name, kind_name};
@@ -21,7 +21,7 @@ use std::alloc::Global;
 #[tactic(auto, using(crate::proofs::NoFloats::plan_plain))]
 pub fn write_catalog(alloc: Global, catalog: &Catalog) -> Result<Vec<u8>, Memory>
     ensures text { IfOk result (λ bytes. bytes.items ≡ compact_text (data_of catalog.now)) }
-    ensures reads { IfOk result (λ bytes. Reads bytes.items catalog.now) }
+    ensures reads { IfOk result (λ bytes. Tells bytes.items catalog.now) }
 {
     Ok(root(alloc, catalog)?.to_vec(alloc)?)
 }

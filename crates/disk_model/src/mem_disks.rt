@@ -56,9 +56,9 @@ fn roomy_copies(alloc: Global, files: &[Bytes], room: usize) -> Result<Vec<Roomy
 }
 
 impl MemDisk {
-    /// Four empty files, with room for so many calls and so many written bytes in all. Exactly the
-    /// calls fail whose numbers, from 1, stand in `fails`, or that pass the number of calls or the
-    /// room.
+    /// Four empty files, and room for a history of `calls` calls that write `room` bytes together. A
+    /// call fails where `fails` names it by its number, counted from 1, or where there is no room for
+    /// it; all others succeed.
     pub fn new(alloc: Global, calls: u32, room: usize, fails: Vec<u64>) -> Result<MemDisk, Memory>
         ensures disk { IfOk result (λ d. d ≡ record { start = [] ∷ [] ∷ [] ∷ [] ∷ []; steps = []; calls = calls; room = room; fails = fails.items; faults = 0 }) }
         ensures stable { IfOk result (λ d. (file : ℕ) → IsStable (current (history_of d) file)) }
@@ -122,10 +122,10 @@ impl MemDisk {
         self.files[file as usize].as_slice()
     }
 
-    /// A disk with one of the images that a stop after the first `calls` calls may leave: each byte
-    /// that was written and not synced in them is the written one where `kept` is true, else `fill`.
-    /// Each file has the length that it had then, and there is as much room as this disk was made
-    /// with.
+    /// A disk with one of the images that a stop after the first `calls` calls may leave. Of the bytes
+    /// that those calls wrote and did not sync it has all, where `kept` is true, or `fill` in the place
+    /// of each. Each file has the length that it had then, and there is as much room as this disk was
+    /// made with.
     pub fn stopped(
         &self,
         alloc: Global,

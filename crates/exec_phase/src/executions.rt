@@ -21,7 +21,7 @@ pub fn execute(
     request: &Request,
     snapshot: Snapshot,
 ) -> Result<Outcome, Memory>
-    ensures { IfOk result (λ outcome. outcome ≡ outcome_at (run_of catalog.now) snapshot.entry.tables.now request.now) }
+    ensures { IfOk result (λ outcome. outcome ≡ outcome_at (run_of catalog.now) snapshot.entry request.now) }
 {
     let mut overlay = Overlay::over(alloc, snapshot);
     let end = interpret(alloc, catalog, request, &mut overlay)?;
@@ -37,7 +37,7 @@ pub fn execute_within(
     snapshot: Snapshot,
     declared: &Declared,
 ) -> Result<Within, Memory>
-    ensures { IfOk result (λ within. within ≡ within_at (run_of catalog.now) (touchable declared.now) snapshot.entry.tables.now request.now) }
+    ensures { IfOk result (λ within. within ≡ within_at (run_of catalog.now) (touchable declared.now) snapshot.entry request.now) }
 {
     let mut overlay = Overlay::over(alloc, snapshot);
     match interpret_within(alloc, catalog, request, declared, &mut overlay)? {

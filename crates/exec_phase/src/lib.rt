@@ -11,8 +11,6 @@
 //! ```
 #![tactic(auto)]
 
-pub mod executions;
-#[cfg(test)]
-mod tests;
+mod executions;
 
 pub use executions::{execute, execute_within};

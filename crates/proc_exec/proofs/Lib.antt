@@ -1,4 +1,5 @@
 mod Ended
+mod KeyParts
 mod Registers
 mod Remainders
 mod TextFacts

@@ -11,6 +11,7 @@ use Rattle.std.proofs.lemmas.List.Elements.{All-append, All-take}
 use Rattle.std.proofs.lemmas.List.Quantifiers.{position-Some}
 use Rattle.std.proofs.lemmas.Bool.{le-leb}
 use Rattle.aria_base.specs.Texts.{may_hold, IsText}
+use Rattle.aria_base.specs.declared.texts.TheConstants.{LONGEST_TEXT}
 use Rattle.aria_base.specs.declared.values.Value.TheVariants as value
 use Rattle.proc_lang.specs.Values.{joined}
 
@@ -23,15 +24,15 @@ no_bad_byte bytes at text found =
     let never : not true ≡ true = rw good at bad in
     cc
 
-pub text_front : (first second : List ℕ) (n : ℕ) → IsText first → IsText second → n ≤ 500 → IsText (take n (first ++ second))
+pub text_front : (first second : List ℕ) (n : ℕ) → IsText first → IsText second → n ≤ LONGEST_TEXT → IsText (take n (first ++ second))
 text_front first second n p q small =
     (omega (arith, length-take n (first ++ second)), All-take (λ b. may_hold b ≡ true) n (first ++ second) (All-append (λ b. may_hold b ≡ true) first second p.1 q.1))
 
 -- two texts joined, where they are not too long
-pub joined_whole : (first second : List ℕ) → length first + length second ≤ 500 → joined first second ≡ Ok (value.Text (take 500 (first ++ second)))
+pub joined_whole : (first second : List ℕ) → length first + length second ≤ LONGEST_TEXT → joined first second ≡ Ok (value.Text (take LONGEST_TEXT (first ++ second)))
 joined_whole first second small =
-    let fits : length (first ++ second) ≤ 500 = omega (arith, length-append first second) in
-    rw (le-leb (length (first ++ second)) 500 fits, take_all 500 (first ++ second) fits) refl
+    let fits : length (first ++ second) ≤ LONGEST_TEXT = omega (arith, length-append first second) in
+    rw (le-leb (length (first ++ second)) LONGEST_TEXT fits, take_all LONGEST_TEXT (first ++ second) fits) refl
 
 -- a digit is a byte of a text
 digit : (b : ℕ) → 48 ≤ b → b ≤ 57 → may_hold b ≡ true

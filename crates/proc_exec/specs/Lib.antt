@@ -1,5 +1,6 @@
 pub mod Endings
 pub mod Faults
+pub mod KeyParts
 pub mod Lates
 pub mod Limits
 pub mod Outcomes

@@ -1,17 +1,17 @@
 -- What the steps of the interpreter say of the run that the meaning gives. Want of memory says nothing, here and below.
-use Rattle.std.specs.Prelude.{◌≡◌, ◌+◌, true, false, nat_lt, [], ◌∷◌, ◌++◌, length, Option, Result}
+use Rattle.std.specs.Prelude.{◌≡◌, ◌+◌, true, false, nat_lt, Option, Result}
 use Rattle.std.specs.declared.result.Result.TheVariants.{Ok, Err}
 use Rattle.std.specs.FinMap as fin
 use Rattle.aria_base.specs.Orders.{key_cmp, Cells}
 use Rattle.aria_base.specs.declared.keys.Key.{Key}
-use Rattle.aria_base.specs.declared.values.Value.{Value}
 use Rattle.batch_rules.specs.Touches.{Declared as Touchable}
+use Rattle.batch_rules.specs.Trees.{Ends}
 use Rattle.batch_rules.specs.Plays.{Seen, PlayEnd, Finishes, Strays, Played, after_read, allows_read, play}
 use Rattle.proc_lang.specs.declared.ends.End.{End}
 use Rattle.proc_lang.specs.declared.ends.End.TheVariants as end
 use Rattle.proc_lang.specs.declared.ends.Trap.TheVariants.{Many}
-use Rattle.proc_lang.specs.declared.ends.TheConstants.{MOST_ACCESSES, MOST_GIVEN}
-use Rattle.proc_lang.specs.Meaning.{Frame, Next}
+use Rattle.proc_lang.specs.declared.ends.TheConstants.{MOST_ACCESSES}
+use Rattle.proc_lang.specs.Meaning.{Frame, Next, Run}
 use Rattle.proc_exec.specs.declared.outcomes.Ran.{Ran}
 use Rattle.proc_exec.specs.declared.outcomes.Ran.TheVariants as ran
 use Rattle.proc_exec.specs.declared.stops.Fault.{Fault}
@@ -28,11 +28,11 @@ Counts (Ok x) old new = (nat_lt old.made MOST_ACCESSES ≡ true) × (new ≡ rec
 Counts (Err fault.Memory) old new = ⊥
 Counts (Err (fault.Trap trap)) old new = (trap ≡ Many) × (nat_lt old.made MOST_ACCESSES ≡ false)
 
--- one value more, or the trap where it would be one too many
-abbrev pub GivesOne : {A : Type 0} → Result A Fault → Value → Frame → Frame → Type 0
-GivesOne (Ok x) v old new = (nat_lt (length old.gives) MOST_GIVEN ≡ true) × (new ≡ record { regs = old.regs; gives = old.gives ++ v ∷ []; made = old.made })
-GivesOne (Err fault.Memory) v old new = Unit {0}
-GivesOne (Err (fault.Trap trap)) v old new = (trap ≡ Many) × (nat_lt (length old.gives) MOST_GIVEN ≡ false)
+-- a step without access: what is next goes on from the new frame, or the run ends by the trap
+abbrev pub Goes : {A : Type 0} → Result A Fault → Next → Frame → Run → Type 0
+Goes (Ok x) next frame run = run ≡ next frame
+Goes (Err fault.Memory) next frame run = Unit {0}
+Goes (Err (fault.Trap trap)) next frame run = run ≡ Ends (end.Trap trap)
 
 -- how the run that is stopped plays
 abbrev pub stopped : End → Window → Played key_cmp Cells End

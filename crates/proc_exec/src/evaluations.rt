@@ -1,8 +1,11 @@
 // The values of expressions.
-ghost use Rattle.std.specs.Prelude.{◌≡◌, ◌&&◌, ◌||◌, IfOk, int_lt, int_le, slice_get, slice_index_or, pos};
+ghost use Rattle.std.specs.Prelude.{◌≡◌, ◌&&◌, ◌||◌, ℤ, IfOk, IfSome, List, int_lt, int_le, slice_get, slice_index_or, pos};
+ghost use Rattle.std.specs.declared.result.Result.TheVariants.{Ok};
+ghost use Rattle.std.specs.Fmt.{signed_decimal};
 ghost use Rattle.aria_base.specs.declared.values.Value.TheVariants as value;
+ghost use Rattle.proc_lang.specs.Terms as term;
 ghost use Rattle.proc_lang.specs.TermOf.{term_of};
-ghost use Rattle.proc_lang.specs.Values.{both, int_of, is_true, me_of, truth, tuples_of, value_of_arg};
+ghost use Rattle.proc_lang.specs.Values.{both, got, int_of, is_true, me_of, same_value, truth, tuples_of, value_of_arg};
 ghost use Rattle.proc_lang.specs.Meaning.{value_of, values_of};
 ghost use Rattle.proc_exec.specs.Faults.{Computes};
 
@@ -94,6 +97,32 @@ fn one_holds(pair: &(Value, Value)) -> Value
     truth_value(holds(&pair.0) || holds(&pair.1))
 }
 
+/// The number's printed form.
+fn shown(alloc: Global, number: i64) -> Result<Value, Memory>
+    ensures { IfOk result (λ text. text ≡ value.Text (signed_decimal number)) }
+{
+    Ok(Value::Text(show(alloc, number)?))
+}
+
+/// The text of a literal, a register or an argument, where it stands. None of what is a number there,
+/// nor of any other expression.
+fn text_at<'a>(request: &'a Request, registers: &'a Vec<Value>, expr: &'a Expr) -> Option<&'a [u8]>
+    ensures { IfSome result (λ text. (item : List ℤ) → value_of request.now item registers.now.items (term_of expr.now) ≡ Ok (value.Text text.now)) }
+{
+    match expr {
+        Expr::Text(text) => Some(text.as_slice()),
+        Expr::Reg(at) => match registers.get(*at as usize) {
+            Some(Value::Text(text)) => Some(text.as_slice()),
+            _ => None,
+        },
+        Expr::Arg(at) => match request.call.args.as_slice().get(*at as usize) {
+            Some(Arg::Text(text)) => Some(text.as_slice()),
+            _ => None,
+        },
+        _ => None,
+    }
+}
+
 /// The value of the expression, for this request, this tuple of an `Each` and these registers.
 #[cycle(evaluating)]
 pub fn eval(
@@ -118,29 +147,20 @@ pub fn eval(
         Expr::Mul(a, b) => product(eval_both(alloc, request, item, registers, a, b)?),
         Expr::Div(a, b) => divided_by(eval_both(alloc, request, item, registers, a, b)?),
         Expr::Mod(a, b) => remainder_by(eval_both(alloc, request, item, registers, a, b)?),
-        Expr::MulDiv(a, b, c) => {
-            let factors = eval_both(alloc, request, item, registers, a, b)?;
-            product_divided_by(factors, eval(alloc, request, item, registers, c)?)
-        }
-        Expr::Eq(a, b) => Ok(truth_value(same(&eval_both(alloc, request, item, registers, a, b)?))),
-        Expr::Ne(a, b) => Ok(truth_value(!same(&eval_both(
-            alloc, request, item, registers, a, b,
-        )?))),
+        Expr::MulDiv(a, b, c) => eval_muldiv(alloc, request, item, registers, a, b, c),
+        Expr::Eq(a, b) => Ok(truth_value(are_equal(alloc, request, item, registers, a, b)?)),
+        Expr::Ne(a, b) => Ok(truth_value(!are_equal(alloc, request, item, registers, a, b)?)),
         Expr::Lt(a, b) => Ok(less(&eval_both(alloc, request, item, registers, a, b)?)),
         Expr::Le(a, b) => Ok(at_most(&eval_both(alloc, request, item, registers, a, b)?)),
         Expr::And(a, b) => Ok(all_hold(&eval_both(alloc, request, item, registers, a, b)?)),
         Expr::Or(a, b) => Ok(one_holds(&eval_both(alloc, request, item, registers, a, b)?)),
         Expr::Not(a) => Ok(truth_value(!holds(&eval(alloc, request, item, registers, a)?))),
         Expr::Cat(a, b) => join(alloc, eval_both(alloc, request, item, registers, a, b)?),
-        Expr::Front(a, b, most) => front_of(
-            alloc,
-            eval_both(alloc, request, item, registers, a, b)?,
-            *most,
-        ),
-        Expr::Show(a) => Ok(Value::Text(show(
-            alloc,
-            int(&eval(alloc, request, item, registers, a)?),
-        )?)),
+        Expr::Front(a, b, most) => {
+            let texts = eval_both(alloc, request, item, registers, a, b)?;
+            front_of(alloc, texts, *most)
+        }
+        Expr::Show(a) => Ok(shown(alloc, int(&eval(alloc, request, item, registers, a)?))?),
     }
 }
 
@@ -158,6 +178,45 @@ fn eval_both(
 {
     let value = eval(alloc, request, item, registers, first)?;
     Ok((value, eval(alloc, request, item, registers, second)?))
+}
+
+/// The product of two expressions divided by a third.
+#[cycle(evaluating)]
+fn eval_muldiv(
+    alloc: Global,
+    request: &Request,
+    item: &[i64],
+    registers: &Vec<Value>,
+    first: &Expr,
+    second: &Expr,
+    divisor: &Expr,
+) -> Result<Value, Fault>
+    ensures { Computes result (value_of request.now item.now registers.now.items (term.MulDiv (term_of first.now) (term_of second.now) (term_of divisor.now))) }
+{
+    let factors = eval_both(alloc, request, item, registers, first, second)?;
+    product_divided_by(factors, eval(alloc, request, item, registers, divisor)?)
+}
+
+/// Whether the values of two expressions are equal. Texts of two literals, registers or arguments are
+/// compared where they stand.
+#[cycle(evaluating)]
+fn are_equal(
+    alloc: Global,
+    request: &Request,
+    item: &[i64],
+    registers: &Vec<Value>,
+    first: &Expr,
+    second: &Expr,
+) -> Result<bool, Fault>
+    ensures { Computes result (got (both (value_of request.now item.now registers.now.items (term_of first.now)) (value_of request.now item.now registers.now.items (term_of second.now))) (λ p. Ok (same_value p.0 p.1))) }
+{
+    match (
+        text_at(request, registers, first),
+        text_at(request, registers, second),
+    ) {
+        (Some(x), Some(y)) => Ok(x == y),
+        _ => Ok(same(&eval_both(alloc, request, item, registers, first, second)?)),
+    }
 }
 
 /// The values of a list of expressions, from the left.

@@ -1,18 +1,22 @@
 // A run between two statements.
 ghost use Rattle.std.specs.Prelude.{◌≡◌, IfOk, map, pos, slice_set};
+ghost use Rattle.std.specs.declared.result.Result.TheVariants.{Ok};
 ghost use Rattle.aria_base.specs.declared.values.Value.TheVariants as value;
+ghost use Rattle.proc_lang.specs.Steps as step;
 ghost use Rattle.proc_lang.specs.TermOf.{term_of};
-ghost use Rattle.proc_lang.specs.Values.{blank};
-ghost use Rattle.proc_lang.specs.Meaning.{begun, set_to, set_all, blank_all, blank_one, value_of, key_from, row_from, part_of, parts_of};
+ghost use Rattle.proc_lang.specs.Values.{blank, got};
+ghost use Rattle.proc_lang.specs.Meaning.{Next, step_run, begun, set_to, set_all, blank_all, blank_one, value_of, values_of, key_from, row_from, part_of, parts_of};
 ghost use Rattle.proc_exec.specs.Faults.{Computes};
-ghost use Rattle.proc_exec.specs.Steppings.{Counts, GivesOne};
+ghost use Rattle.proc_exec.specs.KeyParts.{key_parts};
+ghost use Rattle.proc_exec.specs.Steppings.{Counts, Goes};
 
 use crate::evaluations::{eval, eval_all};
 use crate::stops::Fault;
 use crate::texts::kept;
-use aria_base::{Items, Key, Kind, Kinded, Kinds, Memory, Part, Parts, Request, Row, Value};
-use proc_lang::ends::{MOST_ACCESSES, MOST_GIVEN};
-use proc_lang::{Expr, Exprs, Gives, Regs, Trap};
+use aria_base::{Key, Kind, Kinded, Kinds, Memory, Part, Parts, Request, Row, Value};
+use proc_lang::{
+    Expr, Exprs, Gives, MOST_ACCESSES, MOST_COLUMNS, MOST_GIVEN, MOST_KEY_PARTS, Regs, Trap,
+};
 use std::alloc::Global;
 use std::marker::Model;
 
@@ -72,11 +76,26 @@ impl Running {
     ) -> Result<Key, Fault>
         ensures { Computes result (key_from request.now item.now self.now.regs table exprs.now) }
     {
-        let values = eval_all(alloc, request, item, &self.registers, exprs)?;
-        Ok(Key {
-            table,
-            parts: parts(alloc, values)?,
-        })
+        let parts = self.parts(alloc, request, item, exprs)?;
+        Ok(Key { table, parts })
+    }
+
+    /// The parts of a key with the values of these expressions.
+    #[tactic(auto, using(crate::proofs::KeyParts::one_more))]
+    fn parts(
+        &self,
+        alloc: Global,
+        request: &Request,
+        item: &[i64],
+        exprs: &Exprs,
+    ) -> Result<Parts, Fault>
+        ensures { Computes result (got (values_of request.now item.now self.now.regs exprs.now) (λ vs. Ok (parts_of vs))) }
+    {
+        let mut parts = Vec::with_capacity(alloc, exprs.as_slice().len())?;
+        for expr in exprs.as_slice() {
+            parts.push(part(eval(alloc, request, item, &self.registers, expr)?))?;
+        }
+        Ok(key_parts(alloc, parts)?)
     }
 
     /// The row with the values of these expressions.
@@ -90,12 +109,28 @@ impl Running {
         ensures { Computes result (row_from request.now item.now self.now.regs exprs.now) }
     {
         let mut values = eval_all(alloc, request, item, &self.registers, exprs)?.into_vec();
-        values.truncate(16);
+        values.truncate(MOST_COLUMNS);
         Ok(Row::from_vec(values))
     }
 
+    /// Sets a register to the value of an expression.
+    pub fn assign(
+        &mut self,
+        alloc: Global,
+        request: &Request,
+        item: &[i64],
+        register: u32,
+        expr: &Expr,
+    ) -> Result<(), Fault>
+        ensures { (next : Next) → Goes result next self.new (step_run request.now (step.Let register (term_of expr.now)) item.now next self.old) }
+    {
+        let value = self.value(alloc, request, item, expr)?;
+        self.set(register, value);
+        Ok(())
+    }
+
     /// Sets a register, where there is one.
-    pub fn set(&mut self, register: u32, value: Value)
+    fn set(&mut self, register: u32, value: Value)
         ensures { self.new ≡ set_to self.old (slice_set self.old.regs register value) }
     {
         let at = register as usize;
@@ -161,10 +196,17 @@ impl Running {
         Ok(())
     }
 
-    /// Adds a value to the reply; traps where it would be one too many.
-    pub fn give(&mut self, value: Value) -> Result<(), Fault>
-        ensures { GivesOne result value self.old self.new }
+    /// Adds the value of an expression to the reply; traps where it would be one too many.
+    pub fn give(
+        &mut self,
+        alloc: Global,
+        request: &Request,
+        item: &[i64],
+        expr: &Expr,
+    ) -> Result<(), Fault>
+        ensures { (next : Next) → Goes result next self.new (step_run request.now (step.Give (term_of expr.now)) item.now next self.old) }
     {
+        let value = self.value(alloc, request, item, expr)?;
         if MOST_GIVEN <= self.given.len() {
             return Err(Fault::Trap(Trap::Many));
         }
@@ -211,18 +253,14 @@ fn part(value: Value) -> Part
     }
 }
 
-/// The parts of a key; of values that are too few or too many the single 0.
-fn parts(alloc: Global, values: Items<Value>) -> Result<Parts, Memory>
-    ensures { IfOk result (λ parts. parts ≡ parts_of values) }
+/// The parts as those of a key: where they are too few or too many, the single 0.
+fn key_parts(alloc: Global, parts: Vec<Part>) -> Result<Parts, Memory>
+    ensures { IfOk result (λ made. made ≡ key_parts parts.items) }
 {
-    let values = values.into_vec();
-    let mut parts = Vec::with_capacity(alloc, values.len())?;
-    if values.is_empty() || 5 < values.len() {
-        parts.push(Part::Int(0))?;
-        return Ok(Parts::from_vec(parts));
-    }
-    for value in values {
-        parts.push(part(value))?;
+    if parts.is_empty() || MOST_KEY_PARTS < parts.len() {
+        let mut zero = Vec::with_capacity(alloc, 1)?;
+        zero.push(Part::Int(0))?;
+        return Ok(Parts::from_vec(zero));
     }
     Ok(Parts::from_vec(parts))
 }

@@ -11,11 +11,11 @@ use aria_base::{Memory, Request};
 use proc_lang::{Access, Catalog, End, Gives};
 use std::alloc::Global;
 
-/// Runs a request through the window: its end, or want of memory. A request of no procedure does
-/// nothing and is done. The window then stands for the map as the run has it at its end, before a
-/// `Back` or a `Trap` puts the old map back, and has noted what the run touches: the keys that it
-/// reads before it writes them, and the keys that it writes. After want of memory nothing is said of
-/// the window.
+/// Runs a request through the window: its end, or want of memory. Where the catalogue has no procedure
+/// of the call's number, nothing is done, and the end is `Done`. No write is taken back here: all that
+/// the run wrote is in the window's map afterwards, also after a `Back` or a `Trap`. What the window
+/// notes of the run are its writes, and the reads of keys that it had not written by then. After want
+/// of memory nothing is said of the window.
 pub fn interpret<A: Access>(
     alloc: Global,
     catalog: &Catalog,

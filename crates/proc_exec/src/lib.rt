@@ -8,18 +8,18 @@
 //! does, and `Lates` what the late fold of a batch is over the types here.
 #![tactic(auto)]
 
-pub mod evaluations;
-pub mod frames;
-pub mod interpretations;
-pub mod limits;
-pub mod numbers;
-pub mod outcomes;
-pub mod runs;
-pub mod stops;
+mod accesses;
+mod evaluations;
+mod frames;
+mod interpretations;
+mod limits;
+mod numbers;
+mod outcomes;
+mod runs;
+mod stops;
 #[cfg(test)]
 mod tests;
-pub mod texts;
+mod texts;
 
 pub use interpretations::{interpret, interpret_within};
 pub use outcomes::{Declared, Late, Outcome, Ran, Waiting, Within};
-pub use runs::run_body;

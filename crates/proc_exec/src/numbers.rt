@@ -18,7 +18,7 @@ pub fn int(value: &Value) -> i64
 }
 
 /// Both numbers of a pair.
-pub fn ints(pair: &(Value, Value)) -> (i64, i64)
+fn ints(pair: &(Value, Value)) -> (i64, i64)
     ensures { result ≡ (int_of pair.now.0, int_of pair.now.1) }
 {
     (int(&pair.0), int(&pair.1))
@@ -39,7 +39,7 @@ pub fn holds(value: &Value) -> bool
 }
 
 /// The number as a value, where it is within the 64-bit numbers.
-pub fn whole(exact: i128) -> Result<Value, Fault>
+fn whole(exact: i128) -> Result<Value, Fault>
     ensures { Computes result (number exact) }
 {
     match i64::try_from(exact) {
@@ -70,7 +70,7 @@ pub fn product(pair: (Value, Value)) -> Result<Value, Fault>
 }
 
 /// The exact product.
-pub fn times(x: i64, y: i64) -> i128
+fn times(x: i64, y: i64) -> i128
     ensures product { result ≡ x *ℤ y }
     ensures small { unsigned_abs result ≤ 2 ^ 126 }
 {
@@ -78,7 +78,7 @@ pub fn times(x: i64, y: i64) -> i128
 }
 
 /// The quotient rounded down, of a divisor that is not 0.
-pub fn rounded_down(x: i128, y: i64) -> i128
+fn rounded_down(x: i128, y: i64) -> i128
     requires nonzero { y ≢ pos 0 }
     requires small { unsigned_abs x ≤ 2 ^ 126 }
     ensures quotient { result ≡ quotient x y }
@@ -91,7 +91,7 @@ pub fn rounded_down(x: i128, y: i64) -> i128
 }
 
 /// The quotient rounded down, as a value.
-pub fn divide(x: i128, y: i64) -> Result<Value, Fault>
+fn divide(x: i128, y: i64) -> Result<Value, Fault>
     requires { unsigned_abs x ≤ 2 ^ 126 }
     ensures { Computes result (divided x y) }
 {
@@ -134,7 +134,7 @@ fn negated(x: i64) -> i128
 
 /// What the quotient rounded down leaves. It has the divisor's sign.
 #[tactic(auto, using(crate::proofs::Remainders::left_by_negative))]
-pub fn rest(x: i64, y: i64) -> i64
+fn rest(x: i64, y: i64) -> i64
     requires { y ≢ pos 0 }
     ensures { result ≡ x -ℤ y *ℤ quotient x y }
 {

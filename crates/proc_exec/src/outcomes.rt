@@ -3,13 +3,17 @@ use aria_base::{Changes, Duplicate, Key, Keys, Memory, Request};
 use proc_lang::End;
 use std::alloc::Global;
 
-/// What a whole run on a snapshot comes to: the keys that it reads before it writes them, in order of
-/// first read; the keys that it writes, in order of first write, each with its last row or absence,
-/// and none where the end is not `Done`; and its end.
+/// What a whole run on a snapshot comes to.
 #[derive(Debug, Drop, PartialEq, Eq)]
 pub struct Outcome {
+    /// The keys at which it saw the snapshot's own rows, since it had not written there yet. A key
+    /// stands here once, and the one that was read earlier comes earlier.
     pub reads: Keys,
+    /// What it asks to be changed: for each key the row of its last write there, or that there is to
+    /// be none. A key stands here once, and the one that was first written earlier comes earlier. A
+    /// run that is not `Done` asks for nothing.
     pub writes: Changes,
+    /// How it ended.
     pub end: End,
 }
 

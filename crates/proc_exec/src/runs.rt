@@ -1,61 +1,23 @@
 // The interpreter.
-ghost use Rattle.std.specs.Prelude.{◌≡◌, IfOk, Option, Some, None, []};
-ghost use Rattle.aria_base.specs.Orders.{Cells, key_cmp};
-ghost use Rattle.batch_rules.specs.Plays.{Finishes, play};
-ghost use Rattle.batch_rules.specs.Trees.{Writes};
-ghost use Rattle.proc_lang.specs.declared.ends.End.TheVariants as end;
-ghost use Rattle.proc_lang.specs.declared.ends.Trap.TheVariants.{Absent};
+ghost use Rattle.std.specs.Prelude.{◌≡◌, IfOk, []};
+ghost use Rattle.batch_rules.specs.Plays.{play};
 ghost use Rattle.proc_lang.specs.Steps as step;
 ghost use Rattle.proc_lang.specs.Syntax.{step_of};
-ghost use Rattle.proc_lang.specs.Values.{tuples_of};
-ghost use Rattle.proc_lang.specs.Meaning.{Next, counted, for_each, step_run, steps_run, done, script};
+ghost use Rattle.proc_lang.specs.Meaning.{Next, step_run, steps_run, script};
 ghost use Rattle.proc_exec.specs.Endings.{EndsAs, EndsWithin};
 ghost use Rattle.proc_exec.specs.Limits.{touchable};
-ghost use Rattle.proc_exec.specs.Steppings.{Follows, Fetched, end_of_ran};
+ghost use Rattle.proc_exec.specs.Steppings.{Follows, end_of_ran};
 
+use crate::accesses::{delete, find, get, need, put};
 use crate::evaluations::tuples_at;
 use crate::frames::Running;
 use crate::limits::{Limits, Unlimited};
 use crate::numbers::holds;
 use crate::outcomes::{Declared, Ran};
 use crate::stops::Stop;
-use aria_base::{Key, Kinds, Memory, Request, Row};
-use proc_lang::{Access, Block, End, Exprs, Stmt, Trap};
+use aria_base::{Kinds, Memory, Request};
+use proc_lang::{Access, Block, End, Stmt};
 use std::alloc::Global;
-
-/// Reads the row of a key.
-fn fetch<L: Limits, A: Access>(
-    limits: &L,
-    key: Key,
-    state: &mut Running,
-    access: &mut A,
-) -> Result<Option<Row>, Stop>
-    ensures { Fetched result (L.declared limits.now) key state.old state.new (A.seen access.old) (A.seen access.new) }
-{
-    state.count()?;
-    if !limits.allows_read(&key) {
-        return Err(Stop::Moved(key));
-    }
-    Ok(access.read(&key)?)
-}
-
-/// Sets or removes the row of a key.
-fn store<L: Limits, A: Access>(
-    limits: &L,
-    key: Key,
-    row: Option<Row>,
-    state: &mut Running,
-    access: &mut A,
-) -> Result<(), Stop>
-    ensures { (next : Next) → Follows result (L.declared limits.now) next state.new (A.seen access.new) (play (L.declared limits.now) (counted state.old (λ f. Writes key row (next f))) (A.seen access.old)) }
-{
-    state.count()?;
-    if !limits.allows_write(&key) {
-        return Err(Stop::Moved(key));
-    }
-    access.write(key, row)?;
-    Ok(())
-}
 
 /// Runs one statement.
 #[cycle(running)]
@@ -71,60 +33,27 @@ fn run_stmt<L: Limits, A: Access>(
     ensures { (next : Next) → Follows result (L.declared limits.now) next state.new (A.seen access.new) (play (L.declared limits.now) (step_run request.now (step_of stmt.now) item.now next state.old) (A.seen access.old)) }
 {
     match stmt {
-        Stmt::Let(register, expr) => {
-            let value = state.value(alloc, request, item, expr)?;
-            state.set(*register, value);
-            Ok(())
-        }
-        Stmt::Get(table, key, registers) => {
-            let key = state.key(alloc, request, item, *table, key)?;
-            let Some(row) = fetch(limits, key, state, access)? else {
-                return Err(Stop::Trap(Trap::Absent));
-            };
-            state.set_row(registers, row);
-            Ok(())
-        }
-        Stmt::Need(table, key, registers, code) => {
-            let key = state.key(alloc, request, item, *table, key)?;
-            let Some(row) = fetch(limits, key, state, access)? else {
-                return Err(Stop::Back(*code));
-            };
-            state.set_row(registers, row);
-            Ok(())
-        }
-        Stmt::Find(table, key, registers, flag) => {
-            let key = state.key(alloc, request, item, *table, key)?;
-            match fetch(limits, key, state, access)? {
-                Some(row) => state.set_found(registers, row, *flag),
-                None => state.set_missed(alloc, registers, *flag)?,
-            }
-            Ok(())
-        }
-        Stmt::Put(table, key, columns) => {
-            let key = state.key(alloc, request, item, *table, key)?;
-            let row = state.row(alloc, request, item, columns)?;
-            store(limits, key, Some(row), state, access)
-        }
-        Stmt::Del(table, key) => {
-            let key = state.key(alloc, request, item, *table, key)?;
-            store(limits, key, None, state, access)
-        }
+        Stmt::Let(register, expr) => Ok(state.assign(alloc, request, item, *register, expr)?),
+        Stmt::Get(table, key, registers) => get(
+            alloc, limits, request, item, *table, key, registers, state, access,
+        ),
+        Stmt::Need(table, key, registers, code) => need(
+            alloc, limits, request, item, *table, key, registers, *code, state, access,
+        ),
+        Stmt::Find(table, key, registers, flag) => find(
+            alloc, limits, request, item, *table, key, registers, *flag, state, access,
+        ),
+        Stmt::Put(table, key, columns) => put(
+            alloc, limits, request, item, *table, key, columns, state, access,
+        ),
+        Stmt::Del(table, key) => delete(alloc, limits, request, item, *table, key, state, access),
         Stmt::If(test, first, second) => {
-            let block = if holds(&state.value(alloc, request, item, test)?) {
-                first
-            } else {
-                second
-            };
+            let test = holds(&state.value(alloc, request, item, test)?);
+            let block = if test { first } else { second };
             run_block(alloc, limits, request, item, block, state, access)
         }
-        Stmt::Each(argument, body) => run_each(
-            alloc, limits, request, *argument, body, state, access,
-        ),
-        Stmt::Give(expr) => {
-            let value = state.value(alloc, request, item, expr)?;
-            state.give(value)?;
-            Ok(())
-        }
+        Stmt::Each(list, body) => run_each(alloc, limits, request, *list, body, state, access),
+        Stmt::Give(expr) => Ok(state.give(alloc, request, item, expr)?),
         Stmt::Fail(code) => Err(Stop::Back(*code)),
     }
 }
@@ -197,18 +126,17 @@ fn run_within<L: Limits, A: Access>(
 }
 
 /// Runs a body for a request through the window: its end, or want of memory. The registers have these
-/// kinds. The window then stands for the map as the run has it at its end, before a `Back` or a `Trap`
-/// puts the old map back, and has noted what the run touches. After want of memory nothing is said of
+/// kinds. Whatever the end, the window has then noted what the run touched, and its map has all that
+/// the run wrote: a `Back` or a `Trap` takes nothing back here. After want of memory nothing is said of
 /// the window.
-pub fn run_body<A: Access>(
+pub(crate) fn run_body<A: Access>(
     alloc: Global,
     body: &Block,
     registers: &Kinds,
     request: &Request,
     access: &mut A,
 ) -> Result<End, Memory>
-    ensures played { IfOk result (λ end. play None (script body.now registers.now request.now) (A.seen access.old) ≡ record { end = Finishes end; seen = A.seen access.new }) }
-    ensures run { IfOk result (EndsAs (script body.now registers.now request.now) (A.seen access.old) (A.seen access.new)) }
+    ensures { IfOk result (EndsAs (script body.now registers.now request.now) (A.seen access.old) (A.seen access.new)) }
 {
     match run_within(alloc, &Unlimited, body, registers, request, access)? {
         Ran::Ended(end) => Ok(end),
@@ -227,7 +155,7 @@ pub(crate) fn run_body_within<A: Access>(
     declared: &Declared,
     access: &mut A,
 ) -> Result<Ran, Memory>
-    ensures run { IfOk result (EndsWithin (touchable declared.now) (script body.now registers.now request.now) (A.seen access.old) (A.seen access.new)) }
+    ensures { IfOk result (EndsWithin (touchable declared.now) (script body.now registers.now request.now) (A.seen access.old) (A.seen access.new)) }
 {
     run_within(alloc, declared, body, registers, request, access)
 }

@@ -13,7 +13,7 @@ use proc_lang::Trap;
 use std::alloc::Global;
 
 /// The bytes of a text, none of a number.
-pub fn text(value: &Value) -> &[u8]
+fn text(value: &Value) -> &[u8]
     ensures bytes { result.now ≡ text_of value.now }
     ensures text { IsText result.now }
 {

@@ -1,6 +1,7 @@
 pub mod CatalogCodes
 pub mod Catalogs
 pub mod Falls
+pub mod Flaws
 pub mod Meaning
 pub mod StepCodes
 pub mod Steps

@@ -16,6 +16,7 @@ use Rattle.batch_rules.specs.Trees.{Tree, Ends, Reads, Writes}
 use Rattle.proc_lang.specs.declared.ends.End.{End}
 use Rattle.proc_lang.specs.declared.ends.End.TheVariants as end
 use Rattle.proc_lang.specs.declared.ends.Trap.TheVariants.{Absent, Many}
+use Rattle.proc_lang.specs.declared.catalogs.TheConstants.{MOST_KEY_PARTS, MOST_COLUMNS}
 use Rattle.proc_lang.specs.declared.ends.TheConstants.{MOST_ACCESSES, MOST_GIVEN}
 use Rattle.proc_lang.specs.Terms.{Term}
 use Rattle.proc_lang.specs.Terms as term
@@ -64,14 +65,14 @@ part_of (value.Text bytes) = part.Text bytes
 
 -- the parts of a key; of a list that is no key's the single 0
 abbrev pub parts_of : List Value → List Part
-parts_of vs = if nat_lt 0 (length vs) && nat_le (length vs) 5 then map part_of vs else part.Int (pos 0) ∷ []
+parts_of vs = if nat_lt 0 (length vs) && nat_le (length vs) MOST_KEY_PARTS then map part_of vs else part.Int (pos 0) ∷ []
 
 abbrev pub key_from : Request → List ℤ → List Value → ℕ → List Term → Got Key
 key_from r item regs table ks = got (values_of r item regs ks) (λ vs. Ok (record { table = table; parts = parts_of vs }))
 
--- a row; of a list that is no row its first sixteen
+-- a row; of a list that is no row its first columns, as many as a row may have
 abbrev pub row_from : Request → List ℤ → List Value → List Term → Got Cells
-row_from r item regs es = got (values_of r item regs es) (λ vs. Ok (take 16 vs))
+row_from r item regs es = got (values_of r item regs es) (λ vs. Ok (take MOST_COLUMNS vs))
 
 -- ---- registers
 

@@ -36,7 +36,7 @@ abbrev pub text_of : Value → List ℕ
 text_of (value.Int n) = []
 text_of (value.Text bytes) = bytes
 
--- a whole number counts as true where it is not 0
+-- any number but 0 passes for true
 abbrev pub is_true : Value → Bool
 is_true v = not (int_eq (int_of v) (pos 0))
 

@@ -5,7 +5,7 @@ ghost use Rattle.proc_lang.specs.Catalogs.{Plan, IsCatalog, takes, args_fit, arg
 ghost use Rattle.proc_lang.specs.Typing.{IsWellTyped};
 
 use crate::procs::{ArgKind, Proc};
-use aria_base::{Arg, Call, Duplicate, Items, Memory, Schema, Txt};
+use aria_base::{Arg, Call, Duplicate, Items, Memory, Schema, Table, Txt};
 use std::alloc::Global;
 use std::marker::Model;
 
@@ -39,8 +39,8 @@ pub const GREATEST_CODE: u16 = 999;
 /// The most bytes that a `front` may be asked for.
 pub const MOST_FRONT: u32 = 500;
 
-/// A procedure that is well typed under the tables that it was sealed for. A contract sees the
-/// procedure.
+/// A procedure that was well typed under the tables for which it was sealed. A contract sees the
+/// procedure; that the tables are those of a catalogue is the catalogue's to say.
 #[derive(Drop)]
 pub struct Checked {
     proc: Proc,
@@ -120,7 +120,7 @@ impl Catalog {
     pub fn table(&self, name: &[u8]) -> Option<u16>
         ensures { result ≡ position (λ t. bytes_eq t.name name.now) self.now.tables }
     {
-        match table_named(&self.schema, name) {
+        match table_named(self.schema.as_slice(), name) {
             Some(number) => Some(number as u16),
             None => None,
         }
@@ -136,8 +136,9 @@ impl Catalog {
         }
     }
 
-    /// Whether the call's procedure is there and the arguments fit its kinds, in number and kind. A
-    /// list fits where all its tuples have as many numbers as the kind says. No memory.
+    /// Whether the call can be run: its number is that of a procedure, and it brings one argument for
+    /// each of that one's kinds, a number, a text or a list of tuples with just so many numbers. No
+    /// memory.
     pub fn takes(&self, call: &Call) -> bool
         ensures { result ≡ takes self.now call.now }
     {
@@ -174,11 +175,10 @@ impl Catalog {
     }
 }
 
-/// The place of the table with this name.
-fn table_named(tables: &Schema, name: &[u8]) -> Option<usize>
+/// The place of the first table with this name; None where there is none. No memory.
+pub fn table_named(tables: &[Table], name: &[u8]) -> Option<usize>
     ensures { result ≡ position (λ t. bytes_eq t.name name.now) tables.now }
 {
-    let tables = tables.as_slice();
     tables.iter().position(|table| is_called(&table.name, name))
 }
 

@@ -6,9 +6,9 @@ use aria_base::{Duplicate, Memory, Txt};
 use std::alloc::Global;
 use std::marker::Model;
 
-/// An expression. A whole number counts as true where it is not 0; tests give 1 or 0. Operands are
-/// evaluated from the left, all of them, and the first trap ends the run. Registers, arguments and
-/// items count from 0.
+/// An expression. A test gives 1 or 0, and any number but 0 passes for true. Operands are worked out
+/// in the order in which they are written, and none is skipped, in `And` and `Or` neither; the first
+/// trap ends the run. The first register, argument or item has the number 0.
 #[derive(Drop)]
 pub enum Expr {
     /// The number itself.

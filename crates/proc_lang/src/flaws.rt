@@ -1,4 +1,8 @@
 // Why a procedure is not well typed.
+ghost use Rattle.std.specs.Prelude.{Some};
+ghost use Rattle.proc_lang.specs.Flaws.{wrong_text};
+
+use std::fmt;
 
 /// The statement's table is not there.
 pub const UNKNOWN_TABLE: u8 = 1;
@@ -16,7 +20,7 @@ pub const KIND: u8 = 4;
 pub const REGISTER: u8 = 5;
 
 /// An argument is not there, a list stands in the place of a plain one or the other way round, or an
-/// item is not one of the tuples that the statement goes over.
+/// item is no number of the tuple, or stands in no `each`.
 pub const ARGUMENT: u8 = 6;
 
 /// An `if` or `each` lies in four blocks already, or an `each` in another one.
@@ -35,4 +39,16 @@ pub struct Wrong {
     pub place: u32,
     /// One of the seven causes above.
     pub cause: u8,
+}
+
+impl fmt::Display for Wrong {
+    ghost output = { λ wrong. Some (wrong_text wrong) };
+
+    fn fmt<W: fmt::Write>(&self, f: &mut fmt::Formatter<W>) -> fmt::Result {
+        let Wrong { proc, place, cause } = *self;
+        write!(
+            f,
+            "procedure {proc} fails at statement {place}, cause {cause}"
+        )
+    }
 }

@@ -7,22 +7,22 @@
 //! that it finds.
 #![tactic(auto)]
 
-pub mod accesses;
-pub mod catalogs;
-pub mod ends;
-pub mod expressions;
-pub mod flaws;
-pub mod procs;
-pub mod statements;
+mod accesses;
+mod catalogs;
+mod ends;
+mod expressions;
+mod flaws;
+mod procs;
+mod statements;
 #[cfg(test)]
 mod tests;
 
 pub use accesses::Access;
 pub use catalogs::{
     Catalog, Checked, DEEPEST_EXPR, GREATEST_CODE, MOST_ARGS, MOST_COLUMNS, MOST_FRONT,
-    MOST_KEY_PARTS, MOST_PROCS, MOST_REGS, MOST_STATEMENTS, MOST_TABLES,
+    MOST_KEY_PARTS, MOST_PROCS, MOST_REGS, MOST_STATEMENTS, MOST_TABLES, table_named,
 };
-pub use ends::{End, Gives, Trap};
+pub use ends::{End, Gives, MOST_ACCESSES, MOST_GIVEN, Trap};
 pub use expressions::{Expr, Exprs, copy_expr};
 pub use flaws::{
     ARGUMENT, COLUMNS, KEY_LENGTH, KIND, MOST_BLOCKS, NESTING, REGISTER, UNKNOWN_TABLE, Wrong,

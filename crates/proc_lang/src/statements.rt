@@ -12,31 +12,31 @@ use std::marker::Model;
 /// the later column.
 pub type Regs = Items<u32>;
 
-/// A statement. A table is named by its number. A code is from 1 to 999. Keys are evaluated first,
-/// then columns; then the access is made.
+/// A statement. A table is named by its number. A code is from 1 to 999. The access is the last thing
+/// that a statement does: before it come the parts of the key, and after them the columns.
 #[cycle(syntax)]
 #[derive(Drop)]
 pub enum Stmt {
     /// Sets a register.
     Let(u32, Expr),
-    /// Reads the row of a key into registers. An absent row traps with `Absent`.
+    /// Reads the row of a key into registers. Where there is none, the trap `Absent`.
     Get(u16, Exprs, Regs),
-    /// The same; an absent row ends the run with `Back` and this code.
+    /// The same, but where there is no row the run fails with this code.
     Need(u16, Exprs, Regs, u16),
-    /// The same, and then the last register becomes 1. Where the row is absent, each register
-    /// becomes 0 or the empty text, and then the last one 0.
+    /// The same, but where there is no row the registers get 0 or the empty text. The last register is
+    /// set after the others and tells 1 or 0: whether there was one.
     Find(u16, Exprs, Regs, u32),
     /// Writes a row: the key, then the columns.
     Put(u16, Exprs, Exprs),
     /// Deletes the row of a key.
     Del(u16, Exprs),
-    /// The first block where the number is not 0, else the second.
+    /// Runs one of two blocks: the second where the number is 0, and otherwise the first.
     If(Expr, Block, Block),
     /// The block once for each tuple of a list argument, in order.
     Each(u32, Block),
-    /// Adds a value to the reply.
+    /// Puts one more value behind those that the reply has.
     Give(Expr),
-    /// Ends the run with `Back` and this code.
+    /// The run fails with this code.
     Fail(u16),
 }
 
@@ -103,26 +103,17 @@ pub fn copy_stmt(alloc: Global, stmt: &Stmt) -> Result<Stmt, Memory>
 {
     match stmt {
         Stmt::Let(register, value) => Ok(Stmt::Let(*register, copy_expr(alloc, value)?)),
-        Stmt::Get(table, key, registers) => Ok(Stmt::Get(
-            *table,
-            key.duplicate(alloc)?,
-            registers.duplicate(alloc)?,
-        )),
+        Stmt::Get(table, key, registers) => {
+            let (key, registers) = copy_read(alloc, key, registers)?;
+            Ok(Stmt::Get(*table, key, registers))
+        }
         Stmt::Need(table, key, registers, code) => {
-            Ok(Stmt::Need(
-                *table,
-                key.duplicate(alloc)?,
-                registers.duplicate(alloc)?,
-                *code,
-            ))
+            let (key, registers) = copy_read(alloc, key, registers)?;
+            Ok(Stmt::Need(*table, key, registers, *code))
         }
         Stmt::Find(table, key, registers, flag) => {
-            Ok(Stmt::Find(
-                *table,
-                key.duplicate(alloc)?,
-                registers.duplicate(alloc)?,
-                *flag,
-            ))
+            let (key, registers) = copy_read(alloc, key, registers)?;
+            Ok(Stmt::Find(*table, key, registers, *flag))
         }
         Stmt::Put(table, key, columns) => Ok(Stmt::Put(
             *table,
@@ -141,4 +132,11 @@ pub fn copy_stmt(alloc: Global, stmt: &Stmt) -> Result<Stmt, Memory>
         Stmt::Give(value) => Ok(Stmt::Give(copy_expr(alloc, value)?)),
         Stmt::Fail(code) => Ok(Stmt::Fail(*code)),
     }
+}
+
+/// What the statements that read a row have in common.
+fn copy_read(alloc: Global, key: &Exprs, registers: &Regs) -> Result<(Exprs, Regs), Memory>
+    ensures { IfOk result (λ copies. (copies.0 ≡ key.now) × (copies.1 ≡ registers.now)) }
+{
+    Ok((key.duplicate(alloc)?, registers.duplicate(alloc)?))
 }

@@ -1,5 +1,5 @@
-// What no clause shows: that the calls on catalogues succeed where there is memory. The procedures of
-// a catalogue are tested where there are some, with the built-in catalogues.
+// What no clause shows: that the calls on catalogues succeed where there is memory. Catalogues with
+// procedures are tested in `worked_runs`.
 use crate::{Block, Catalog, Checked, Proc};
 use aria_base::{Args, Call, Items, Kind, Memory, Schema, Txt};
 use std::alloc::Global;

@@ -1,11 +1,13 @@
-//! A well-typed procedure never meets a default.
+//! A well-typed procedure never gets stuck.
 //!
 //! The meaning of procedures is total: where something is not to be had, say the value of a register that was never set, or the number
 //! in a text, it goes on with a plain default. Here stands a second meaning, the careful one. It is the same language without those
-//! defaults: where the first meaning would take one, a run is stuck.
+//! defaults: where the first meaning would take one, a run is stuck. Two bounds are not for typing to keep and stand in both: `front`
+//! takes no more bytes than a text has, and a request number from 2^63 on reads as 0.
 //!
 //! The law says: let a procedure be well typed, let a request's arguments fit it, and let each row of the database fit its table. Then
-//! the careful run makes the very accesses of the plain run and comes to its end. So it is not stuck, and the plain run met no default.
+//! the careful run makes the very accesses of the plain run and comes to its end. So it is not stuck, and the plain run met none of
+//! those defaults.
 //! And each row of the database that the run leaves fits its table again, so the next run may begin there.
 //!
 //! Why it is true. Between any two statements every register holds a value of its kind, and those that typing counts as set are set in

@@ -1,5 +1,6 @@
 -- What a refusal says of the typing of a procedure.
-use Rattle.std.specs.Prelude.{◌≡◌, ℕ, List, ◌++◌, Result, codes, decimal}
+use Rattle.std.specs.Prelude.{◌≡◌, ℕ, List, Result, codes}
+use Rattle.proc_lang.specs.Flaws.{wrong_text}
 use Rattle.std.specs.declared.result.Result.TheVariants.{Err}
 use Rattle.proc_lang.specs.Typing.{Flaw, Reached}
 use Rattle.proc_verify.specs.declared.refusals.VerifyRefused.{VerifyRefused}
@@ -13,4 +14,4 @@ NamesFirst number typed (Wrong w) = (w.proc ≡ number) × (typed ≡ Err (recor
 -- what `{}` prints of a refusal
 abbrev pub refusal_text : VerifyRefused → List ℕ
 refusal_text Memory = codes "no memory"
-refusal_text (Wrong w) = codes "procedure " ++ decimal w.proc ++ codes " fails at statement " ++ decimal w.place ++ codes ", cause " ++ decimal w.cause
+refusal_text (Wrong w) = wrong_text w

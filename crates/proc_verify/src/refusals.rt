@@ -23,13 +23,7 @@ impl fmt::Display for VerifyRefused {
     fn fmt<W: fmt::Write>(&self, f: &mut fmt::Formatter<W>) -> fmt::Result {
         match self {
             VerifyRefused::Memory => f.write_str("no memory"),
-            VerifyRefused::Wrong(wrong) => {
-                let Wrong { proc, place, cause } = *wrong;
-                write!(
-                    f,
-                    "procedure {proc} fails at statement {place}, cause {cause}"
-                )
-            }
+            VerifyRefused::Wrong(wrong) => wrong.fmt(f),
         }
     }
 }

@@ -18,7 +18,7 @@ view share marks = record { share = share; marks = marks }
 abbrev pub IsPut : ℕ → ℕ → List View → ℕ → Type 0
 IsPut tag place views number = (seat : ℕ) × (v : View) × (tid : ℕ) × (get_elem? views seat ≡ some v) × IsMarked place v.marks tid × (number ≡ number_under tag tid)
 
--- a word is the least of its start value and of the numbers put at its place
+-- what a word comes down to: the least of what it began with and what was put at its place
 pub record IsLeastPut (old : List ℕ) (tag place : ℕ) (views : List View) (word : ℕ) : Type 0 where
   pub start : word ≤ start_of old place
   pub least : (number : ℕ) → IsPut tag place views number → word ≤ number

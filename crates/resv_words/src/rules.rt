@@ -17,7 +17,7 @@ pub struct View {
     pub marks: LinkedList<Mark>,
 }
 
-// Each word is the least of its start value and of the numbers of all marks on it.
+// Where all marks are made, a word has come down to the least number that was put on it, or kept its start value if that is less.
 pub struct LeastNumbers;
 
 impl TableRule<(), View, Origin> for LeastNumbers {

@@ -1,4 +1,4 @@
--- Sixteen shards are together one map: each key's row stands in its own shard.
+-- All shards are together one map: each key's row stands in its own shard.
 use Rattle.std.proofs.Common.{◌≡◌, ◌≢◌, ℕ, zero, suc, ◌+◌, ◌<◌, List, [], ◌∷◌, ◌++◌, length, Option, Some, None, cond, true, false, refl, sym, ap, subst, ◌∙◌, ⊎_elim, arith}
 use Rattle.std.specs.Prelude.{slice_index_or, slice_set}
 use Rattle.std.specs.Option.{IsSome, option_or}
@@ -11,6 +11,7 @@ use Rattle.aria_base.specs.Orders.{key_cmp, Cells}
 use Rattle.aria_base.specs.declared.keys.Key.{Key}
 use Rattle.aria_base.proofs.Orders.{key_cmp_total, key_cmp-IsAntisymmetric}
 use Rattle.tbl_rows.specs.Shards.{home, Piece, IsOwn, AllOwn, IsWhole, with_row, without_row, bare, joined, at_home}
+use Rattle.tbl_rows.specs.declared.homes.TheConstants.{SHARDS}
 use Rattle.tbl_rows.proofs.Owned.{same_key, IsOwn-bare}
 
 -- all rows of the shards, shard after shard
@@ -67,7 +68,7 @@ from n (p ∷ ps) q (suc i) d numbered own at below =
     ∙ ap (λ row. option_or row (fin.find key_cmp q (listed ps))) (sym (fin.get-entries p.rows q) ∙ none_elsewhere p q (own 0 p (omega arith)) (omega (arith, here, at)))
     ∙ from (suc n) ps q i d (later n p ps numbered) (own_later p ps own) (at ∙ omega arith) (omega (arith, below))
 
-pub home-below : (q : Key) → home q < 16
+pub home-below : (q : Key) → home q < SHARDS
 unfolding home
 home-below q = omega arith
 
@@ -82,7 +83,7 @@ get-at_home ps n p q whole at is =
     let below : n < length ps = omega (arith, whole.count, at, home-below q) in
     ap (λ s. fin.get s.rows q) (is ∙ get_or_default ps n p (bare 0) below) ∙ ap (λ m. fin.get (slice_index_or ps m (bare 0)).rows q) at ∙ sym (get-joined ps whole q)
 
-IsWhole-set : (ps : List Piece) (i : ℕ) (p : Piece) → IsWhole ps → i < 16 → p.number ≡ i → IsOwn p → IsWhole (slice_set ps i p)
+IsWhole-set : (ps : List Piece) (i : ℕ) (p : Piece) → IsWhole ps → i < SHARDS → p.number ≡ i → IsOwn p → IsWhole (slice_set ps i p)
 IsWhole-set ps i p whole below number own =
     let each : (P : ℕ → Piece → Type 0) → P i p → ((j : ℕ) (d : Piece) → j < length ps → P j (slice_index_or ps j d)) → (j : ℕ) (d : Piece) → j < length (slice_set ps i p) → P j (slice_index_or (slice_set ps i p) j d) =
     λ P here others j d inside. let inside : j < length ps = subst (λ n. j < n) (length-set ps i p) inside in
@@ -120,7 +121,7 @@ changed ps i p k w whole at after is q =
 -- in the forms of the calls: old stood at the place i, and new stands there now
 pub IsWhole-put : (ps : List Piece) (i : ℕ) (old new : Piece) (k : Key) → IsWhole ps → i ≡ home k → old ≡ slice_index_or ps i old → new.number ≡ old.number → IsOwn new → IsWhole (slice_set ps i new)
 IsWhole-put ps i old new k whole at is number own =
-    let below : i < 16 = omega (arith, at, home-below k) in
+    let below : i < SHARDS = omega (arith, at, home-below k) in
     IsWhole-set ps i new whole below (number ∙ ap (λ p. p.number) is ∙ whole.numbered i old (omega (arith, below, whole.count))) own
 
 pub joined-put : (ps : List Piece) (i : ℕ) (old new : Piece) (k : Key) (row : Cells) → IsWhole ps → i ≡ home k → old ≡ slice_index_or ps i old → new ≡ with_row old k row → IsOwn new → joined (slice_set ps i new) ≡ fin.insert (joined ps) k row
@@ -141,19 +142,19 @@ joined-deleted ps i old new k whole at is deleted own =
     (λ q. ap (λ p. fin.get p.rows q) deleted ∙ fin.get-remove key_cmp_total old.rows k q ∙ ap (λ p. cond (eq_by_cmp key_cmp q k) None (fin.get p.rows q)) (is ∙ get_or_default ps i old (bare 0) below)) q
     ∙ sym (fin.get-remove key_cmp_total (joined ps) k q))
 
--- sixteen shards with no rows
+-- shards with no rows
 pub record AllBare (n : ℕ) (pieces : List Piece) : Type 0 where
   pub count : length pieces ≡ n
   pub each : (i : ℕ) (d : Piece) → i < n → slice_index_or pieces i d ≡ bare i
 
-pub IsWhole-bare : (ps : List Piece) → AllBare 16 ps → IsWhole ps
+pub IsWhole-bare : (ps : List Piece) → AllBare SHARDS ps → IsWhole ps
 IsWhole-bare ps bares = record {
   count = bares.count;
   numbered = λ i d below. ap (λ p. p.number) (bares.each i d (subst (λ n. i < n) bares.count below));
   own = λ i d below. subst IsOwn (sym (bares.each i d (subst (λ n. i < n) bares.count below))) (IsOwn-bare i);
 }
 
-pub joined-bare : (ps : List Piece) → AllBare 16 ps → joined ps ≡ fin.empty
+pub joined-bare : (ps : List Piece) → AllBare SHARDS ps → joined ps ≡ fin.empty
 joined-bare ps bares = fin.same_map key_cmp_total key_cmp-IsAntisymmetric _ _ (λ q.
     get-joined ps (IsWhole-bare ps bares) q ∙ ap (λ p. fin.get p.rows q) (bares.each (home q) (bare 0) (home-below q))
     ∙ fin.get-empty key_cmp q ∙ sym (fin.get-empty key_cmp q))

@@ -7,6 +7,7 @@ use Rattle.aria_base.specs.Orders.{Cells, Database}
 use Rattle.aria_base.specs.declared.keys.Part.{Part}
 use Rattle.aria_base.specs.declared.keys.Part.TheVariants as part
 use Rattle.aria_base.specs.declared.keys.Key.{Key}
+use Rattle.tbl_rows.specs.declared.homes.TheConstants.{SHARDS, HIDDEN_BITS}
 
 -- one more word in a key's mark: times 2 ^ 64 over the golden ratio, which puts neighbours far apart
 abbrev pub marked : ℕ → ℕ → ℕ
@@ -17,9 +18,13 @@ abbrev pub part_marked : ℕ → Part → ℕ
 part_marked mark (part.Int number) = marked mark (cast_unsigned w64 number)
 part_marked mark (part.Text bytes) = fold marked mark bytes
 
--- the shard of a key, below 16: the highest bits of its mark
+-- a mark with its upper half added to the lower one
+abbrev pub folded : ℕ → ℕ
+folded mark = (mark + mark / 2 ^ 32) % 2 ^ 64
+
+-- the shard of a key: the highest bits of its mark, which is folded before it is marked once more
 unfoldable pub home : Key → ℕ
-home key = marked (fold part_marked key.table key.parts) 0 / 2 ^ 60
+home key = marked (folded (marked (fold part_marked key.table key.parts) 0)) 0 / 2 ^ HIDDEN_BITS
 
 -- what a contract sees of a shard
 pub record Piece : Type 0 where
@@ -41,6 +46,11 @@ bare number = record { number = number; rows = fin.empty }
 abbrev pub IsOwn : Piece → Type 0
 IsOwn piece = (q : Key) → IsSome (fin.get piece.rows q) → home q ≡ piece.number
 
+-- what is so of every shard
+pub record IsShard (piece : Piece) : Type 0 where
+  pub below : piece.number < SHARDS
+  pub own : IsOwn piece
+
 -- the shard at place i has the number i
 abbrev pub AllNumbered : List Piece → Type 0
 AllNumbered pieces = (i : ℕ) (d : Piece) → i < length pieces → (slice_index_or pieces i d).number ≡ i
@@ -48,9 +58,9 @@ AllNumbered pieces = (i : ℕ) (d : Piece) → i < length pieces → (slice_inde
 abbrev pub AllOwn : List Piece → Type 0
 AllOwn pieces = (i : ℕ) (d : Piece) → i < length pieces → IsOwn (slice_index_or pieces i d)
 
--- sixteen shards, in the order of their numbers
+-- all shards, in the order of their numbers
 pub record IsWhole (pieces : List Piece) : Type 0 where
-  pub count : length pieces ≡ 16
+  pub count : length pieces ≡ SHARDS
   pub numbered : AllNumbered pieces
   pub own : AllOwn pieces
 

@@ -1,7 +1,8 @@
 // To which shard a key belongs.
 ghost use Rattle.std.specs.Prelude.{◌≡◌, ◌<◌};
 ghost use Rattle.std.specs.List.{fold};
-ghost use Rattle.tbl_rows.specs.Shards.{home, marked, part_marked};
+ghost use Rattle.tbl_rows.specs.Shards.{home, folded, marked, part_marked};
+ghost use Rattle.tbl_rows.specs.declared.homes.TheConstants.{SHARDS};
 
 use aria_base::{Key, Part};
 
@@ -11,18 +12,31 @@ pub const SHARDS: u8 = 16;
 /// 2^64 over the golden ratio: an odd factor that puts neighbouring words far apart.
 const SPREAD: u64 = 0x9E37_79B9_7F4A_7C15;
 
-/// The number of the shard that a key belongs to, below 16. Keys of one table and neighbouring
-/// numbers are spread evenly.
+/// How many of a mark's bits its shard does not show: all but the highest four.
+const HIDDEN_BITS: u32 = 60;
+
+/// The number of the shard that a key belongs to. In the tests, of 100,000 keys of one table no shard
+/// has over a tenth more than its share: of neighbouring numbers, of numbers 1,024 apart and 832,040
+/// apart, of pairs and of texts. Of other keys nothing is claimed.
 #[tactic(auto, unfolding(crate::specs::Shards::home))]
 pub fn shard_of(key: &Key) -> u8
     ensures home { result ≡ home key.now }
-    ensures below { result < 16 }
+    ensures below { result < SHARDS }
 {
     let mut mark = u64::from(key.table);
     for part in key.parts.as_slice() {
         mark = mark_part(mark, part);
     }
-    (mark_word(mark, 0) >> 60) as u8
+    let mark = folded(mark_word(mark, 0));
+    (mark_word(mark, 0) >> HIDDEN_BITS) as u8
+}
+
+/// A mark with its upper half added to the lower one. One factor alone would keep keys together that
+/// lie so far apart that their marks are close.
+fn folded(mark: u64) -> u64
+    ensures { result ≡ folded mark }
+{
+    mark.wrapping_add(mark >> 32)
 }
 
 /// A key's mark with one more word.

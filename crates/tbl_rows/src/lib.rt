@@ -12,12 +12,12 @@
 //! ```
 #![tactic(auto)]
 
-pub mod homes;
-pub mod refusals;
-pub mod shards;
-pub mod tables;
+mod homes;
+mod refusals;
+mod shards;
+mod tables;
 
-pub use homes::shard_of;
+pub use homes::{SHARDS, shard_of};
 pub use refusals::Refused;
 pub use shards::Shard;
 pub use tables::Tables;

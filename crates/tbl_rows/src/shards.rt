@@ -4,6 +4,7 @@ ghost use Rattle.std.specs.Option.{option_copied};
 ghost use Rattle.std.specs.Map.Iter.{deref_pair};
 ghost use Rattle.std.specs.FinMap as fin;
 ghost use Rattle.tbl_rows.specs.Shards.{home, bare, with_row, without_row, IsOwn};
+ghost use Rattle.tbl_rows.specs.declared.homes.TheConstants.{SHARDS};
 
 use crate::refusals::Refused;
 use aria_base::{Duplicate, Key, Memory, Row, copy_key, copy_row};
@@ -22,7 +23,7 @@ pub struct Shard {
 impl Model for Shard {
     ghost use Rattle.std.specs.FinMap as fin;
     ghost use Rattle.tbl_rows.specs.Codes.{piece_code};
-    ghost use Rattle.tbl_rows.specs.Shards.{Piece, IsOwn};
+    ghost use Rattle.tbl_rows.specs.Shards.{Piece, IsShard};
 
     ghost Value = { Piece };
 
@@ -30,12 +31,13 @@ impl Model for Shard {
 
     ghost view = { λ a. record { number = a.number; rows = fin.from_entries a.rows.entries } };
 
-    ghost invariant = { λ a. IsOwn (record { number = a.number; rows = fin.from_entries a.rows.entries }) };
+    ghost invariant = { λ a. IsShard (record { number = a.number; rows = fin.from_entries a.rows.entries }) };
 }
 
 impl Shard {
     /// A shard with this number and no rows.
     pub(crate) fn new(alloc: Global, number: u8) -> Shard
+        requires { number < SHARDS }
         ensures { result ≡ bare number }
     {
         Shard {
@@ -44,9 +46,10 @@ impl Shard {
         }
     }
 
-    /// The shard's number, below 16.
+    /// The shard's number.
     pub fn number(&self) -> u8
-        ensures { result ≡ self.now.number }
+        ensures number { result ≡ self.now.number }
+        ensures below { result < SHARDS }
     {
         self.number
     }

@@ -5,6 +5,7 @@ ghost use Rattle.std.specs.Map.Iter.{deref_pair};
 ghost use Rattle.std.specs.FinMap as fin;
 ghost use Rattle.aria_base.specs.declared.keys.Key.{Key as Name};
 ghost use Rattle.tbl_rows.specs.Shards.{IsWhole, AllNumbered, joined, at_home};
+ghost use Rattle.tbl_rows.specs.declared.homes.TheConstants.{SHARDS};
 
 use crate::homes::{SHARDS, shard_of};
 use crate::refusals::Refused;
@@ -103,7 +104,7 @@ impl Tables {
 
     /// The tables that sixteen shards are together. No memory.
     pub fn gather(shards: Vec<Shard>) -> Tables
-        requires count { length shards.items ≡ 16 }
+        requires count { length shards.items ≡ SHARDS }
         requires numbered { AllNumbered shards.items }
         ensures together { result ≡ joined shards.items }
         ensures each { (q : Name) → fin.get result q ≡ at_home shards.items q }

@@ -1,7 +1,8 @@
 // What no clause shows: that each call succeeds where there is memory, that the clauses say what was
-// meant, and that keys are spread evenly. The expected values were worked by hand.
-use crate::homes::SHARDS;
-use crate::{Tables, shard_of};
+// meant, and that keys are spread over the shards. The expected values were worked by hand.
+ghost use Rattle.tbl_rows.specs.Shards.{IsWhole};
+
+use crate::{Refused, SHARDS, Shard, Tables, shard_of};
 use aria_base::{Key, Memory, Part, Parts, Row, Txt, Value};
 use std::alloc::Global;
 use std::test::Fail;
@@ -27,37 +28,49 @@ fn row(alloc: Global, number: i64) -> Result<Row, Memory> {
     Ok(Row::from_vec(vec![in alloc; Value::Int(number)]?))
 }
 
-// The rows 0 to 99 of one table, put from the last to the first, each with ten times its number.
-fn hundred(alloc: Global) -> Result<Tables, Fail> {
+// The rows from 0 on of one table, put from the last to the first, each with ten times its number.
+fn numbered(alloc: Global, count: i64) -> Result<Tables, Fail> {
     let mut tables = Tables::new(alloc)?;
-    for number in (0..100_i64).rev() {
+    for number in (0..count).rev() {
         let tenfold = row(alloc, number.saturating_mul(10))?;
         tables.put(number_key(alloc, number)?, tenfold)?;
     }
     Ok(tables)
 }
 
-// Whether the tables list just these numbers, in order, each with ten times its number.
-fn lists(alloc: Global, tables: &Tables, numbers: &[i64]) -> Result<bool, Fail> {
-    let rows = tables.rows()?;
-    let mut same = rows.len() == numbers.len();
-    for (&(key, found), &number) in rows.iter().zip(numbers) {
-        let wanted = row(alloc, number.saturating_mul(10))?;
-        same = same && *key == number_key(alloc, number)? && *found == wanted;
+// The numbers from 0 on, each with ten times itself.
+fn tenfold(alloc: Global, count: i64) -> Result<Vec<(i64, i64)>, Fail> {
+    let mut pairs = Vec::new(alloc);
+    for number in 0..count {
+        pairs.push((number, number.saturating_mul(10)))?;
     }
-    Ok(same)
+    Ok(pairs)
+}
+
+// The numbers in the keys and in the rows that the tables list.
+fn listed(alloc: Global, tables: &Tables) -> Result<Vec<(i64, i64)>, Fail> {
+    let mut pairs = Vec::new(alloc);
+    for (key, row) in tables.rows()? {
+        if let ([Part::Int(key)], [Value::Int(row)]) = (key.parts.as_slice(), row.as_slice()) {
+            pairs.push((*key, *row))?;
+        }
+    }
+    Ok(pairs)
 }
 
 #[test]
 fn rows_are_put_found_deleted_and_listed(rt: HostRuntime) -> Result<(), Fail> {
     let alloc = rt.alloc();
-    let mut tables = hundred(alloc)?;
+    let mut tables = numbered(alloc, 100)?;
     let absent = number_key(alloc, 100)?;
     let present = number_key(alloc, 42)?;
     assert!(rt; tables.get(&absent).is_none());
     assert!(rt; tables.get(&present) == Some(&row(alloc, 420)?));
-    let numbers: Vec<i64> = (0..100).collect(alloc)?;
-    assert!(rt; lists(alloc, &tables, &numbers)?, "a hundred rows in order");
+    let wanted = tenfold(alloc, 100)?;
+    assert!(rt;
+        listed(alloc, &tables)? == wanted,
+        "a hundred rows in order"
+    );
     tables.put(number_key(alloc, 42)?, row(alloc, -1)?)?;
     assert!(rt;
         tables.get(&present) == Some(&row(alloc, -1)?),
@@ -70,32 +83,37 @@ fn rows_are_put_found_deleted_and_listed(rt: HostRuntime) -> Result<(), Fail> {
         );
     }
     assert!(rt; !tables.delete(&present), "it is gone");
-    assert!(rt; lists(alloc, &tables, &[0, 1, 2])?, "three are left");
+    let wanted = tenfold(alloc, 3)?;
+    assert!(rt; listed(alloc, &tables)? == wanted, "three are left");
     Ok(())
+}
+
+// The key that stands at this place among five in their order.
+fn key_at(alloc: Global, place: i64) -> Result<Key, Fail> {
+    match place {
+        0 => {
+            let mut first = text_key(alloc, 9)?;
+            first.table = 2;
+            Ok(first)
+        }
+        1 => Ok(number_key(alloc, 1)?),
+        2 => Ok(pair_key(alloc, 1, -1)?),
+        3 => Ok(number_key(alloc, 2)?),
+        _ => text_key(alloc, 1),
+    }
 }
 
 #[test]
 fn keys_are_listed_by_table_then_by_parts(rt: HostRuntime) -> Result<(), Fail> {
     let alloc = rt.alloc();
     let mut tables = Tables::new(alloc)?;
-    tables.put(text_key(alloc, 1)?, row(alloc, 5)?)?;
-    tables.put(pair_key(alloc, 1, -1)?, row(alloc, 3)?)?;
-    tables.put(number_key(alloc, 2)?, row(alloc, 4)?)?;
-    tables.put(number_key(alloc, 1)?, row(alloc, 2)?)?;
-    let mut first = text_key(alloc, 9)?;
-    first.table = 2;
-    tables.put(first, row(alloc, 1)?)?;
+    for place in [4, 2, 3, 1, 0] {
+        tables.put(key_at(alloc, place)?, row(alloc, place)?)?;
+    }
     let rows = tables.rows()?;
-    let wanted: Vec<Row> = vec![in alloc;
-        row(alloc, 1)?,
-        row(alloc, 2)?,
-        row(alloc, 3)?,
-        row(alloc, 4)?,
-        row(alloc, 5)?,
-    ]?;
     assert_eq!(rt; rows.len(), 5);
-    for ((_, found), wanted) in rows.iter().zip(&wanted) {
-        assert!(rt; *found == wanted);
+    for ((_, found), place) in rows.iter().zip(0..5) {
+        assert!(rt; **found == row(alloc, place)?, "at {place}");
     }
     Ok(())
 }
@@ -103,21 +121,21 @@ fn keys_are_listed_by_table_then_by_parts(rt: HostRuntime) -> Result<(), Fail> {
 #[test]
 fn a_copy_is_apart_from_its_source(rt: HostRuntime) -> Result<(), Fail> {
     let alloc = rt.alloc();
-    let mut tables = hundred(alloc)?;
+    let mut tables = numbered(alloc, 100)?;
     let copy = tables.copy()?;
-    let numbers: Vec<i64> = (0..100).collect(alloc)?;
     for number in 0..100 {
         assert!(rt; tables.delete(&number_key(alloc, number)?));
     }
-    assert!(rt; lists(alloc, &tables, &[])?);
-    assert!(rt; lists(alloc, &copy, &numbers)?);
+    assert!(rt; tables.rows()?.is_empty());
+    let wanted = tenfold(alloc, 100)?;
+    assert!(rt; listed(alloc, &copy)? == wanted);
     Ok(())
 }
 
 #[test]
 fn shards_are_split_by_their_numbers(rt: HostRuntime) -> Result<(), Fail> {
     let alloc = rt.alloc();
-    let shards = hundred(alloc)?.split();
+    let shards = numbered(alloc, 100)?.split();
     assert_eq!(rt; shards.len(), usize::from(SHARDS));
     for (place, shard) in shards.iter().enumerate() {
         assert_eq!(rt; usize::from(shard.number()), place);
@@ -125,22 +143,123 @@ fn shards_are_split_by_their_numbers(rt: HostRuntime) -> Result<(), Fail> {
     Ok(())
 }
 
-// How many of 100,000 keys of one table each shard gets.
-fn shares(alloc: Global, kind: u8) -> Result<Vec<usize>, Fail> {
+// What is done in the shard of a key: its row is put, or deleted and was there or not.
+#[derive(Clone, Copy)]
+enum Change {
+    Put(i64),
+    Delete(bool),
+}
+
+// Changes of the rows 0 to 5, and the rows that are there then.
+const CHANGES: &[(i64, Change)] = &[
+    (7, Change::Put(70)),
+    (3, Change::Put(-3)),
+    (1, Change::Delete(true)),
+    (1, Change::Delete(false)),
+    (8, Change::Delete(false)),
+    (4, Change::Delete(true)),
+    (4, Change::Put(44)),
+    (7, Change::Put(77)),
+    (-2, Change::Put(-20)),
+];
+
+const CHANGED: &[(i64, i64)] = &[
+    (-2, -20),
+    (0, 0),
+    (2, 20),
+    (3, -3),
+    (4, 44),
+    (5, 50),
+    (7, 77),
+];
+
+fn put(shards: &mut Vec<Shard>, key: Key, row: Row) -> Result<(), Refused>
+    requires { IsWhole shards.old.items }
+    ensures { IsWhole shards.new.items }
+{
+    let shard = &mut shards[usize::from(shard_of(&key))];
+    shard.put(key, row)
+}
+
+fn delete(shards: &mut Vec<Shard>, key: &Key) -> bool
+    requires { IsWhole shards.old.items }
+    ensures { IsWhole shards.new.items }
+{
+    let shard = &mut shards[usize::from(shard_of(key))];
+    shard.delete(key)
+}
+
+// Whether the key's shard has its number, and `delete` answers as it should.
+fn make(alloc: Global, shards: &mut Vec<Shard>, number: i64, change: Change) -> Result<bool, Fail>
+    requires { IsWhole shards.old.items }
+    ensures { IsWhole shards.new.items }
+{
+    let key = number_key(alloc, number)?;
+    let home = shard_of(&key);
+    let own = shards[usize::from(home)].number() == home;
+    match change {
+        Change::Put(to) => {
+            put(shards, key, row(alloc, to)?)?;
+            Ok(own)
+        }
+        Change::Delete(found) => Ok(delete(shards, &key) == found && own),
+    }
+}
+
+#[test]
+fn shards_are_changed_apart_and_gathered(rt: HostRuntime) -> Result<(), Fail> {
+    let alloc = rt.alloc();
+    let mut shards = numbered(alloc, 6)?.split();
+    for &(number, change) in CHANGES {
+        assert!(rt; make(alloc, &mut shards, number, change)?, "at {number}");
+    }
+    let tables = Tables::gather(shards);
+    assert!(rt; listed(alloc, &tables)?.as_slice() == CHANGED);
+    Ok(())
+}
+
+// How the keys of one table lie.
+#[derive(Clone, Copy, Debug)]
+enum Lie {
+    Numbers { from: i64, apart: i64 },
+    Pairs,
+    Texts,
+}
+
+// Multiplied by the factor of the marks, numbers 832,040 apart come close to one another.
+const LIES: [Lie; 5] = [
+    Lie::Numbers { from: 0, apart: 1 },
+    Lie::Numbers {
+        from: -50_000_000,
+        apart: 1024,
+    },
+    Lie::Numbers {
+        from: 0,
+        apart: 832_040,
+    },
+    Lie::Pairs,
+    Lie::Texts,
+];
+
+fn key(alloc: Global, lie: Lie, number: i64) -> Result<Key, Fail> {
+    match lie {
+        Lie::Numbers { from, apart } => {
+            let number = number.saturating_mul(apart).saturating_add(from);
+            Ok(number_key(alloc, number)?)
+        }
+        Lie::Pairs => Ok(pair_key(alloc, number / 10, number % 10)?),
+        Lie::Texts => text_key(alloc, number),
+    }
+}
+
+// How many of 100,000 keys each shard gets.
+fn shares(alloc: Global, lie: Lie) -> Result<Vec<usize>, Fail> {
     let mut counts = Vec::new(alloc);
     for _ in 0..SHARDS {
         counts.push(0)?;
     }
     for number in 0..100_000_i64 {
-        let key = match kind {
-            0 => number_key(alloc, number)?,
-            1 => number_key(
-                alloc,
-                number.saturating_mul(1024).saturating_sub(50_000_000),
-            )?,
-            2 => pair_key(alloc, number / 10, number % 10)?,
-            _ => text_key(alloc, number)?,
-        };
+        let key = key(alloc, lie, number)?;
         if let Some(count) = counts.get_mut(usize::from(shard_of(&key))) {
             *count = usize::saturating_add(*count, 1);
         }
@@ -148,13 +267,14 @@ fn shares(alloc: Global, kind: u8) -> Result<Vec<usize>, Fail> {
     Ok(counts)
 }
 
+// No shard gets more than a tenth over its share, which is 6,250.
 #[test]
 fn keys_of_one_table_are_spread_evenly(rt: HostRuntime) -> Result<(), Fail> {
     let alloc = rt.alloc();
-    for kind in 0..4 {
-        let counts = shares(alloc, kind)?;
+    for lie in LIES {
+        let counts = shares(alloc, lie)?;
         for count in &counts {
-            assert!(rt; *count <= 2 * 100_000 / 16, "{kind} has a shard of {count}");
+            assert!(rt; *count <= 6_875, "{lie:?} has a shard of {count}");
         }
     }
     Ok(())

@@ -13,7 +13,8 @@ use std::marker::Model;
 /// A window on a snapshot that keeps what is written through it to itself. A contract sees the
 /// database below, the keys that were read from it in the order of their first reads, and the writes
 /// in the order of their first writes, each with its last row or absence. Its calls search these
-/// lists, which are short: a run makes at most 256 accesses.
+/// lists from the front, which is quick while they are short: the interpreter makes at most 256
+/// accesses in a run. The overlay itself has no bound.
 #[derive(Drop)]
 pub struct Overlay<'a> {
     alloc: Global,
@@ -29,14 +30,14 @@ impl<'a> Model for Overlay<'a> {
 
     ghost coded = { layer_code };
 
-    ghost view = { λ a. record { base = a.snapshot.tables.now; noted = record { reads = a.reads.items; writes = a.writes.items } } };
+    ghost view = { λ a. record { base = a.snapshot; noted = record { reads = a.reads.items; writes = a.writes.items } } };
 }
 
 impl<'a> Overlay<'a> {
     /// An overlay on a snapshot, through which nothing was read or written. It grows by `alloc`; this
     /// call takes no memory.
     pub fn over(alloc: Global, snapshot: Snapshot<'a>) -> Overlay<'a>
-        ensures { result ≡ record { base = snapshot.entry.tables.now; noted = nothing } }
+        ensures { result ≡ record { base = snapshot.entry; noted = nothing } }
     {
         Overlay {
             alloc,
@@ -60,7 +61,10 @@ impl<'a> Access for Overlay<'a> {
 
     fn read(&mut self, key: &Key) -> Result<Option<Row>, Memory> {
         match place_of(&self.writes, key) {
-            Some(place) => return self.writes[place].1.duplicate(self.alloc),
+            Some(place) => {
+                let written = self.writes[place].1.duplicate(self.alloc)?;
+                return Ok(written);
+            }
             None => {}
         }
         let row = copy_found(self.alloc, self.snapshot.get(key))?;

@@ -145,17 +145,18 @@ fn an_overlay_answers_from_its_writes_first(rt: HostRuntime) -> Result<(), Fail>
     Ok(())
 }
 
-// What a snapshot of the tables finds at a key.
-fn found_in(alloc: Global, tables: &Tables, number: i64) -> Result<Option<i64>, Memory> {
+// What a snapshot finds at a key.
+fn found_in(alloc: Global, snapshot: Snapshot, number: i64) -> Result<Option<i64>, Memory> {
     let key = key(alloc, number)?;
-    Ok(number_in(Snapshot::of(tables).get(&key)))
+    Ok(number_in(snapshot.get(&key)))
 }
 
 #[test]
 fn a_snapshot_gives_the_rows_of_its_tables(rt: HostRuntime) -> Result<(), Fail> {
     let alloc = rt.alloc();
     let tables = three(alloc)?;
-    assert!(rt; found_in(alloc, &tables, 0)? == None);
-    assert!(rt; found_in(alloc, &tables, 3)? == Some(30));
+    let snapshot = Snapshot::of(&tables);
+    assert!(rt; found_in(alloc, snapshot.copy(), 0)? == None);
+    assert!(rt; found_in(alloc, snapshot, 3)? == Some(30));
     Ok(())
 }

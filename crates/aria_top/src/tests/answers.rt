@@ -1,5 +1,5 @@
 // Whole scripts against answers worked out by hand.
-use crate::{DONE, READ_FAULT, REFUSED, USAGE, WRITE_FAULT, aria};
+use crate::{DONE, NO_MEMORY, READ_FAULT, REFUSED, USAGE, WRITE_FAULT, aria};
 use aria_base::{MemSink, MemSource, Memory};
 use std::alloc::Global;
 use std::test::Fail;
@@ -48,15 +48,16 @@ fn run(alloc: Global, case: &Case) -> Result<(u8, Vec<u8>), Memory> {
     let fails = Vec::from_array(alloc, [case.failing_give])?;
     let mut out = MemSink::new(alloc, 1000, fails)?;
     let status = aria(alloc, &words, &mut input, &mut out);
+    if status == NO_MEMORY {
+        return Err(Memory);
+    }
     Ok((status, Vec::from_slice(alloc, out.bytes())?))
 }
 
-/// Whether the run ends in this status and has written these bytes.
-fn ends(alloc: Global, case: &Case, status: u8, output: &str) -> bool {
-    match run(alloc, case) {
-        Ok((ending, bytes)) => ending == status && bytes.as_slice() == output.as_bytes(),
-        Err(Memory) => false,
-    }
+/// Whether the run ends in this status and has written these bytes. Want of memory is no answer.
+fn ends(alloc: Global, case: &Case, status: u8, output: &str) -> Result<bool, Memory> {
+    let (ending, bytes) = run(alloc, case)?;
+    Ok(ending == status && bytes.as_slice() == output.as_bytes())
 }
 
 #[test]
@@ -95,79 +96,67 @@ fn batches_are_answered_by_the_plain_rule(rt: HostRuntime) -> Result<(), Fail> {
                 head,
                 ..plain(batches, piece)
             };
-            assert!(rt; ends(rt.alloc(), &case, DONE, answer), "at {batches:?}");
+            let right = ends(rt.alloc(), &case, DONE, answer)?;
+            assert!(rt; right, "at {batches:?}");
         }
     }
     Ok(())
 }
 
-#[test]
-fn refusals_and_faults_end_the_run(rt: HostRuntime) {
-    let ring = plain(RING, 7);
-    let cut = "tx copy 1 2\ntx copy 2 3\ntx copy 3 1\nend 1";
-    let cases = [
-        (plain(cut, 7), REFUSED, "refused form\n"),
-        (
-            Case {
-                words: "once --rule=plain",
-                ..ring
-            },
-            DONE,
-            RING_ANSWER,
-        ),
-        (
-            Case {
-                failing_take: 1,
-                ..ring
-            },
-            READ_FAULT,
-            "",
-        ),
-        (
-            Case {
-                failing_take: 2,
-                ..ring
-            },
-            READ_FAULT,
-            "",
-        ),
-        (
-            Case {
-                failing_give: 1,
-                ..ring
-            },
-            WRITE_FAULT,
-            "",
-        ),
-        // The output is given in one call.
-        (
-            Case {
-                failing_give: 2,
-                ..ring
-            },
-            DONE,
-            RING_ANSWER,
-        ),
-    ];
-    for (case, status, output) in cases {
-        assert!(rt; ends(rt.alloc(), &case, status, output), "at {status}");
-    }
-}
-
-/// Words that are no command, in lines.
-const NO_COMMANDS: &str =
-    "once\nonce --rule reorder\nonce --rule=plain plain\nonce plain --rule\nrun --rule plain\n--rule plain once\n";
+/// Which call of the source and which of the sink fails, 0 for none, and how the run of the ring ends.
+/// The output is given in one call.
+const FAULTS: [(u64, u64, u8, &str); 4] = [
+    (1, 0, READ_FAULT, ""),
+    (2, 0, READ_FAULT, ""),
+    (0, 1, WRITE_FAULT, ""),
+    (0, 2, DONE, RING_ANSWER),
+];
 
 #[test]
-fn other_words_are_refused(rt: HostRuntime) {
-    for words in NO_COMMANDS.split('\n') {
+fn faults_end_the_run(rt: HostRuntime) -> Result<(), Fail> {
+    for (failing_take, failing_give, status, output) in FAULTS {
         let case = Case {
-            words,
+            failing_take,
+            failing_give,
             ..plain(RING, 7)
         };
-        assert!(rt;
-            ends(rt.alloc(), &case, USAGE, "refused usage\n"),
-            "at {words:?}"
-        );
+        let right = ends(rt.alloc(), &case, status, output)?;
+        assert!(rt; right, "at {failing_take} and {failing_give}");
     }
+    Ok(())
+}
+
+/// The ring without its last line feed.
+const CUT: &str = "tx copy 1 2\ntx copy 2 3\ntx copy 3 1\nend 1";
+
+#[test]
+fn a_script_of_another_form_is_refused(rt: HostRuntime) -> Result<(), Fail> {
+    let right = ends(rt.alloc(), &plain(CUT, 7), REFUSED, "refused form\n")?;
+    assert!(rt; right);
+    Ok(())
+}
+
+/// Words, in lines, and how the run of the ring ends.
+const WORDS: [(&str, u8, &str); 2] = [
+    ("once --rule=plain", DONE, RING_ANSWER),
+    (
+        "once\nonce --rule reorder\nonce --rule=plain plain\nonce plain --rule\nrun --rule plain\n--rule plain once\n",
+        USAGE,
+        "refused usage\n",
+    ),
+];
+
+#[test]
+fn words_are_one_command_or_none(rt: HostRuntime) -> Result<(), Fail> {
+    for (lines, status, output) in WORDS {
+        for words in lines.split('\n') {
+            let case = Case {
+                words,
+                ..plain(RING, 7)
+            };
+            let right = ends(rt.alloc(), &case, status, output)?;
+            assert!(rt; right, "at {words:?}");
+        }
+    }
+    Ok(())
 }

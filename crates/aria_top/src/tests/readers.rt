@@ -1,14 +1,12 @@
 // Which bytes are a script.
 use crate::scripts::read_script;
+use aria_base::Memory;
 use std::alloc::{AllocError, Global};
 use std::test::Fail;
 
-/// Whether the bytes are a script; `None` where there is no memory to tell.
-fn reads(alloc: Global, text: &str) -> Option<bool> {
-    match read_script(alloc, text.as_bytes()) {
-        Ok(script) => Some(script.is_some()),
-        Err(_) => None,
-    }
+/// Whether the bytes are a script.
+fn reads(alloc: Global, text: &str) -> Result<bool, Memory> {
+    Ok(read_script(alloc, text.as_bytes())?.is_some())
 }
 
 /// Texts behind the catalogue's line that are no scripts, between bars.
@@ -26,13 +24,13 @@ fn other_forms_are_refused(rt: HostRuntime) -> Result<(), Fail> {
         "catalog tpcc\n",
         "row acct 1 = 10\n",
     ] {
-        assert!(rt; reads(alloc, text) == Some(false), "at {text:?}");
+        assert!(rt; !reads(alloc, text)?, "at {text:?}");
     }
     for lines in NO_SCRIPTS.split('|') {
         let text = format!(in alloc; "catalog bank\n{lines}")?;
-        assert!(rt; reads(alloc, text.as_str()) == Some(false), "at {lines:?}");
+        assert!(rt; !reads(alloc, text.as_str())?, "at {lines:?}");
     }
-    assert!(rt; reads(alloc, "catalog bank\n") == Some(true));
+    assert!(rt; reads(alloc, "catalog bank\n")?);
     Ok(())
 }
 
@@ -57,7 +55,7 @@ fn limits_are_10_000_calls_and_a_mebibyte(rt: HostRuntime) -> Result<(), Fail> {
     ];
     for (line, times, last, wanted) in cases {
         let text = long_script(alloc, line, times, last)?;
-        assert!(rt; reads(alloc, text.as_str()) == Some(wanted), "at {last:?}");
+        assert!(rt; reads(alloc, text.as_str())? == wanted, "at {last:?}");
     }
     Ok(())
 }

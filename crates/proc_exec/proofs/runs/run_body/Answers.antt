@@ -6,6 +6,6 @@ pub unreachable-requires : goal.unreachable-requires
 unreachable-requires g c =
     never_strays (script c.args.body.now c.args.registers.now c.args.request.now) (g.A.Access.seen c.args.access.now) (g.A.Access.seen c.run_within.new.access) c.in-Moved.field-0 (rw c.in-Moved.is at c.in_ok-end.ensures)
 
-pub returns-clause-run : goal.returns-clause-run
-returns-clause-run g c =
+pub returns : goal.returns
+returns g c =
     ends_as (script c.args.body.now c.args.registers.now c.args.request.now) (g.A.Access.seen c.args.access.now) (g.A.Access.seen c.run_within.new.access) c.in-Ended.end (rw c.in-Ended.is at c.in_ok-end.ensures)

@@ -5,7 +5,10 @@ use Rattle.tbl_rows.proofs.Owned.{IsOwn-without_row}
 use Rattle.tbl_rows.proofs.shards.Shard.delete.Goals as goal
 
 pub invariant_of-self : goal.invariant_of-self
-invariant_of-self c = rw (from_entries-remove _ _ _ c.remove.ensures.updates.0) (IsOwn-without_row _ _ c.self.invariant)
+invariant_of-self c = rw (from_entries-remove _ _ _ c.remove.ensures.updates.0) (record {
+  below = c.self.invariant.below;
+  own = IsOwn-without_row _ _ c.self.invariant.own;
+})
 
 pub returns-clause-found : goal.returns-clause-found
 returns-clause-found c = rw (← c.self.view_is) (c.is_some.ensures ∙ ap is_some (c.remove.ensures.value ∙ sym (get-lookup _ _)))
@@ -14,4 +17,4 @@ pub returns-clause-deleted : goal.returns-clause-deleted
 returns-clause-deleted c = rw (← c.self.view_is, from_entries-remove _ _ _ c.remove.ensures.updates.0) refl
 
 pub returns-clause-own : goal.returns-clause-own
-returns-clause-own c = invariant_of-self c
+returns-clause-own c = (invariant_of-self c).own

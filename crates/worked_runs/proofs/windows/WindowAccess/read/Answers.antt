@@ -14,7 +14,7 @@ use Rattle.batch_rules.specs.Plays.{after_read, after_write}
 use Rattle.batch_rules.specs.Touches.{nothing}
 use Rattle.batch_rules.proofs.Maps.{get-set_at}
 use Rattle.proc_exec.specs.Steppings.{Window}
-use Rattle.proc_exec.proofs.tests.WindowAccess.read.Goals as goal
+use Rattle.worked_runs.proofs.windows.WindowAccess.read.Goals as goal
 
 abbrev Visit : Type 0
 Visit = Key × Option (Option Cells)

@@ -5,7 +5,7 @@ use Rattle.std.specs.FinMap.{empty}
 use Rattle.batch_rules.specs.Plays.{after_read, after_write}
 use Rattle.batch_rules.specs.Touches.{nothing}
 use Rattle.proc_exec.specs.Steppings.{Window}
-use Rattle.proc_exec.proofs.tests.WindowAccess.read.Given as goal
+use Rattle.worked_runs.proofs.windows.WindowAccess.read.Given as goal
 
 abbrev pub invariant-loop-visit : goal.invariant-loop-visit
 invariant-loop-visit l =
