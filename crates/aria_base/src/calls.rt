@@ -38,7 +38,7 @@ pub struct Call {
 /// A call that was asked for, with its number.
 #[derive(Debug, Drop, PartialEq, Eq)]
 pub struct Request {
-    /// The request's number, from 1 on over the whole life of a database.
+    /// The request's number: a database numbers its requests 1, 2, 3 and never begins again.
     pub q: u64,
     /// What is asked for.
     pub call: Call,

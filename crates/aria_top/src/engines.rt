@@ -1,5 +1,5 @@
-// One batch: the requests run on the rows that the batch before left, the rule decides, and the
-// writes of all that finish are installed.
+// One batch: the requests run on the rows that the batch before left, the rule decides which of
+// them finish, and their writes are installed.
 ghost use Rattle.std.specs.Prelude.{◌≡◌, ◌+◌, ◌<◌, ◌≤◌, ◌^◌, ◌++◌, [], List, length, map, IfOk, OnOk};
 ghost use Rattle.batch_rules.specs.Touches.{overwritten};
 ghost use Rattle.batch_core.specs.Steps.{step, answer};

@@ -13,7 +13,7 @@ use Rattle.batch_rules.specs.Batches.{placed}
 use Rattle.batch_rules.proofs.Meets.{meets_turned}
 use Rattle.batch_rules.proofs.Pairs.{Pairs, Pairs_middle, All-filtered}
 
--- a request that finishes stands in the middle of the order of those behind it, whether it goes ahead or keeps its turn
+-- the order of those behind a request that finishes is cut in two by it, whether it goes ahead or keeps its turn
 pub placed-cons : {X : Type 0} (verdict_of : X → Verdict) (x : X) (xs : List X)
     → placed verdict_of (x ∷ xs) ≡ (if finishes (verdict_of x) then reverse (filter (λ x. goes_ahead (verdict_of x)) xs) ++ x ∷ filter (λ x. keeps_turn (verdict_of x)) xs else placed verdict_of xs)
 placed-cons verdict_of x xs =
@@ -36,7 +36,7 @@ module _ {X : Type 0} (verdict_of : X → Verdict) (P : X → Type 0) where
   All-in_turn xs a = All-filtered (λ x. keeps_turn (verdict_of x)) P xs a
 
 module _ {K X : Type 0} (R : K → K → Ordering) (verdict_of : X → Verdict) (reads writes : X → List K) where
-  -- what the verdict of d says of an earlier x
+  -- what it means for an earlier x that d finishes
   pub record IsClean (x d : X) : Type 0 where
     pub waw : finishes (verdict_of d) ≡ true → meets R (writes d) (writes x) ≡ false
     pub war : goes_ahead (verdict_of d) ≡ true → meets R (writes d) (reads x) ≡ false

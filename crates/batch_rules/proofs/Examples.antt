@@ -30,7 +30,7 @@ ring = copy 1 2 ∷ copy 2 3 ∷ copy 3 1 ∷ []
 ring_reordered : (start : FinMap nat_cmp ℕ) → (fates_of Reorder 101 start ring ≡ Ended true ∷ Ended true ∷ Waits (Both 2 1) ∷ []) × (order_of Reorder 101 start ring ≡ 2 ∷ 1 ∷ [])
 ring_reordered start = (refl, refl)
 
--- the third waits for one that itself waits
+-- what the third waits for does not finish either
 ring_plain : (start : FinMap nat_cmp ℕ) → (fates_of Plain 101 start ring ≡ Ended true ∷ Waits (Raw 1) ∷ Waits (Raw 2) ∷ []) × (order_of Plain 101 start ring ≡ 1 ∷ [])
 ring_plain start = (refl, refl)
 

@@ -44,7 +44,7 @@ module _ {K V X : Type 0} {R : K → K → Ordering} (rows : X → List (K × Op
   installed db (x ∷ xs) = installed (overwritten db (rows x)) xs
 
 module _ {K V X : Type 0} {R : K → K → Ordering} (o : IsTotalOrder R) (anti : IsAntisymmetric R) (rows : X → List (K × Option V)) where
-  -- rows that meet none of those before them may be installed first
+  -- rows that have no key in common with those before them can be moved to the front
   installed_middle : (db : FinMap R V) (us : List X) (x : X) (vs : List X) → All (λ u. meets R (keys_of (rows x)) (keys_of (rows u)) ≡ false) us → installed rows db (us ++ x ∷ vs) ≡ installed rows (overwritten db (rows x)) (us ++ vs)
   installed_middle db [] x vs a = refl
   installed_middle db (u ∷ us) x vs a = installed_middle (overwritten db (rows u)) us x vs (All-tail (λ u. meets R (keys_of (rows x)) (keys_of (rows u)) ≡ false) u us a)

@@ -85,7 +85,7 @@ module _ {K V W A : Type 0} {R : K → K → Ordering} (is_done : A → Bool) (d
   late_left db [] = db
   late_left db (w ∷ ws) = late_left (late_map is_done (declared_of w) (tree w) db) ws
 
--- the answer of a batch: the database that it leaves, and the fate of each request of its list, in the list's order
+-- the answer of a batch: the database that it leaves, and what became of its requests, in the order of the list
 pub record Batch {K : Type 0} (R : K → K → Ordering) (V Q A : Type 0) : Type 0 where
   pub map : FinMap R V
   pub entries : List (Entry K Q A)

@@ -124,8 +124,8 @@ impl MemDisk {
 
     /// A disk with one of the images that a stop after the first `calls` calls may leave. Of the bytes
     /// that those calls wrote and did not sync it has all, where `kept` is true, or `fill` in the place
-    /// of each. Each file has the length that it had then, and there is as much room as this disk was
-    /// made with.
+    /// of each. Its files keep their lengths, and there is as much room as this disk
+    /// was made with.
     pub fn stopped(
         &self,
         alloc: Global,

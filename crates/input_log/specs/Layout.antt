@@ -11,7 +11,7 @@ pub data Next : Type 0 where
   Closed : Next
   -- an open gate with its record's payload, and a gate behind it
   Open : List ℕ → Next
-  -- an open gate whose record does not end before the file does, or no gate
+  -- an open gate, but the file ends within its record; or no gate at all
   Broken : Next
 
 -- The bytes from a gate on. An open gate is 1; then come the payload's length in four bytes, the lowest first, and the

@@ -13,8 +13,8 @@ pub enum LogRefused {
     /// A call on the disk failed.
     #[error("the disk failed")]
     DiskFault,
-    /// The file holds no log: it is empty, or the open record at this offset does not end before
-    /// the file does.
+    /// The file holds no log: it is empty, or the file ends within the open record at this
+    /// offset.
     #[error("file {file} is damaged at {at}")]
     Damaged { file: u8, at: u64 },
 }

@@ -10,7 +10,7 @@ use Rattle.proc_exec.specs.declared.outcomes.Ran.{Ran}
 use Rattle.proc_exec.specs.declared.outcomes.Ran.TheVariants as ran
 use Rattle.proc_exec.specs.Steppings.{Window}
 
--- The end is that of the run on the window's map. The window then stands for the map that the run leaves, writes of an early end
+-- The run ends as it does on the window's map. The window then stands for the map that the run leaves, writes of an early end
 -- included, and has noted what the run touches.
 abbrev pub EndsAs : Run → Window → Window → End → Type 0
 EndsAs run old new end = (end ≡ end_of run old.map) × (new ≡ record { map = left_by run old.map; noted = all_noted key_cmp old.noted (trace_of run old.map) })

@@ -8,7 +8,7 @@ pub struct View {
     pub drawn: LinkedList<u64>,
 }
 
-// Each number below the word was drawn by one seat, and none above it by any. The key is the bound
+// The numbers below the word have one seat each that drew them; the rest are nobody's. The key is the bound
 // below which draws answer a number.
 pub struct DrawnOnce;
 
