@@ -1,24 +1,9 @@
 #!/usr/bin/env bash
-# Lays the benchmark out beside copies of the crates that it uses, in a temporary folder, proves and
-# builds it there, and runs it. The gate does not see it: its source ends in .txt.
+# Proves, builds and runs the benchmark of the tables.
 set -euo pipefail
 here=$(cd "$(dirname "$0")" && pwd)
-crates=$(cd "$here/../../crates" && pwd)
-work=$(mktemp -d)
-trap 'rm -rf "$work"' EXIT
-cd "$work"
-git init -q .
-printf 'Handles allowed: none.\n' > HANDLES
-printf 'aria_base:\ntbl_rows: aria_base\ntables_bench: anyhow tbl_rows aria_base\n' > crates.txt
-mkdir -p crates/tables_bench/src
-cp "$here/main.rt.txt" crates/tables_bench/src/main.rt
-for name in aria_base tbl_rows; do
-    mkdir "crates/$name"
-    for part in src specs proofs; do
-        cp -r "$crates/$name/$part" "crates/$name/$part"
-    done
-done
-cd crates/tables_bench
+source "$here/../workspace.sh"
+lay_out "$here" none 'tables_bench: anyhow tbl_rows aria_base' aria_base tbl_rows
 "${RT:-rt}" run -- 1 1 > build.log || { cat build.log; exit 1; }
 python3 - out/tables_bench <<'END'
 import os, subprocess, sys

@@ -1,0 +1,32 @@
+# For the run.sh of each benchmark to source. The gate does not see a benchmark: its sources end in .txt.
+#
+# lay_out FOLDER HANDLES LINE CRATE..
+#
+# Lays a benchmark out beside copies of the crates that it uses, in a temporary folder that goes when
+# the script ends, and changes into the benchmark's crate there. FOLDER is where the benchmark lies,
+# HANDLES what it may use of the machine, and LINE its line of crates.txt.
+lay_out() {
+    local folder=$1 handles=$2 line=$3
+    shift 3
+    local top=$folder/../..
+    work=$(mktemp -d)
+    trap 'rm -rf "$work"' EXIT
+    git init -q "$work"
+    printf 'Handles allowed: %s.\n' "$handles" > "$work/HANDLES"
+    for crate in "$@"; do
+        grep "^$crate[ :]" "$top/crates.txt" >> "$work/crates.txt"
+        mkdir -p "$work/crates/$crate"
+        for part in src specs proofs; do
+            if [ -d "$top/crates/$crate/$part" ]; then
+                cp -r "$top/crates/$crate/$part" "$work/crates/$crate/"
+            fi
+        done
+    done
+    printf '%s\n' "$line" >> "$work/crates.txt"
+    local own=$work/crates/${line%%:*}
+    (cd "$folder" && find . -mindepth 2 -name "*.txt") | while read -r file; do
+        mkdir -p "$own/$(dirname "$file")"
+        cp "$folder/$file" "$own/${file%.txt}"
+    done
+    cd "$own"
+}
