@@ -8,27 +8,24 @@ ghost use Rattle.proc_exec.specs.Steppings.{Follows, Fetched};
 
 use crate::frames::Running;
 use crate::limits::Limits;
+use crate::settings::Setting;
 use crate::stops::Stop;
-use aria_base::{Key, Request, Row};
+use aria_base::{Key, Row};
 use proc_lang::{Access, Exprs, Regs, Trap};
-use std::alloc::Global;
 
 /// Reads a row into registers. Where there is none, the trap `Absent`.
 pub fn get<L: Limits, A: Access>(
-    alloc: Global,
-    limits: &L,
-    request: &Request,
-    item: &[i64],
+    setting: &Setting<L>,
     table: u16,
     key: &Exprs,
     registers: &Regs,
     state: &mut Running,
     access: &mut A,
 ) -> Result<(), Stop>
-    ensures { (next : Next) → Follows result (L.declared limits.now) next state.new (A.seen access.new) (play (L.declared limits.now) (step_run request.now (step.Get table key.now registers.now) item.now next state.old) (A.seen access.old)) }
+    ensures { (next : Next) → Follows result (L.declared setting.now.limits.now) next state.new (A.seen access.new) (play (L.declared setting.now.limits.now) (step_run setting.now.scope.request.now (step.Get table key.now registers.now) setting.now.scope.item.now next state.old) (A.seen access.old)) }
 {
-    let key = state.key(alloc, request, item, table, key)?;
-    let Some(row) = fetch(limits, key, state, access)? else {
+    let key = state.key(&setting.scope, table, key)?;
+    let Some(row) = fetch(setting.limits, key, state, access)? else {
         return Err(Stop::Trap(Trap::Absent));
     };
     state.set_row(registers, row);
@@ -37,10 +34,7 @@ pub fn get<L: Limits, A: Access>(
 
 /// The same, but where there is no row the run fails with the code.
 pub fn need<L: Limits, A: Access>(
-    alloc: Global,
-    limits: &L,
-    request: &Request,
-    item: &[i64],
+    setting: &Setting<L>,
     table: u16,
     key: &Exprs,
     registers: &Regs,
@@ -48,10 +42,10 @@ pub fn need<L: Limits, A: Access>(
     state: &mut Running,
     access: &mut A,
 ) -> Result<(), Stop>
-    ensures { (next : Next) → Follows result (L.declared limits.now) next state.new (A.seen access.new) (play (L.declared limits.now) (step_run request.now (step.Need table key.now registers.now code) item.now next state.old) (A.seen access.old)) }
+    ensures { (next : Next) → Follows result (L.declared setting.now.limits.now) next state.new (A.seen access.new) (play (L.declared setting.now.limits.now) (step_run setting.now.scope.request.now (step.Need table key.now registers.now code) setting.now.scope.item.now next state.old) (A.seen access.old)) }
 {
-    let key = state.key(alloc, request, item, table, key)?;
-    let Some(row) = fetch(limits, key, state, access)? else {
+    let key = state.key(&setting.scope, table, key)?;
+    let Some(row) = fetch(setting.limits, key, state, access)? else {
         return Err(Stop::Back(code));
     };
     state.set_row(registers, row);
@@ -60,10 +54,7 @@ pub fn need<L: Limits, A: Access>(
 
 /// The same, but where there is no row the registers get blanks. The flag, set last, tells 1 or 0.
 pub fn find<L: Limits, A: Access>(
-    alloc: Global,
-    limits: &L,
-    request: &Request,
-    item: &[i64],
+    setting: &Setting<L>,
     table: u16,
     key: &Exprs,
     registers: &Regs,
@@ -71,50 +62,44 @@ pub fn find<L: Limits, A: Access>(
     state: &mut Running,
     access: &mut A,
 ) -> Result<(), Stop>
-    ensures { (next : Next) → Follows result (L.declared limits.now) next state.new (A.seen access.new) (play (L.declared limits.now) (step_run request.now (step.Find table key.now registers.now flag) item.now next state.old) (A.seen access.old)) }
+    ensures { (next : Next) → Follows result (L.declared setting.now.limits.now) next state.new (A.seen access.new) (play (L.declared setting.now.limits.now) (step_run setting.now.scope.request.now (step.Find table key.now registers.now flag) setting.now.scope.item.now next state.old) (A.seen access.old)) }
 {
-    let key = state.key(alloc, request, item, table, key)?;
-    match fetch(limits, key, state, access)? {
+    let key = state.key(&setting.scope, table, key)?;
+    match fetch(setting.limits, key, state, access)? {
         Some(row) => state.set_found(registers, row, flag),
-        None => state.set_missed(alloc, registers, flag)?,
+        None => state.set_missed(setting.scope.alloc, registers, flag)?,
     }
     Ok(())
 }
 
 /// Writes a row.
 pub fn put<L: Limits, A: Access>(
-    alloc: Global,
-    limits: &L,
-    request: &Request,
-    item: &[i64],
+    setting: &Setting<L>,
     table: u16,
     key: &Exprs,
     columns: &Exprs,
     state: &mut Running,
     access: &mut A,
 ) -> Result<(), Stop>
-    ensures { (next : Next) → Follows result (L.declared limits.now) next state.new (A.seen access.new) (play (L.declared limits.now) (step_run request.now (step.Put table key.now columns.now) item.now next state.old) (A.seen access.old)) }
+    ensures { (next : Next) → Follows result (L.declared setting.now.limits.now) next state.new (A.seen access.new) (play (L.declared setting.now.limits.now) (step_run setting.now.scope.request.now (step.Put table key.now columns.now) setting.now.scope.item.now next state.old) (A.seen access.old)) }
 {
-    let key = state.key(alloc, request, item, table, key)?;
-    let row = state.row(alloc, request, item, columns)?;
-    store(limits, key, Some(row), state, access)
+    let key = state.key(&setting.scope, table, key)?;
+    let row = state.row(&setting.scope, columns)?;
+    store(setting.limits, key, Some(row), state, access)
 }
 
 /// Deletes a row, which need not be there.
 pub fn delete<L: Limits, A: Access>(
-    alloc: Global,
-    limits: &L,
-    request: &Request,
-    item: &[i64],
+    setting: &Setting<L>,
     table: u16,
     key: &Exprs,
     state: &mut Running,
     access: &mut A,
 ) -> Result<(), Stop>
-    ensures { (next : Next) → Follows result (L.declared limits.now) next state.new (A.seen access.new) (play (L.declared limits.now) (step_run request.now (step.Del table key.now) item.now next state.old) (A.seen access.old)) }
+    ensures { (next : Next) → Follows result (L.declared setting.now.limits.now) next state.new (A.seen access.new) (play (L.declared setting.now.limits.now) (step_run setting.now.scope.request.now (step.Del table key.now) setting.now.scope.item.now next state.old) (A.seen access.old)) }
 {
-    let key = state.key(alloc, request, item, table, key)?;
-    store(limits, key, None, state, access)
+    let key = state.key(&setting.scope, table, key)?;
+    store(setting.limits, key, None, state, access)
 }
 
 /// Reads the row of a key.

@@ -1,20 +1,21 @@
 // The values of expressions.
-ghost use Rattle.std.specs.Prelude.{◌≡◌, ◌&&◌, ◌||◌, ℤ, IfOk, IfSome, List, int_lt, int_le, slice_get, slice_index_or, pos};
+ghost use Rattle.std.specs.Prelude.{◌≡◌, ◌&&◌, ◌||◌, ℤ, IfOk, IfSome, List, int_lt, int_le, slice_index_or, pos};
 ghost use Rattle.std.specs.declared.result.Result.TheVariants.{Ok};
 ghost use Rattle.std.specs.Fmt.{signed_decimal};
 ghost use Rattle.aria_base.specs.declared.values.Value.TheVariants as value;
 ghost use Rattle.proc_lang.specs.Terms as term;
 ghost use Rattle.proc_lang.specs.TermOf.{term_of};
-ghost use Rattle.proc_lang.specs.Values.{both, got, int_of, is_true, me_of, same_value, truth, tuples_of, value_of_arg};
+ghost use Rattle.proc_lang.specs.Values.{both, got, int_of, is_true, same_value, truth};
 ghost use Rattle.proc_lang.specs.Meaning.{value_of, values_of};
 ghost use Rattle.proc_exec.specs.Faults.{Computes};
 
 use crate::numbers::{
     difference, divided_by, holds, int, product, product_divided_by, remainder_by, sum, truth_value,
 };
+use crate::scopes::Scope;
 use crate::stops::Fault;
 use crate::texts::{front_of, join, same, show};
-use aria_base::{Arg, Duplicate, Items, Memory, Request, Tuple, Value};
+use aria_base::{Arg, Duplicate, Items, Memory, Request, Value};
 use proc_lang::{Expr, Exprs};
 use std::alloc::Global;
 
@@ -25,47 +26,6 @@ fn register(alloc: Global, registers: &Vec<Value>, at: u32) -> Result<Value, Mem
     match registers.get(at as usize) {
         Some(value) => value.duplicate(alloc),
         None => Ok(Value::Int(0)),
-    }
-}
-
-/// The value of an argument, 0 where it is a list or absent.
-fn argument(alloc: Global, request: &Request, at: u32) -> Result<Value, Memory>
-    ensures { IfOk result (λ v. v ≡ value_of_arg (slice_get request.now.call.args at)) }
-{
-    match request.call.args.as_slice().get(at as usize) {
-        Some(Arg::Int(number)) => Ok(Value::Int(*number)),
-        Some(Arg::Text(text)) => Ok(Value::Text(text.duplicate(alloc)?)),
-        Some(Arg::List(_)) | None => Ok(Value::Int(0)),
-    }
-}
-
-/// The tuples of a list argument, none where it is another one or absent.
-pub fn tuples_at(request: &Request, at: u32) -> &[Tuple]
-    ensures { result.now ≡ tuples_of (slice_get request.now.call.args at) }
-{
-    match request.call.args.as_slice().get(at as usize) {
-        Some(Arg::List(tuples)) => tuples.as_slice(),
-        _ => &[],
-    }
-}
-
-/// The number of a list, 0 where there is none.
-fn number_at(numbers: &[i64], at: u32) -> i64
-    ensures { result ≡ slice_index_or numbers.now at (pos 0) }
-{
-    match numbers.get(at as usize) {
-        Some(number) => *number,
-        None => 0,
-    }
-}
-
-/// The request number, 0 where it is no 64-bit number.
-fn own_number(request: &Request) -> Value
-    ensures { result ≡ me_of request.now.q }
-{
-    match i64::try_from(request.q) {
-        Ok(number) => Value::Int(number),
-        Err(_) => Value::Int(0),
     }
 }
 
@@ -125,113 +85,95 @@ fn text_at<'a>(request: &'a Request, registers: &'a Vec<Value>, expr: &'a Expr) 
 
 /// The value of the expression, for this request, this tuple of an `Each` and these registers.
 #[cycle(evaluating)]
-pub fn eval(
-    alloc: Global,
-    request: &Request,
-    item: &[i64],
-    registers: &Vec<Value>,
-    expr: &Expr,
-) -> Result<Value, Fault>
-    ensures { Computes result (value_of request.now item.now registers.now.items (term_of expr.now)) }
+pub fn eval(scope: &Scope, registers: &Vec<Value>, expr: &Expr) -> Result<Value, Fault>
+    ensures { Computes result (value_of scope.now.request.now scope.now.item.now registers.now.items (term_of expr.now)) }
 {
     match expr {
         Expr::Num(number) => Ok(Value::Int(*number)),
-        Expr::Text(text) => Ok(Value::Text(text.duplicate(alloc)?)),
-        Expr::Reg(at) => Ok(register(alloc, registers, *at)?),
-        Expr::Arg(at) => Ok(argument(alloc, request, *at)?),
-        Expr::Item(at) => Ok(Value::Int(number_at(item, *at))),
-        Expr::Len(at) => Ok(Value::Int(tuples_at(request, *at).len() as i64)),
-        Expr::Me => Ok(own_number(request)),
-        Expr::Add(a, b) => sum(eval_both(alloc, request, item, registers, a, b)?),
-        Expr::Sub(a, b) => difference(eval_both(alloc, request, item, registers, a, b)?),
-        Expr::Mul(a, b) => product(eval_both(alloc, request, item, registers, a, b)?),
-        Expr::Div(a, b) => divided_by(eval_both(alloc, request, item, registers, a, b)?),
-        Expr::Mod(a, b) => remainder_by(eval_both(alloc, request, item, registers, a, b)?),
-        Expr::MulDiv(a, b, c) => eval_muldiv(alloc, request, item, registers, a, b, c),
-        Expr::Eq(a, b) => Ok(truth_value(are_equal(alloc, request, item, registers, a, b)?)),
-        Expr::Ne(a, b) => Ok(truth_value(!are_equal(alloc, request, item, registers, a, b)?)),
-        Expr::Lt(a, b) => Ok(less(&eval_both(alloc, request, item, registers, a, b)?)),
-        Expr::Le(a, b) => Ok(at_most(&eval_both(alloc, request, item, registers, a, b)?)),
-        Expr::And(a, b) => Ok(all_hold(&eval_both(alloc, request, item, registers, a, b)?)),
-        Expr::Or(a, b) => Ok(one_holds(&eval_both(alloc, request, item, registers, a, b)?)),
-        Expr::Not(a) => Ok(truth_value(!holds(&eval(alloc, request, item, registers, a)?))),
-        Expr::Cat(a, b) => join(alloc, eval_both(alloc, request, item, registers, a, b)?),
+        Expr::Text(text) => Ok(Value::Text(text.duplicate(scope.alloc)?)),
+        Expr::Reg(at) => Ok(register(scope.alloc, registers, *at)?),
+        Expr::Arg(at) => Ok(scope.argument(*at)?),
+        Expr::Item(at) => Ok(Value::Int(scope.number(*at))),
+        Expr::Len(at) => Ok(Value::Int(scope.tuples(*at).len() as i64)),
+        Expr::Me => Ok(scope.own_number()),
+        Expr::Add(a, b) => sum(eval_both(scope, registers, a, b)?),
+        Expr::Sub(a, b) => difference(eval_both(scope, registers, a, b)?),
+        Expr::Mul(a, b) => product(eval_both(scope, registers, a, b)?),
+        Expr::Div(a, b) => divided_by(eval_both(scope, registers, a, b)?),
+        Expr::Mod(a, b) => remainder_by(eval_both(scope, registers, a, b)?),
+        Expr::MulDiv(a, b, c) => eval_muldiv(scope, registers, a, b, c),
+        Expr::Eq(a, b) => Ok(truth_value(are_equal(scope, registers, a, b)?)),
+        Expr::Ne(a, b) => Ok(truth_value(!are_equal(scope, registers, a, b)?)),
+        Expr::Lt(a, b) => Ok(less(&eval_both(scope, registers, a, b)?)),
+        Expr::Le(a, b) => Ok(at_most(&eval_both(scope, registers, a, b)?)),
+        Expr::And(a, b) => Ok(all_hold(&eval_both(scope, registers, a, b)?)),
+        Expr::Or(a, b) => Ok(one_holds(&eval_both(scope, registers, a, b)?)),
+        Expr::Not(a) => Ok(truth_value(!holds(&eval(scope, registers, a)?))),
+        Expr::Cat(a, b) => join(scope.alloc, eval_both(scope, registers, a, b)?),
         Expr::Front(a, b, most) => {
-            let texts = eval_both(alloc, request, item, registers, a, b)?;
-            front_of(alloc, texts, *most)
+            let texts = eval_both(scope, registers, a, b)?;
+            front_of(scope.alloc, texts, *most)
         }
-        Expr::Show(a) => Ok(shown(alloc, int(&eval(alloc, request, item, registers, a)?))?),
+        Expr::Show(a) => Ok(shown(scope.alloc, int(&eval(scope, registers, a)?))?),
     }
 }
 
 /// The values of two expressions, the first one first.
 #[cycle(evaluating)]
 fn eval_both(
-    alloc: Global,
-    request: &Request,
-    item: &[i64],
+    scope: &Scope,
     registers: &Vec<Value>,
     first: &Expr,
     second: &Expr,
 ) -> Result<(Value, Value), Fault>
-    ensures { Computes result (both (value_of request.now item.now registers.now.items (term_of first.now)) (value_of request.now item.now registers.now.items (term_of second.now))) }
+    ensures { Computes result (both (value_of scope.now.request.now scope.now.item.now registers.now.items (term_of first.now)) (value_of scope.now.request.now scope.now.item.now registers.now.items (term_of second.now))) }
 {
-    let value = eval(alloc, request, item, registers, first)?;
-    Ok((value, eval(alloc, request, item, registers, second)?))
+    let value = eval(scope, registers, first)?;
+    Ok((value, eval(scope, registers, second)?))
 }
 
 /// The product of two expressions divided by a third.
 #[cycle(evaluating)]
 fn eval_muldiv(
-    alloc: Global,
-    request: &Request,
-    item: &[i64],
+    scope: &Scope,
     registers: &Vec<Value>,
     first: &Expr,
     second: &Expr,
     divisor: &Expr,
 ) -> Result<Value, Fault>
-    ensures { Computes result (value_of request.now item.now registers.now.items (term.MulDiv (term_of first.now) (term_of second.now) (term_of divisor.now))) }
+    ensures { Computes result (value_of scope.now.request.now scope.now.item.now registers.now.items (term.MulDiv (term_of first.now) (term_of second.now) (term_of divisor.now))) }
 {
-    let factors = eval_both(alloc, request, item, registers, first, second)?;
-    product_divided_by(factors, eval(alloc, request, item, registers, divisor)?)
+    let factors = eval_both(scope, registers, first, second)?;
+    product_divided_by(factors, eval(scope, registers, divisor)?)
 }
 
 /// Whether the values of two expressions are equal. Texts of two literals, registers or arguments are
 /// compared where they stand.
 #[cycle(evaluating)]
 fn are_equal(
-    alloc: Global,
-    request: &Request,
-    item: &[i64],
+    scope: &Scope,
     registers: &Vec<Value>,
     first: &Expr,
     second: &Expr,
 ) -> Result<bool, Fault>
-    ensures { Computes result (got (both (value_of request.now item.now registers.now.items (term_of first.now)) (value_of request.now item.now registers.now.items (term_of second.now))) (λ p. Ok (same_value p.0 p.1))) }
+    ensures { Computes result (got (both (value_of scope.now.request.now scope.now.item.now registers.now.items (term_of first.now)) (value_of scope.now.request.now scope.now.item.now registers.now.items (term_of second.now))) (λ p. Ok (same_value p.0 p.1))) }
 {
     match (
-        text_at(request, registers, first),
-        text_at(request, registers, second),
+        text_at(scope.request, registers, first),
+        text_at(scope.request, registers, second),
     ) {
         (Some(x), Some(y)) => Ok(x == y),
-        _ => Ok(same(&eval_both(alloc, request, item, registers, first, second)?)),
+        _ => Ok(same(&eval_both(scope, registers, first, second)?)),
     }
 }
 
 /// The values of a list of expressions, from the left.
-pub fn eval_all(
-    alloc: Global,
-    request: &Request,
-    item: &[i64],
-    registers: &Vec<Value>,
-    exprs: &Exprs,
-) -> Result<Items<Value>, Fault>
-    ensures { Computes result (values_of request.now item.now registers.now.items exprs.now) }
+pub fn eval_all(scope: &Scope, registers: &Vec<Value>, exprs: &Exprs) -> Result<Items<Value>, Fault>
+    ensures { Computes result (values_of scope.now.request.now scope.now.item.now registers.now.items exprs.now) }
 {
-    let mut values = Vec::with_capacity(alloc, exprs.as_slice().len())?;
+    let mut values = Vec::with_capacity(scope.alloc, exprs.as_slice().len())?;
     for expr in exprs.as_slice() {
-        values.push(eval(alloc, request, item, registers, expr)?)?;
+        values.push(eval(scope, registers, expr)?)?;
     }
     Ok(Items::from_vec(values))
 }

@@ -11,9 +11,10 @@ ghost use Rattle.proc_exec.specs.KeyParts.{key_parts};
 ghost use Rattle.proc_exec.specs.Steppings.{Counts, Goes};
 
 use crate::evaluations::{eval, eval_all};
+use crate::scopes::Scope;
 use crate::stops::Fault;
 use crate::texts::kept;
-use aria_base::{Key, Kind, Kinded, Kinds, Memory, Part, Parts, Request, Row, Value};
+use aria_base::{Key, Kind, Kinded, Kinds, Memory, Part, Parts, Row, Value};
 use proc_lang::{
     Expr, Exprs, Gives, MOST_ACCESSES, MOST_COLUMNS, MOST_GIVEN, MOST_KEY_PARTS, Regs, Trap,
 };
@@ -53,78 +54,46 @@ impl Running {
     }
 
     /// The value of an expression.
-    pub fn value(
-        &self,
-        alloc: Global,
-        request: &Request,
-        item: &[i64],
-        expr: &Expr,
-    ) -> Result<Value, Fault>
-        ensures { Computes result (value_of request.now item.now self.now.regs (term_of expr.now)) }
+    pub fn value(&self, scope: &Scope, expr: &Expr) -> Result<Value, Fault>
+        ensures { Computes result (value_of scope.now.request.now scope.now.item.now self.now.regs (term_of expr.now)) }
     {
-        eval(alloc, request, item, &self.registers, expr)
+        eval(scope, &self.registers, expr)
     }
 
     /// The key in this table with the values of these expressions.
-    pub fn key(
-        &self,
-        alloc: Global,
-        request: &Request,
-        item: &[i64],
-        table: u16,
-        exprs: &Exprs,
-    ) -> Result<Key, Fault>
-        ensures { Computes result (key_from request.now item.now self.now.regs table exprs.now) }
+    pub fn key(&self, scope: &Scope, table: u16, exprs: &Exprs) -> Result<Key, Fault>
+        ensures { Computes result (key_from scope.now.request.now scope.now.item.now self.now.regs table exprs.now) }
     {
-        let parts = self.parts(alloc, request, item, exprs)?;
+        let parts = self.parts(scope, exprs)?;
         Ok(Key { table, parts })
     }
 
     /// The parts of a key with the values of these expressions.
     #[tactic(auto, using(crate::proofs::KeyParts::one_more))]
-    fn parts(
-        &self,
-        alloc: Global,
-        request: &Request,
-        item: &[i64],
-        exprs: &Exprs,
-    ) -> Result<Parts, Fault>
-        ensures { Computes result (got (values_of request.now item.now self.now.regs exprs.now) (λ vs. Ok (parts_of vs))) }
+    fn parts(&self, scope: &Scope, exprs: &Exprs) -> Result<Parts, Fault>
+        ensures { Computes result (got (values_of scope.now.request.now scope.now.item.now self.now.regs exprs.now) (λ vs. Ok (parts_of vs))) }
     {
-        let mut parts = Vec::with_capacity(alloc, exprs.as_slice().len())?;
+        let mut parts = Vec::with_capacity(scope.alloc, exprs.as_slice().len())?;
         for expr in exprs.as_slice() {
-            parts.push(part(eval(alloc, request, item, &self.registers, expr)?))?;
+            parts.push(part(eval(scope, &self.registers, expr)?))?;
         }
-        Ok(key_parts(alloc, parts)?)
+        Ok(key_parts(scope.alloc, parts)?)
     }
 
     /// The row with the values of these expressions.
-    pub fn row(
-        &self,
-        alloc: Global,
-        request: &Request,
-        item: &[i64],
-        exprs: &Exprs,
-    ) -> Result<Row, Fault>
-        ensures { Computes result (row_from request.now item.now self.now.regs exprs.now) }
+    pub fn row(&self, scope: &Scope, exprs: &Exprs) -> Result<Row, Fault>
+        ensures { Computes result (row_from scope.now.request.now scope.now.item.now self.now.regs exprs.now) }
     {
-        let mut values = eval_all(alloc, request, item, &self.registers, exprs)?.into_vec();
+        let mut values = eval_all(scope, &self.registers, exprs)?.into_vec();
         values.truncate(MOST_COLUMNS);
         Ok(Row::from_vec(values))
     }
 
     /// Sets a register to the value of an expression.
-    pub fn assign(
-        &mut self,
-        alloc: Global,
-        request: &Request,
-        item: &[i64],
-        register: u32,
-        expr: &Expr,
-    ) -> Result<(), Fault>
-        ensures { (next : Next) → Goes result next self.new (step_run request.now (step.Let register (term_of expr.now)) item.now next self.old) }
+    pub fn assign(&mut self, scope: &Scope, register: u32, expr: &Expr) -> Result<(), Fault>
+        ensures { (next : Next) → Goes result next self.new (step_run scope.now.request.now (step.Let register (term_of expr.now)) scope.now.item.now next self.old) }
     {
-        let value = self.value(alloc, request, item, expr)?;
+        let value = self.value(scope, expr)?;
         self.set(register, value);
         Ok(())
     }
@@ -197,16 +166,10 @@ impl Running {
     }
 
     /// Adds the value of an expression to the reply; traps where it would be one too many.
-    pub fn give(
-        &mut self,
-        alloc: Global,
-        request: &Request,
-        item: &[i64],
-        expr: &Expr,
-    ) -> Result<(), Fault>
-        ensures { (next : Next) → Goes result next self.new (step_run request.now (step.Give (term_of expr.now)) item.now next self.old) }
+    pub fn give(&mut self, scope: &Scope, expr: &Expr) -> Result<(), Fault>
+        ensures { (next : Next) → Goes result next self.new (step_run scope.now.request.now (step.Give (term_of expr.now)) scope.now.item.now next self.old) }
     {
-        let value = self.value(alloc, request, item, expr)?;
+        let value = self.value(scope, expr)?;
         if MOST_GIVEN <= self.given.len() {
             return Err(Fault::Trap(Trap::Many));
         }

@@ -16,6 +16,8 @@ mod limits;
 mod numbers;
 mod outcomes;
 mod runs;
+mod scopes;
+mod settings;
 mod stops;
 #[cfg(test)]
 mod tests;

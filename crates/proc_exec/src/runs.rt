@@ -1,5 +1,5 @@
 // The interpreter.
-ghost use Rattle.std.specs.Prelude.{◌≡◌, IfOk, []};
+ghost use Rattle.std.specs.Prelude.{◌≡◌, IfOk};
 ghost use Rattle.batch_rules.specs.Plays.{play};
 ghost use Rattle.proc_lang.specs.Steps as step;
 ghost use Rattle.proc_lang.specs.Syntax.{step_of};
@@ -9,11 +9,12 @@ ghost use Rattle.proc_exec.specs.Limits.{touchable};
 ghost use Rattle.proc_exec.specs.Steppings.{Follows, end_of_ran};
 
 use crate::accesses::{delete, find, get, need, put};
-use crate::evaluations::tuples_at;
 use crate::frames::Running;
 use crate::limits::{Limits, Unlimited};
 use crate::numbers::holds;
 use crate::outcomes::{Declared, Ran};
+use crate::scopes::Scope;
+use crate::settings::Setting;
 use crate::stops::Stop;
 use aria_base::{Kinds, Memory, Request};
 use proc_lang::{Access, Block, End, Stmt};
@@ -22,38 +23,31 @@ use std::alloc::Global;
 /// Runs one statement.
 #[cycle(running)]
 fn run_stmt<L: Limits, A: Access>(
-    alloc: Global,
-    limits: &L,
-    request: &Request,
-    item: &[i64],
+    setting: &Setting<L>,
     stmt: &Stmt,
     state: &mut Running,
     access: &mut A,
 ) -> Result<(), Stop>
-    ensures { (next : Next) → Follows result (L.declared limits.now) next state.new (A.seen access.new) (play (L.declared limits.now) (step_run request.now (step_of stmt.now) item.now next state.old) (A.seen access.old)) }
+    ensures { (next : Next) → Follows result (L.declared setting.now.limits.now) next state.new (A.seen access.new) (play (L.declared setting.now.limits.now) (step_run setting.now.scope.request.now (step_of stmt.now) setting.now.scope.item.now next state.old) (A.seen access.old)) }
 {
     match stmt {
-        Stmt::Let(register, expr) => Ok(state.assign(alloc, request, item, *register, expr)?),
-        Stmt::Get(table, key, registers) => get(
-            alloc, limits, request, item, *table, key, registers, state, access,
-        ),
+        Stmt::Let(register, expr) => Ok(state.assign(&setting.scope, *register, expr)?),
+        Stmt::Get(table, key, registers) => get(setting, *table, key, registers, state, access),
         Stmt::Need(table, key, registers, code) => need(
-            alloc, limits, request, item, *table, key, registers, *code, state, access,
+            setting, *table, key, registers, *code, state, access,
         ),
         Stmt::Find(table, key, registers, flag) => find(
-            alloc, limits, request, item, *table, key, registers, *flag, state, access,
+            setting, *table, key, registers, *flag, state, access,
         ),
-        Stmt::Put(table, key, columns) => put(
-            alloc, limits, request, item, *table, key, columns, state, access,
-        ),
-        Stmt::Del(table, key) => delete(alloc, limits, request, item, *table, key, state, access),
+        Stmt::Put(table, key, columns) => put(setting, *table, key, columns, state, access),
+        Stmt::Del(table, key) => delete(setting, *table, key, state, access),
         Stmt::If(test, first, second) => {
-            let test = holds(&state.value(alloc, request, item, test)?);
+            let test = holds(&state.value(&setting.scope, test)?);
             let block = if test { first } else { second };
-            run_block(alloc, limits, request, item, block, state, access)
+            run_block(setting, block, state, access)
         }
-        Stmt::Each(list, body) => run_each(alloc, limits, request, *list, body, state, access),
-        Stmt::Give(expr) => Ok(state.give(alloc, request, item, expr)?),
+        Stmt::Each(list, body) => run_each(setting, *list, body, state, access),
+        Stmt::Give(expr) => Ok(state.give(&setting.scope, expr)?),
         Stmt::Fail(code) => Err(Stop::Back(*code)),
     }
 }
@@ -61,18 +55,15 @@ fn run_stmt<L: Limits, A: Access>(
 /// Runs the statements of a block, one after another.
 #[cycle(running)]
 fn run_block<L: Limits, A: Access>(
-    alloc: Global,
-    limits: &L,
-    request: &Request,
-    item: &[i64],
+    setting: &Setting<L>,
     block: &Block,
     state: &mut Running,
     access: &mut A,
 ) -> Result<(), Stop>
-    ensures { (next : Next) → Follows result (L.declared limits.now) next state.new (A.seen access.new) (play (L.declared limits.now) (steps_run request.now block.now item.now next state.old) (A.seen access.old)) }
+    ensures { (next : Next) → Follows result (L.declared setting.now.limits.now) next state.new (A.seen access.new) (play (L.declared setting.now.limits.now) (steps_run setting.now.scope.request.now block.now setting.now.scope.item.now next state.old) (A.seen access.old)) }
 {
     for stmt in block.as_slice() {
-        run_stmt(alloc, limits, request, item, stmt, state, access)?;
+        run_stmt(setting, stmt, state, access)?;
     }
     Ok(())
 }
@@ -80,26 +71,24 @@ fn run_block<L: Limits, A: Access>(
 /// Runs a block for each tuple of a list argument.
 #[cycle(running)]
 fn run_each<L: Limits, A: Access>(
-    alloc: Global,
-    limits: &L,
-    request: &Request,
+    setting: &Setting<L>,
     argument: u32,
     block: &Block,
     state: &mut Running,
     access: &mut A,
 ) -> Result<(), Stop>
-    ensures { (next : Next) → Follows result (L.declared limits.now) next state.new (A.seen access.new) (play (L.declared limits.now) (step_run request.now (step.Each argument block.now) [] next state.old) (A.seen access.old)) }
+    ensures { (next : Next) → Follows result (L.declared setting.now.limits.now) next state.new (A.seen access.new) (play (L.declared setting.now.limits.now) (step_run setting.now.scope.request.now (step.Each argument block.now) setting.now.scope.item.now next state.old) (A.seen access.old)) }
 {
-    for tuple in tuples_at(request, argument) {
-        run_block(
-            alloc,
-            limits,
-            request,
-            tuple.as_slice(),
-            block,
-            state,
-            access,
-        )?;
+    let scope = &setting.scope;
+    for tuple in scope.tuples(argument) {
+        let inner = Setting {
+            scope: Scope {
+                item: tuple.as_slice(),
+                ..*scope
+            },
+            limits: setting.limits,
+        };
+        run_block(&inner, block, state, access)?;
     }
     Ok(())
 }
@@ -116,7 +105,12 @@ fn run_within<L: Limits, A: Access>(
     ensures { IfOk result (λ ran. play (L.declared limits.now) (script body.now registers.now request.now) (A.seen access.old) ≡ record { end = end_of_ran ran; seen = A.seen access.new }) }
 {
     let mut state = Running::start(alloc, registers)?;
-    match run_block(alloc, limits, request, &[], body, &mut state, access) {
+    let scope = Scope {
+        alloc,
+        request,
+        item: &[],
+    };
+    match run_block(&Setting { scope, limits }, body, &mut state, access) {
         Ok(()) => Ok(Ran::Ended(End::Done(state.into_given()))),
         Err(Stop::Back(code)) => Ok(Ran::Ended(End::Back(code))),
         Err(Stop::Trap(trap)) => Ok(Ran::Ended(End::Trap(trap))),

@@ -18,14 +18,14 @@ decreases-run_each g l = 2 * steps_size l.block.now + 1
 
 abbrev pub invariant-run_block-loop-stmt : goal.invariant-run_block-loop-stmt
 invariant-run_block-loop-stmt g l =
-    let declared = g.L.Limits.declared l.limits in
+    let declared = g.L.Limits.declared l.setting.limits.now in
     let seen = g.A.Access.seen in
-    (next : Next) → play declared (steps_run l.request l.block l.item next l.initial.state) (seen l.initial.access)
-    ≡ play declared (steps_run l.request (steps_of (drop l.stmt-index l.stmt-items)) l.item next l.state) (seen l.access)
+    (next : Next) → play declared (steps_run l.setting.scope.request.now l.block l.setting.scope.item.now next l.initial.state) (seen l.initial.access)
+    ≡ play declared (steps_run l.setting.scope.request.now (steps_of (drop l.stmt-index l.stmt-items)) l.setting.scope.item.now next l.state) (seen l.access)
 
 abbrev pub invariant-run_each-loop-tuple : goal.invariant-run_each-loop-tuple
 invariant-run_each-loop-tuple g l =
-    let declared = g.L.Limits.declared l.limits in
+    let declared = g.L.Limits.declared l.setting.limits.now in
     let seen = g.A.Access.seen in
-    (next : Next) → play declared (for_each (steps_run l.request l.block) (tuples_of (slice_get l.request.call.args l.argument)) next l.initial.state) (seen l.initial.access)
-    ≡ play declared (for_each (steps_run l.request l.block) (drop l.tuple-index l.tuple-items) next l.state) (seen l.access)
+    (next : Next) → play declared (for_each (steps_run l.setting.scope.request.now l.block) (tuples_of (slice_get l.setting.scope.request.now.call.args l.argument)) next l.initial.state) (seen l.initial.access)
+    ≡ play declared (for_each (steps_run l.setting.scope.request.now l.block) (drop l.tuple-index l.tuple-items) next l.state) (seen l.access)

@@ -8,5 +8,5 @@ use Rattle.proc_exec.proofs.frames.Running.parts.Goals as goal
 pub returns : goal.returns
 returns c =
     let made = c.loop-expr.parts.items in
-    let all : values_of c.args.request.now c.args.item.now c.args.self.now.regs c.args.exprs.now ≡ Ok (map value_at made) = sym (rw (drop_all c.loop-expr.expr-index c.as_slice-expr-items.result.now (omega arith)) at c.loop-expr.invariant) in
+    let all : values_of c.args.scope.now.request.now c.args.scope.now.item.now c.args.self.now.regs c.args.exprs.now ≡ Ok (map value_at made) = sym (rw (drop_all c.loop-expr.expr-index c.as_slice-expr-items.result.now (omega arith)) at c.loop-expr.invariant) in
     rw (all, as_key made, c.in_ok-key_parts.ensures)

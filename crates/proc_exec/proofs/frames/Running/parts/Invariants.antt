@@ -5,4 +5,4 @@ use Rattle.proc_exec.proofs.KeyParts.{value_at}
 use Rattle.proc_exec.proofs.frames.Running.parts.Given as goal
 
 abbrev pub invariant-loop-expr : goal.invariant-loop-expr
-invariant-loop-expr l = values_after l.request l.item l.self.regs (map value_at l.parts.items) (map term_of (drop l.expr-index l.expr-items)) ≡ values_of l.request l.item l.self.regs l.exprs
+invariant-loop-expr l = values_after l.scope.request.now l.scope.item.now l.self.regs (map value_at l.parts.items) (map term_of (drop l.expr-index l.expr-items)) ≡ values_of l.scope.request.now l.scope.item.now l.self.regs l.exprs
