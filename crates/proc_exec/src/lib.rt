@@ -19,8 +19,6 @@ mod runs;
 mod scopes;
 mod settings;
 mod stops;
-#[cfg(test)]
-mod tests;
 mod texts;
 
 pub use interpretations::{interpret, interpret_within};

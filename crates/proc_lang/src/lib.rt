@@ -14,8 +14,6 @@ mod expressions;
 mod flaws;
 mod procs;
 mod statements;
-#[cfg(test)]
-mod tests;
 
 pub use accesses::Access;
 pub use catalogs::{

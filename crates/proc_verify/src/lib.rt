@@ -14,8 +14,6 @@ mod registers;
 mod scopes;
 mod statements;
 mod stops;
-#[cfg(test)]
-mod tests;
 
 pub use proc_lang::Wrong;
 pub use procedures::verify;

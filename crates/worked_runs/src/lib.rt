@@ -12,7 +12,11 @@
 //! `expressions` and `statements` hold the examples. `catalogs` makes the catalogue, the rows and the
 //! request of one, and `words` puts into words what it comes to. `runs` runs the examples on
 //! snapshots, some within declared keys. `windows` has a window of its own and looks at what is asked
-//! of it. `calls` has the names of a catalogue, and calls that it does not take.
+//! of it. `workers` lets threads share a snapshot. `calls` has the names of a catalogue, and calls that
+//! it does not take.
+//!
+//! `typings`, `handmade` and `copies` are the tests of `proc_verify`, `proc_lang` and `proc_exec` that
+//! need no run. They stand here because a crate with tests is proved twice, and those are dear.
 #![tactic(auto)]
 
 #[cfg(test)]
@@ -20,12 +24,20 @@ mod calls;
 #[cfg(test)]
 mod catalogs;
 #[cfg(test)]
+mod copies;
+#[cfg(test)]
 mod expressions;
+#[cfg(test)]
+mod handmade;
 #[cfg(test)]
 mod runs;
 #[cfg(test)]
 mod statements;
 #[cfg(test)]
+mod typings;
+#[cfg(test)]
 mod windows;
 #[cfg(test)]
 mod words;
+#[cfg(test)]
+mod workers;

@@ -1,9 +1,8 @@
-// What no clause shows: that copies are made where there is memory, and that a copy passes for the
-// first by `==`. Whole runs are tested where there are procedures.
-use crate::{Declared, Late, Outcome, Ran, Waiting, Within};
+// Copies of what a run comes to: they are made where there is memory, and pass for the first by `==`.
 use aria_base::{
     Arg, Args, Call, Changes, Duplicate, Items, Key, Keys, Memory, Part, Parts, Request, Row, Value,
 };
+use proc_exec::{Declared, Late, Outcome, Ran, Waiting, Within};
 use proc_lang::{End, Gives};
 use std::alloc::Global;
 use std::test::Fail;

@@ -1,11 +1,11 @@
-// That the definition of typing says what was meant, worked out by hand.
+// Procedures that typing refuses, made by hand: the statement and the cause that it names.
 ghost use Rattle.std.specs.Prelude.{◌≡◌, ◌+◌, ◌≤◌, IfOk};
 ghost use Rattle.proc_lang.specs.Catalogs.{step_count, steps_count};
 ghost use Rattle.proc_lang.specs.Syntax.{step_of};
 
-use crate::{VerifyRefused, Wrong, verify};
 use aria_base::{Kind, Kinds, Memory, Schema, Table, Txt};
 use proc_lang::{ArgKind, ArgKinds, Block, Expr, Exprs, MOST_STATEMENTS, Proc, Regs, Stmt};
+use proc_verify::{VerifyRefused, Wrong, verify};
 use std::alloc::Global;
 use std::test::Fail;
 

@@ -1,7 +1,6 @@
-// What no clause shows: that the calls on catalogues succeed where there is memory. Catalogues with
-// procedures are tested in `worked_runs`.
-use crate::{Block, Catalog, Checked, Proc};
+// A catalogue and a procedure that are made by hand, and not read from a text.
 use aria_base::{Args, Call, Items, Kind, Memory, Schema, Txt};
+use proc_lang::{Block, Catalog, Checked, Proc};
 use std::alloc::Global;
 use std::test::Fail;
 
