@@ -15,8 +15,6 @@ ghost use Rattle.cat_builtin.specs.Builtins.{builtin_named};
 mod bank;
 mod builders;
 mod seals;
-#[cfg(test)]
-mod tests;
 mod tpcc;
 mod ycsb;
 

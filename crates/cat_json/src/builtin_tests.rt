@@ -1,4 +1,5 @@
-// The built-in catalogues as texts. The bank's text was written by hand, as docs/language.md shows it.
+// The built-in catalogues: how many tables and procedures each has, counted by hand, and their texts.
+// The bank's text was written by hand, as docs/language.md shows it.
 use crate::{builtin, read_catalog, write_catalog};
 use proc_lang::Catalog;
 use std::alloc::Global;
@@ -41,6 +42,27 @@ fn builtin_catalogues_are_read_again(rt: HostRuntime) -> Result<(), Fail> {
             return Err(Fail::new("a catalogue is missing"));
         };
         assert!(rt; comes_again(rt.alloc(), &catalog)?, "at {name}");
+    }
+    Ok(())
+}
+
+#[test]
+fn three_names_have_catalogues(rt: HostRuntime) -> Result<(), Fail> {
+    for (name, tables, procs) in [("bank", 1, 6), ("ycsb", 1, 1), ("tpcc", 11, 2)] {
+        let Some(catalog) = builtin(rt.alloc(), name.as_bytes())? else {
+            return Err(Fail::new("a catalogue is missing"));
+        };
+        assert_eq!(rt; catalog.schema().as_slice().len(), tables, "at {name}");
+        assert_eq!(rt; catalog.procs().len(), procs, "at {name}");
+    }
+    Ok(())
+}
+
+#[test]
+fn no_other_name_has_one(rt: HostRuntime) -> Result<(), Fail> {
+    for name in ["", "Bank", "ban", "bank ", "ycs", "tpcc2"] {
+        let found = builtin(rt.alloc(), name.as_bytes())?;
+        assert!(rt; found.is_none(), "at {name:?}");
     }
     Ok(())
 }

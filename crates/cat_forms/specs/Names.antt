@@ -1,0 +1,131 @@
+-- What expressions, statements and kinds are called in JSON.
+use Rattle.std.specs.Prelude.{ℕ, ◌+◌, Bool, true, false, List, [], ◌∷◌, ◌++◌, Option, codes, find, if◌then◌else◌}
+use Rattle.std.specs.Str.{bytes_eq}
+use Rattle.aria_base.specs.declared.values.Kind.{Kind}
+use Rattle.aria_base.specs.declared.values.Kind.TheVariants as kind
+use Rattle.proc_lang.specs.declared.procs.ArgKind.{ArgKind}
+use Rattle.proc_lang.specs.declared.procs.ArgKind.TheVariants as arg
+use Rattle.proc_lang.specs.Catalogs.{is_between}
+use Rattle.proc_lang.specs.declared.catalogs.TheConstants.{MOST_KEY_PARTS}
+use Rattle.proc_lang.specs.Terms.{Term}
+use Rattle.proc_lang.specs.Terms as term
+use Rattle.cat_forms.specs.declared.names.Plain.{Plain}
+use Rattle.cat_forms.specs.declared.names.Plain.TheVariants as plain
+use Rattle.cat_forms.specs.declared.names.Unary.{Unary}
+use Rattle.cat_forms.specs.declared.names.Unary.TheVariants as unary
+use Rattle.cat_forms.specs.declared.names.Binary.{Binary}
+use Rattle.cat_forms.specs.declared.names.Binary.TheVariants as binary
+use Rattle.cat_forms.specs.declared.names.Form.{Form}
+use Rattle.cat_forms.specs.declared.names.Form.TheVariants as form
+use Rattle.cat_forms.specs.declared.names.Verb.{Verb}
+use Rattle.cat_forms.specs.declared.names.Verb.TheVariants as verb
+use Rattle.cat_forms.specs.declared.names.TheConstants.{FORMS, VERBS, KINDS, ARG_KINDS}
+
+abbrev pub plain_name : Plain → List ℕ
+plain_name plain.Reg = codes "reg"
+plain_name plain.Arg = codes "arg"
+plain_name plain.Item = codes "item"
+plain_name plain.Len = codes "len"
+
+abbrev pub unary_name : Unary → List ℕ
+unary_name unary.Not = codes "not"
+unary_name unary.Show = codes "show"
+
+abbrev pub binary_name : Binary → List ℕ
+binary_name binary.Add = codes "add"
+binary_name binary.Sub = codes "sub"
+binary_name binary.Mul = codes "mul"
+binary_name binary.Div = codes "div"
+binary_name binary.Mod = codes "mod"
+binary_name binary.Eq = codes "eq"
+binary_name binary.Ne = codes "ne"
+binary_name binary.Lt = codes "lt"
+binary_name binary.Le = codes "le"
+binary_name binary.And = codes "and"
+binary_name binary.Or = codes "or"
+binary_name binary.Cat = codes "cat"
+
+abbrev pub form_name : Form → List ℕ
+form_name form.Me = codes "me"
+form_name (form.Plain p) = plain_name p
+form_name (form.Unary u) = unary_name u
+form_name (form.Binary b) = binary_name b
+form_name form.MulDiv = codes "muldiv"
+form_name form.Front = codes "front"
+
+-- the form with this name
+abbrev pub form_named : List ℕ → Option Form
+form_named name = find (λ f. bytes_eq (form_name f) name) FORMS
+
+abbrev pub plain_term : Plain → ℕ → Term
+plain_term plain.Reg n = term.Reg n
+plain_term plain.Arg n = term.Arg n
+plain_term plain.Item n = term.Item n
+plain_term plain.Len n = term.Len n
+
+abbrev pub unary_term : Unary → Term → Term
+unary_term unary.Not a = term.Not a
+unary_term unary.Show a = term.Show a
+
+abbrev pub binary_term : Binary → Term → Term → Term
+binary_term binary.Add a b = term.Add a b
+binary_term binary.Sub a b = term.Sub a b
+binary_term binary.Mul a b = term.Mul a b
+binary_term binary.Div a b = term.Div a b
+binary_term binary.Mod a b = term.Mod a b
+binary_term binary.Eq a b = term.Eq a b
+binary_term binary.Ne a b = term.Ne a b
+binary_term binary.Lt a b = term.Lt a b
+binary_term binary.Le a b = term.Le a b
+binary_term binary.And a b = term.And a b
+binary_term binary.Or a b = term.Or a b
+binary_term binary.Cat a b = term.Cat a b
+
+-- ---- statements
+
+abbrev pub verb_name : Verb → List ℕ
+verb_name verb.Let = codes "let"
+verb_name verb.Get = codes "get"
+verb_name verb.Need = codes "need"
+verb_name verb.Find = codes "find"
+verb_name verb.Put = codes "put"
+verb_name verb.Del = codes "del"
+verb_name verb.If = codes "if"
+verb_name verb.Each = codes "each"
+verb_name verb.Give = codes "give"
+verb_name verb.Fail = codes "fail"
+
+-- the verb with this name
+abbrev pub verb_named : List ℕ → Option Verb
+verb_named name = find (λ v. bytes_eq (verb_name v) name) VERBS
+
+-- the statements of this verb hold blocks
+abbrev pub has_blocks : Verb → Bool
+has_blocks verb.Let = false
+has_blocks verb.Get = false
+has_blocks verb.Need = false
+has_blocks verb.Find = false
+has_blocks verb.Put = false
+has_blocks verb.Del = false
+has_blocks verb.If = true
+has_blocks verb.Each = true
+has_blocks verb.Give = false
+has_blocks verb.Fail = false
+
+-- ---- kinds
+
+abbrev pub kind_name : Kind → List ℕ
+kind_name kind.Int = codes "int"
+kind_name kind.Text = codes "text"
+
+-- a list by the number of its tuples' numbers; where no tuple has so many, a name that no kind has
+abbrev pub arg_kind_name : ArgKind → List ℕ
+arg_kind_name arg.Int = codes "int"
+arg_kind_name arg.Text = codes "text"
+arg_kind_name (arg.List width) = if is_between 1 MOST_KEY_PARTS width then codes "list" ++ (48 + width) ∷ [] else codes "list"
+
+abbrev pub kind_named : List ℕ → Option Kind
+kind_named name = find (λ k. bytes_eq (kind_name k) name) KINDS
+
+abbrev pub arg_kind_named : List ℕ → Option ArgKind
+arg_kind_named name = find (λ k. bytes_eq (arg_kind_name k) name) ARG_KINDS

@@ -1,0 +1,11 @@
+pub mod Binds
+pub mod Counts
+pub mod FaultReads
+pub mod Forms
+pub mod Operands
+pub mod PlanLimits
+pub mod Sealings
+pub mod StepLimits
+pub mod TermLimits
+pub mod Texts
+pub mod Verbs

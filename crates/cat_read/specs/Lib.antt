@@ -1,0 +1,5 @@
+pub mod Faults
+pub mod Places
+pub mod Refusals
+pub mod Sealings
+pub mod Texts
