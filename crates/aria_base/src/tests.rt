@@ -7,7 +7,7 @@ use crate::{
     Schema, Sink, Source, Table, Tuple, Tuples, Txt, TxtRefused, Value, compare_keys, copy_call,
     copy_key, copy_row, is_word, same_key,
 };
-use std::alloc::Global;
+use std::alloc::{AllocError, Global};
 use std::cell::Cell;
 use std::cmp::Ordering;
 use std::fmt::Debug;
@@ -24,6 +24,12 @@ enum Sample {
 }
 
 use Sample::{Number, Text};
+
+/// Asserts that what was found in this case is what was worked out for it. An assertion in place costs
+/// its function several seconds of proof, and a call of this one next to none.
+fn same<T: PartialEq + Debug>(rt: &impl Abort, case: &impl Debug, found: &T, wanted: &T) {
+    assert_eq!(rt; found, wanted, "at {case:?}");
+}
 
 fn part(alloc: Global, sample: Sample) -> Result<Part, TxtRefused> {
     match sample {
@@ -62,10 +68,18 @@ fn row(alloc: Global, samples: &[Sample]) -> Result<Row, Fail> {
     Ok(Row::from_vec(values))
 }
 
+fn kinds(alloc: Global, kinds: &[Kind]) -> Result<Kinds, Fail> {
+    let mut list = Vec::new(alloc);
+    for &kind in kinds {
+        list.push(kind)?;
+    }
+    Ok(Kinds::from_vec(list))
+}
+
 fn table(alloc: Global, key: &[Kind], cols: &[Kind]) -> Result<Table, Fail> {
     let name = Txt::of(alloc, b"acct")?;
-    let key = Kinds::from_vec(key.to_vec(alloc)?);
-    let cols = Kinds::from_vec(cols.to_vec(alloc)?);
+    let key = kinds(alloc, key)?;
+    let cols = kinds(alloc, cols)?;
     Ok(Table { name, key, cols })
 }
 
@@ -85,18 +99,15 @@ fn call(alloc: Global) -> Result<Call, Fail> {
 
 #[test]
 fn texts_have_at_most_500_bytes(rt: HostRuntime) -> Result<(), Fail> {
-    let letters = [b'a'; 501];
-    for bytes in [letters, [0; 501]] {
-        assert_eq!(rt;
-            Txt::of(rt.alloc(), &bytes),
-            Err(TxtRefused::TooLong { len: 501 })
-        );
+    for byte in [b'a', 0] {
+        let refused = Err(TxtRefused::TooLong { len: 501 });
+        same(&rt, &byte, &Txt::of(rt.alloc(), &[byte; 501]), &refused);
     }
+    let letters = [b'a'; 500];
     for len in [0, 500] {
-        assert_eq!(rt;
-            Txt::of(rt.alloc(), &letters[..len])?.as_slice(),
-            &letters[..len]
-        );
+        let wanted = &letters[..len];
+        let text = Txt::of(rt.alloc(), wanted)?;
+        same(&rt, &len, &text.as_slice(), &wanted);
     }
     Ok(())
 }
@@ -112,14 +123,12 @@ fn texts_hold_printable_ascii(rt: HostRuntime) -> Result<(), Fail> {
         ([97, 97, 127], 2),
         ([255, 97, 97], 0),
     ] {
-        assert_eq!(rt;
-            Txt::of(rt.alloc(), &bytes),
-            Err(TxtRefused::BadByte { at }),
-            "in {bytes:?}"
-        );
+        let refused = Err(TxtRefused::BadByte { at });
+        same(&rt, &bytes, &Txt::of(rt.alloc(), &bytes), &refused);
     }
     for bytes in [[32, 33, 35], [91, 93, 126]] {
-        assert_eq!(rt; Txt::of(rt.alloc(), &bytes)?.as_slice(), bytes.as_slice());
+        let text = Txt::of(rt.alloc(), &bytes)?;
+        same(&rt, &bytes, &text.as_slice(), &bytes.as_slice());
     }
     Ok(())
 }
@@ -131,45 +140,54 @@ fn causes_are_printed(rt: HostRuntime) -> Result<(), Fail> {
     let printed = format!(in rt.alloc(); "{Memory}, {}, {long}, {bad}", TxtRefused::Memory)?;
     let wanted =
         "no memory, no memory, 501 bytes are too long for a text, no text holds the byte at 7";
-    assert_eq!(rt; printed.as_str(), wanted);
+    same(&rt, &"causes", &printed.as_str(), &wanted);
     Ok(())
 }
 
 #[test]
 fn words_are_told_from_other_bytes(rt: HostRuntime) -> Result<(), Fail> {
     for word in ["a", "acct", "c_data", "z9_", "abcdefghijklmnop"] {
-        assert!(rt; is_word(word.as_bytes()), "{word}");
+        same(&rt, &word, &is_word(word.as_bytes()), &true);
     }
     for other in ["", "A", "9a", "_a", "a-b", "a b", "aB", "abcdefghijklmnopq"] {
-        assert!(rt; !is_word(other.as_bytes()), "{other}");
+        same(&rt, &other, &is_word(other.as_bytes()), &false);
     }
     Ok(())
+}
+
+/// Keys by their tables and parts, in order.
+const IN_ORDER: [(u16, &[Sample]); 12] = [
+    (0, &[Number(-10)]),
+    (0, &[Number(-9)]),
+    (0, &[Number(-9), Number(i64::MIN)]),
+    (0, &[Number(-9), Text(b"")]),
+    (0, &[Number(10)]),
+    (0, &[Text(b"")]),
+    (0, &[Text(b"10")]),
+    (0, &[Text(b"9")]),
+    (0, &[Text(b"Zz")]),
+    (0, &[Text(b"a")]),
+    (0, &[Text(b"aa")]),
+    (1, &[Number(i64::MIN)]),
+];
+
+/// Checks two keys, with their places in a list of keys that is in order.
+fn compare_as_placed(rt: &impl Abort, (at, a): (usize, &Key), (place, b): (usize, &Key)) {
+    let places = (at, place);
+    same(rt, &places, &compare_keys(a, b), &at.cmp(&place));
+    same(rt, &places, &(a == b), &(at == place));
+    same(rt, &places, &same_key(a, b), &(at == place));
 }
 
 #[test]
 fn keys_are_in_order(rt: HostRuntime) -> Result<(), Fail> {
     let mut keys = Vec::new(rt.alloc());
-    for (table, parts) in [
-        (0, [Number(-10)].as_slice()),
-        (0, [Number(-9)].as_slice()),
-        (0, [Number(-9), Number(i64::MIN)].as_slice()),
-        (0, [Number(-9), Text(b"")].as_slice()),
-        (0, [Number(10)].as_slice()),
-        (0, [Text(b"")].as_slice()),
-        (0, [Text(b"10")].as_slice()),
-        (0, [Text(b"9")].as_slice()),
-        (0, [Text(b"Zz")].as_slice()),
-        (0, [Text(b"a")].as_slice()),
-        (0, [Text(b"aa")].as_slice()),
-        (1, [Number(i64::MIN)].as_slice()),
-    ] {
+    for (table, parts) in IN_ORDER {
         keys.push(key(rt.alloc(), table, parts)?)?;
     }
-    for (at, a) in keys.iter().enumerate() {
-        for (place, b) in keys.iter().enumerate() {
-            assert_eq!(rt; compare_keys(a, b), at.cmp(&place), "{at} and {place}");
-            assert_eq!(rt; a == b, at == place, "{at} and {place}");
-            assert_eq!(rt; same_key(a, b), at == place, "{at} and {place}");
+    for one in keys.iter().enumerate() {
+        for other in keys.iter().enumerate() {
+            compare_as_placed(&rt, one, other);
         }
     }
     Ok(())
@@ -180,9 +198,18 @@ fn copies<T: Duplicate + PartialEq + Debug>(
     rt: &impl Abort,
     alloc: Global,
     value: T,
-) -> Result<(), Fail> {
-    let copy = value.duplicate(alloc)?;
-    assert_eq!(rt; copy, value);
+) -> Result<(), Memory> {
+    is_copy(rt, value.duplicate(alloc), value)
+}
+
+/// Checks that this copy of the value was made, and is equal to it.
+fn is_copy<T: PartialEq + Debug + Drop>(
+    rt: &impl Abort,
+    copy: Result<T, Memory>,
+    value: T,
+) -> Result<(), Memory> {
+    let copy = copy?;
+    same(rt, &"a copy", &copy, &value);
     Ok(())
 }
 
@@ -213,18 +240,19 @@ fn copies_are_equal(rt: HostRuntime) -> Result<(), Fail> {
         alloc,
         Items::<u32>::from_vec(vec![in alloc; 0, u32::MAX]?),
     )?;
-    copies(&rt, alloc, Bytes::from_vec(vec![in alloc; 0, 255]?))
+    copies(&rt, alloc, Bytes::from_vec(vec![in alloc; 0, 255]?))?;
+    Ok(())
 }
 
 #[test]
 fn rows_keys_and_calls_are_copied(rt: HostRuntime) -> Result<(), Fail> {
     let alloc = rt.alloc();
     let row = row(alloc, &[Text(b"Ann Lee"), Number(-7)])?;
-    assert_eq!(rt; copy_row(alloc, &row)?, row);
+    is_copy(&rt, copy_row(alloc, &row), row)?;
     let key = key(alloc, 9, &[Number(4), Text(b"x")])?;
-    assert_eq!(rt; copy_key(alloc, &key)?, key);
+    is_copy(&rt, copy_key(alloc, &key), key)?;
     let call = call(alloc)?;
-    assert_eq!(rt; copy_call(alloc, &call)?, call);
+    is_copy(&rt, copy_call(alloc, &call), call)?;
     Ok(())
 }
 
@@ -234,41 +262,82 @@ fn fits(alloc: Global, table: u16, parts: &[Sample], columns: &[Sample]) -> Resu
     Ok(schema(alloc)?.fits(&key, &row))
 }
 
+const COLUMNS: &[Sample] = &[Text(b"Ann"), Number(5)];
+
+/// A table, the parts of a key, columns, and whether these fit that table.
+const FITS: [(u16, &[Sample], &[Sample], bool); 10] = [
+    (0, &[Number(1)], COLUMNS, true),
+    (0, &[Text(b"1")], COLUMNS, false),
+    (0, &[Number(1), Number(1)], COLUMNS, false),
+    (0, &[Number(1)], &[Number(5), Text(b"Ann")], false),
+    (0, &[Number(1)], &[Text(b"Ann")], false),
+    (0, &[Number(1)], &[], false),
+    (1, &[Number(1), Text(b"A")], &[], true),
+    (1, &[Number(1)], &[], false),
+    (1, &[Number(1), Text(b"A")], &[Number(0)], false),
+    (2, &[Number(1)], &[], false),
+];
+
 #[test]
 fn fits_in_number_and_kind(rt: HostRuntime) -> Result<(), Fail> {
-    let alloc = rt.alloc();
-    let columns = [Text(b"Ann"), Number(5)];
-    assert!(rt; fits(alloc, 0, &[Number(1)], &columns)?);
-    assert!(rt; !fits(alloc, 0, &[Text(b"1")], &columns)?);
-    assert!(rt; !fits(alloc, 0, &[Number(1), Number(1)], &columns)?);
-    assert!(rt; !fits(alloc, 0, &[Number(1)], &[Number(5), Text(b"Ann")])?);
-    assert!(rt; !fits(alloc, 0, &[Number(1)], &columns[..1])?);
-    assert!(rt; !fits(alloc, 0, &[Number(1)], &[])?);
-    assert!(rt; fits(alloc, 1, &[Number(1), Text(b"A")], &[])?);
-    assert!(rt; !fits(alloc, 1, &[Number(1)], &[])?);
-    assert!(rt; !fits(alloc, 1, &[Number(1), Text(b"A")], &[Number(0)])?);
-    assert!(rt; !fits(alloc, 2, &[Number(1)], &[])?);
+    for (table, parts, columns, wanted) in FITS {
+        let found = fits(rt.alloc(), table, parts, columns)?;
+        same(&rt, &(table, parts, columns), &found, &wanted);
+    }
+    Ok(())
+}
+
+#[test]
+fn bytes_are_in_order(rt: HostRuntime) -> Result<(), Fail> {
+    let low = Bytes::from_vec(vec![in rt.alloc(); 1, 200]?);
+    let high = Bytes::from_vec(vec![in rt.alloc(); 2]?);
+    same(&rt, &"cmp", &low.cmp(&high), &Ordering::Less);
+    let partial = Some(Ordering::Less);
+    same(&rt, &"partial_cmp", &low.partial_cmp(&high), &partial);
     Ok(())
 }
 
 #[test]
 fn lists_give_their_items(rt: HostRuntime) -> Result<(), Fail> {
-    let alloc = rt.alloc();
-    let low = Bytes::from_vec(vec![in alloc; 1, 200]?);
-    let high = Bytes::from_vec(vec![in alloc; 2]?);
-    assert_eq!(rt; low.cmp(&high), Ordering::Less);
-    assert_eq!(rt; low.partial_cmp(&high), Some(Ordering::Less));
-    assert_eq!(rt; low.into_vec().as_slice(), [1, 200].as_slice());
-    let tuple = Tuple::from_vec(vec![in alloc; -5, 5]?);
-    assert_eq!(rt; tuple.as_slice(), [-5, 5].as_slice());
-    assert_eq!(rt; tuple.into_vec().as_slice(), [-5, 5].as_slice());
-    let keys = Keys::from_vec(vec![in alloc; key(alloc, 0, &[Text(b"0")])?]?);
+    let bytes = Bytes::from_vec(vec![in rt.alloc(); 1, 200]?).into_vec();
+    same(&rt, &"bytes", &bytes.as_slice(), &[1, 200].as_slice());
+    let tuple = Tuple::from_vec(vec![in rt.alloc(); -5, 5]?);
+    same(&rt, &"a tuple", &tuple.as_slice(), &[-5, 5].as_slice());
+    let items = tuple.into_vec();
+    same(&rt, &"its items", &items.as_slice(), &[-5, 5].as_slice());
+    Ok(())
+}
+
+#[test]
+fn parts_tell_their_kind(rt: HostRuntime) -> Result<(), Fail> {
+    let key = key(rt.alloc(), 0, &[Text(b"0")])?;
+    let keys = Keys::from_vec(vec![in rt.alloc(); key]?);
     for key in keys.as_slice() {
         for part in key.parts.as_slice() {
-            assert_eq!(rt; part.kind(), Kind::Text);
+            same(&rt, &"a text", &part.kind(), &Kind::Text);
         }
     }
     Ok(())
+}
+
+/// Checks what a source answers to calls with room for four bytes, and tells which bytes it gave. Those
+/// that fail write nothing.
+fn given(
+    rt: &impl Abort,
+    alloc: Global,
+    source: &mut MemSource,
+    answers: &[Result<usize, Failed>],
+) -> Result<Vec<u8>, AllocError> {
+    let mut given = Vec::new(alloc);
+    for answer in answers {
+        let mut buf = [0; 4];
+        same(rt, &answers, &source.take(&mut buf), answer);
+        match answer {
+            Ok(n) => given.extend_from_slice(buf.split_at((*n).min(4)).0)?,
+            Err(Failed) => same(rt, &answers, &buf, &[0; 4]),
+        }
+    }
+    Ok(given)
 }
 
 #[test]
@@ -279,16 +348,8 @@ fn memory_source_gives_pieces(rt: HostRuntime) -> Result<(), Fail> {
         (7, [Err(Failed), Err(Failed), Ok(2), Ok(0), Ok(0)]),
     ] {
         let mut source = MemSource::new(b"ab".to_vec(alloc)?, piece, vec![in alloc; 1, 2]?);
-        let mut given = Vec::new(alloc);
-        for answer in answers {
-            let mut buf = [0; 4];
-            assert_eq!(rt; source.take(&mut buf), answer, "pieces of {piece}");
-            match answer {
-                Ok(n) => given.extend_from_slice(buf.split_at(n.min(4)).0)?,
-                Err(Failed) => assert_eq!(rt; buf, [0; 4]),
-            }
-        }
-        assert_eq!(rt; given.as_slice(), b"ab".as_slice(), "pieces of {piece}");
+        let given = given(&rt, alloc, &mut source, &answers)?;
+        same(&rt, &piece, &given.as_slice(), &b"ab".as_slice());
     }
     Ok(())
 }
@@ -305,8 +366,8 @@ fn memory_sink_fails_by_number_and_by_room(rt: HostRuntime) -> Result<(), Fail> 
         (b"".as_slice(), Ok(()), b"abcde".as_slice()),
         (b"f".as_slice(), Err(Failed), b"abcde".as_slice()),
     ] {
-        assert_eq!(rt; sink.give(bytes), answer, "{bytes:?}");
-        assert_eq!(rt; sink.bytes(), given, "{bytes:?}");
+        same(&rt, &bytes, &sink.give(bytes), &answer);
+        same(&rt, &bytes, &sink.bytes(), &given);
     }
     Ok(())
 }
@@ -331,22 +392,31 @@ impl Read for Troubled<'_> {
     }
 }
 
+/// Checks what a source answers to calls with one buffer, and what that then holds.
+fn fills(
+    rt: &impl Abort,
+    source: &mut impl Source,
+    buf: &mut [u8; 2],
+    steps: &[(Result<usize, Failed>, &[u8; 2])],
+) {
+    for (answer, bytes) in steps {
+        same(rt, bytes, &source.take(buf), answer);
+        same(rt, answer, buf, bytes);
+    }
+}
+
 #[test]
 fn file_source_gives_what_the_reader_gives(rt: HostRuntime) {
     let mut buf = [0; 2];
     let mut source = FileSource::new(b"abc".as_slice());
-    for (answer, bytes) in [(2, b"ab"), (1, b"cb"), (0, b"cb")] {
-        assert_eq!(rt; source.take(&mut buf), Ok(answer));
-        assert_eq!(rt; buf.as_slice(), bytes.as_slice());
-    }
+    let steps = [(Ok(2), b"ab"), (Ok(1), b"cb"), (Ok(0), b"cb")];
+    fills(&rt, &mut source, &mut buf, &steps);
     let mut troubled = FileSource::new(Troubled {
         interrupts: 2,
         left: b"de",
     });
-    for answer in [Ok(2), Err(Failed)] {
-        assert_eq!(rt; troubled.take(&mut buf), answer);
-        assert_eq!(rt; buf.as_slice(), b"de".as_slice());
-    }
+    let steps = [(Ok(2), b"de"), (Err(Failed), b"de")];
+    fills(&rt, &mut troubled, &mut buf, &steps);
 }
 
 #[test]
@@ -354,13 +424,13 @@ fn file_sink_gives_to_the_writer(rt: HostRuntime) -> Result<(), Fail> {
     let mut output = Vec::with_capacity(rt.alloc(), 4)?;
     let mut sink = FileSink::new(&mut output);
     for bytes in [b"ab", b"cd"] {
-        assert_eq!(rt; sink.give(bytes), Ok(()));
+        same(&rt, bytes, &sink.give(bytes), &Ok(()));
     }
     drop(sink);
-    assert_eq!(rt; output.as_slice(), b"abcd".as_slice());
+    same(&rt, &"output", &output.as_slice(), &b"abcd".as_slice());
     let mut room = [0; 3];
     let mut narrow = FileSink::new(room.as_mut_slice());
-    assert_eq!(rt; narrow.give(b"abcd"), Err(Failed));
+    same(&rt, &"no room", &narrow.give(b"abcd"), &Err(Failed));
     Ok(())
 }
 

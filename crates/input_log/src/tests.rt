@@ -5,6 +5,8 @@ ghost use Rattle.disk_model.specs.Recorded.{history_of};
 use crate::{LogEnd, LogRefused, Payload, append, fresh, scan};
 use disk_model::{Disk, MemDisk};
 use std::alloc::Global;
+use std::fmt::Debug;
+use std::process::Abort;
 use std::test::Fail;
 
 // The offset up to which the tests add records, and their longest payload.
@@ -15,6 +17,21 @@ const LONG: usize = 100;
 const ADD: [u8; 11] = *b"tx add 1 5\n";
 
 const WRITTEN: [u8; 17] = *b"\x01\x0b\0\0\0tx add 1 5\n\0";
+
+// Asserts that what was found in this case is what was worked out for it. An assertion in place costs
+// its function several seconds of proof, and a call of this one next to none.
+fn same<T: PartialEq + Debug>(rt: &impl Abort, case: &impl Debug, found: &T, wanted: &T) {
+    assert_eq!(rt; found, wanted, "at {case:?}");
+}
+
+// Where a log in file 3 ends.
+fn end_at(at: u64, batches: u64) -> LogEnd {
+    LogEnd {
+        file: 3,
+        at,
+        batches,
+    }
+}
 
 // A disk whose file 3 has these bytes.
 fn logged(alloc: Global, bytes: &[u8]) -> Result<MemDisk, Fail>
@@ -52,51 +69,62 @@ fn appended(
     Ok((disk, end, Ok(())))
 }
 
+fn is_last(last: &[u8], payloads: &[Payload]) -> bool {
+    match payloads.last() {
+        Some(payload) => payload.bytes.as_slice() == last,
+        None => false,
+    }
+}
+
+// How many records a log in file 3 has, or 0 where this one is not the last.
+fn count_up_to(alloc: Global, disk: &mut MemDisk, last: &[u8]) -> Result<usize, LogRefused> {
+    let (payloads, _) = scan(alloc, disk, 3)?;
+    if is_last(last, &payloads) {
+        return Ok(payloads.len());
+    }
+    Ok(0)
+}
+
 // How many records a log in file 3 has that stands with nothing unsynced, when one more was added.
-fn count_with_one_more(alloc: Global, disk: &mut MemDisk) -> Result<usize, Fail>
+fn count_with_one_more(alloc: Global, disk: &mut MemDisk) -> Result<usize, LogRefused>
     requires { IsStable (current (history_of disk.old) 3) }
 {
-    let (before, mut end) = scan(alloc, disk, 3)?;
+    let (_, mut end) = scan(alloc, disk, 3)?;
     if end.at > FAR {
         return Ok(0);
     }
     append(alloc, &mut end, disk, b"next")?;
-    let (after, _) = scan(alloc, disk, 3)?;
-    if after[after.len() - 1].bytes.as_slice() != b"next".as_slice() {
-        return Ok(0);
-    }
-    Ok(after.len())
+    count_up_to(alloc, disk, b"next")
 }
 
 #[test]
 fn a_record_is_laid_out(rt: HostRuntime) -> Result<(), Fail> {
-    let alloc = rt.alloc();
-    let (disk, end, added) = appended(alloc, &[&ADD], 0)?;
-    assert_eq!(rt; added, Ok(()));
-    assert_eq!(rt; disk.bytes(3), WRITTEN.as_slice());
-    assert_eq!(rt;
-        end,
-        LogEnd {
-            file: 3,
-            at: 16,
-            batches: 1
-        }
-    );
-    assert_eq!(rt; disk.calls(), 6);
+    let (disk, end, added) = appended(rt.alloc(), &[&ADD], 0)?;
+    same(&rt, &"added", &added, &Ok(()));
+    same(&rt, &"bytes", &disk.bytes(3), &WRITTEN.as_slice());
+    same(&rt, &"end", &end, &end_at(16, 1));
+    same(&rt, &"calls", &disk.calls(), &6);
+    Ok(())
+}
+
+#[test]
+fn a_record_behind_a_closed_gate_is_none(rt: HostRuntime) -> Result<(), Fail> {
     let mut bytes = WRITTEN;
     bytes[0] = 77;
-    let mut shut = logged(alloc, &bytes)?;
-    let (payloads, end) = scan(alloc, &mut shut, 3)?;
-    assert_eq!(rt; payloads.len(), 0);
-    assert_eq!(rt;
-        end,
-        LogEnd {
-            file: 3,
-            at: 0,
-            batches: 0
-        }
-    );
+    let mut shut = logged(rt.alloc(), &bytes)?;
+    let (payloads, end) = scan(rt.alloc(), &mut shut, 3)?;
+    same(&rt, &"payloads", &payloads.len(), &0);
+    same(&rt, &"end", &end, &end_at(0, 0));
     Ok(())
+}
+
+// How many records a log in file 3 has, or 9 where there is one and another than the one that was added.
+fn count_as_left(alloc: Global, disk: &mut MemDisk) -> Result<usize, LogRefused> {
+    let (payloads, _) = scan(alloc, disk, 3)?;
+    if payloads.len() == 1 && !is_last(&ADD, &payloads) {
+        return Ok(9);
+    }
+    Ok(payloads.len())
 }
 
 // What a stop after so many calls leaves of the log in file 3: how many records it has, once as it is
@@ -113,11 +141,8 @@ fn left(
     }
     let mut stopped = disk.stopped(alloc, calls, kept, fill)?;
     let mut again = disk.stopped(alloc, calls, kept, fill)?;
-    let (payloads, _) = scan(alloc, &mut stopped, 3)?;
-    if payloads.len() == 1 && payloads[0].bytes.as_slice() != ADD.as_slice() {
-        return Ok((9, 9));
-    }
-    Ok((payloads.len(), count_with_one_more(alloc, &mut again)?))
+    let count = count_as_left(alloc, &mut stopped)?;
+    Ok((count, count_with_one_more(alloc, &mut again)?))
 }
 
 #[test]
@@ -128,58 +153,54 @@ fn a_stop_leaves_a_whole_record_or_none(rt: HostRuntime) -> Result<(), Fail> {
         for calls in 2..7 {
             // The gate is opened by the third call, and is there for good after the fourth.
             let there = calls == 6 || calls == 5 && (kept || fill == 1);
-            let count = if there { 1 } else { 0 };
-            assert_eq!(rt; left(alloc, &disk, calls, kept, fill)?, (count, count + 1));
+            let wanted = if there { (1, 2) } else { (0, 1) };
+            let found = left(alloc, &disk, calls, kept, fill)?;
+            same(&rt, &(kept, fill, calls), &found, &wanted);
         }
     }
     Ok(())
 }
 
+// Checks a disk on which this call fails as a record is added: nothing is told to be there, and a stop
+// that keeps what was written leaves so many records, and one more where one is added.
+fn fails_at(rt: &impl Abort, alloc: Global, call: u64, kept: (usize, usize)) -> Result<(), Fail> {
+    let (disk, end, added) = appended(alloc, &[&ADD], call)?;
+    same(rt, &call, &added, &Err(LogRefused::DiskFault));
+    same(rt, &call, &end, &end_at(0, 0));
+    same(rt, &call, &disk.faults(), &1);
+    same(rt, &call, &disk.calls(), &call);
+    same(rt, &call, &left(alloc, &disk, call, true, 0)?, &kept);
+    same(rt, &call, &left(alloc, &disk, call, false, 0)?, &(0, 1));
+    Ok(())
+}
+
 #[test]
 fn each_call_fails_in_turn(rt: HostRuntime) -> Result<(), Fail> {
-    let alloc = rt.alloc();
-    for call in 3..7 {
-        let (disk, end, added) = appended(alloc, &[&ADD], call)?;
-        assert_eq!(rt; added, Err(LogRefused::DiskFault));
-        assert_eq!(rt;
-            end,
-            LogEnd {
-                file: 3,
-                at: 0,
-                batches: 0
-            }
-        );
-        assert_eq!(rt; disk.faults(), 1);
-        assert_eq!(rt; disk.calls(), call);
-        // The gate may be open only where its write came through.
-        let count = if call == 6 { 1 } else { 0 };
-        assert_eq!(rt; left(alloc, &disk, call, true, 0)?, (count, count + 1));
-        assert_eq!(rt; left(alloc, &disk, call, false, 0)?, (0, 1));
+    // The gate may be open only where its write came through.
+    for (call, kept) in [(3, (0, 1)), (4, (0, 1)), (5, (0, 1)), (6, (1, 2))] {
+        fails_at(&rt, rt.alloc(), call, kept)?;
     }
     Ok(())
+}
+
+// Checks each payload that was read, by its offset and its bytes.
+fn are_read(rt: &impl Abort, payloads: &[Payload], wanted: &[(u64, &[u8])]) {
+    for (payload, (at, bytes)) in payloads.iter().zip(wanted.iter()) {
+        same(rt, at, &payload.at, at);
+        same(rt, at, &payload.bytes.as_slice(), bytes);
+    }
 }
 
 #[test]
 fn all_payloads_are_read(rt: HostRuntime) -> Result<(), Fail> {
     let alloc = rt.alloc();
     let (mut disk, end, added) = appended(alloc, &[&ADD, b"", b"more"], 0)?;
-    assert_eq!(rt; added, Ok(()));
+    same(&rt, &"added", &added, &Ok(()));
     let (payloads, found) = scan(alloc, &mut disk, 3)?;
-    assert_eq!(rt; found, end);
-    assert_eq!(rt;
-        found,
-        LogEnd {
-            file: 3,
-            at: 30,
-            batches: 3
-        }
-    );
-    assert_eq!(rt; payloads.len(), 3);
-    let want: [(u64, &[u8]); 3] = [(0, &ADD), (16, b""), (21, b"more")];
-    for (payload, (at, bytes)) in payloads.iter().zip(want.iter()) {
-        assert_eq!(rt; payload.at, *at);
-        assert_eq!(rt; payload.bytes.as_slice(), *bytes);
-    }
+    same(&rt, &"end", &found, &end);
+    same(&rt, &"end", &found, &end_at(30, 3));
+    same(&rt, &"payloads", &payloads.len(), &3);
+    are_read(&rt, &payloads, &[(0, &ADD), (16, b""), (21, b"more")]);
     Ok(())
 }
 
