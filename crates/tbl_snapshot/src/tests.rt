@@ -5,6 +5,7 @@ use aria_base::{Changes, Key, Keys, Memory, Part, Parts, Row, Value};
 use proc_lang::Access;
 use std::alloc::Global;
 use std::test::Fail;
+use std::thread;
 use tbl_rows::Tables;
 
 // What a run does at a key.
@@ -158,5 +159,36 @@ fn a_snapshot_gives_the_rows_of_its_tables(rt: HostRuntime) -> Result<(), Fail> 
     let snapshot = Snapshot::of(&tables);
     assert!(rt; found_in(alloc, snapshot.copy(), 0)? == None);
     assert!(rt; found_in(alloc, snapshot, 3)? == Some(30));
+    Ok(())
+}
+
+// What is found at 2 before it is written, and after.
+fn read_and_write(
+    alloc: Global,
+    snapshot: Snapshot,
+    to: i64,
+) -> Result<(Option<i64>, Option<i64>), Memory> {
+    let mut overlay = Overlay::over(alloc, snapshot);
+    let before = read(alloc, &mut overlay, 2)?;
+    write(alloc, &mut overlay, 2, Some(to))?;
+    let after = read(alloc, &mut overlay, 2)?;
+    Ok((before, after))
+}
+
+#[test]
+fn workers_share_a_snapshot(rt: HostRuntime) -> Result<(), Fail> {
+    let alloc = rt.alloc();
+    let tables = three(alloc)?;
+    let snapshot = Snapshot::of(&tables);
+    let written = [50, 51, 52, 53_i64];
+    let found = thread::map_indices(
+        &rt,
+        alloc,
+        4,
+        &|at| { read_and_write(alloc, snapshot.copy(), written[at]) },
+    )?;
+    for (found, to) in found.into_iter().zip(&written) {
+        assert_eq!(rt; found?, (Some(20), Some(*to)));
+    }
     Ok(())
 }
