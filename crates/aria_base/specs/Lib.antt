@@ -1,5 +1,6 @@
 pub mod Codes
 pub mod Faults
+pub mod Held
 pub mod Kinds
 pub mod MemoryStreams
 pub mod Orders

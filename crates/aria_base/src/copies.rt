@@ -37,6 +37,12 @@ impl Duplicate for u32 {
     }
 }
 
+impl Duplicate for u64 {
+    fn duplicate(&self, _alloc: Global) -> Result<Self, Memory> {
+        Ok(*self)
+    }
+}
+
 impl Duplicate for i64 {
     fn duplicate(&self, _alloc: Global) -> Result<Self, Memory> {
         Ok(*self)

@@ -1,11 +1,14 @@
 // The two kinds of list that every list type of the workspace is made of.
 ghost use Rattle.std.specs.Prelude.{◌≡◌, ◌≤◌, List, length, IfOk};
+ghost use Rattle.std.specs.Hash as fed;
+ghost use Rattle.std.specs.Hash.{items_Alike};
 ghost use Rattle.std.specs.Cmp.Lexicographic.{pointwise, slice_cmp, slice_partial_cmp, lists_equiv, lists_agrees, lists_total, lists_ties, lists_per, lists_po};
 
 use crate::copies::Duplicate;
 use crate::memory::Memory;
 use std::alloc::Global;
 use std::cmp::Ordering;
+use std::hash::{Hash, Hasher};
 use std::marker::Model;
 
 /// A list of bytes.
@@ -89,6 +92,16 @@ impl<T: Ord> Ord for Items<T> {
 
     fn cmp(&self, other: &Items<T>) -> Ordering {
         self.items.cmp(&other.items)
+    }
+}
+
+impl<T: Hash> Hash for Items<T> {
+    ghost hash_input = { fed.slice T.hash_input };
+
+    ghost respects_eq = { (items_Alike (record { fed = T.respects_eq })).fed };
+
+    fn hash<H: Hasher>(&self, state: &mut H) {
+        self.items.as_slice().hash(state);
     }
 }
 
@@ -178,6 +191,16 @@ impl<T: Ord, const LOW: usize, const HIGH: usize> Ord for Few<T, LOW, HIGH> {
 
     fn cmp(&self, other: &Few<T, LOW, HIGH>) -> Ordering {
         self.items.cmp(&other.items)
+    }
+}
+
+impl<T: Hash, const LOW: usize, const HIGH: usize> Hash for Few<T, LOW, HIGH> {
+    ghost hash_input = { fed.slice T.hash_input };
+
+    ghost respects_eq = { (items_Alike (record { fed = T.respects_eq })).fed };
+
+    fn hash<H: Hasher>(&self, state: &mut H) {
+        self.items.as_slice().hash(state);
     }
 }
 

@@ -1,5 +1,11 @@
-ghost use Rattle.std.specs.Prelude.{◌≡◌, ℕ, List, IfOk, IfErr, position, not, true, IsNone, All, Some};
+ghost use Rattle.std.specs.Prelude.{◌≡◌, ℕ, List, IfOk, IfErr, position, not, true, IsNone, All, Some, nat_eq};
 ghost use Rattle.std.specs.Option.{option_copied};
+ghost use Rattle.std.proofs.Common.{rules, refl};
+ghost use Rattle.std.specs.Cmp.{partial_equiv_from_equiv};
+ghost use Rattle.std.specs.Cmp.Rules.{hashing};
+ghost use Rattle.std.specs.Cmp.Lexicographic.{pointwise, slice_cmp, nat_list_eq_equiv, nat_list_cmp_total, texts_po, texts_ties};
+ghost use Rattle.std.specs.Ordering.{nat_cmp};
+ghost use Rattle.std.specs.Hash as fed;
 ghost use Rattle.aria_base.specs.Texts.{may_hold, IsText, begins_word, is_in_word, is_word};
 ghost use Rattle.aria_base.specs.Refusals.{IsNoText, refusal_text};
 ghost use Rattle.aria_base.specs.declared.texts.TxtRefused.TheVariants.{Memory};
@@ -7,9 +13,11 @@ ghost use Rattle.aria_base.specs.declared.texts.TxtRefused.TheVariants.{Memory};
 use crate::copies::Duplicate;
 use crate::lists::Bytes;
 use crate::memory::Memory;
-use std::alloc::{AllocError, Global};
+use std::alloc::{AllocError, AllocFailed, Global};
+use std::cmp::Ordering;
 use std::error::Error;
 use std::fmt;
+use std::hash::{Hash, Hasher};
 use std::marker::Model;
 
 /// The most bytes that a text has.
@@ -45,19 +53,17 @@ impl Error for TxtRefused {}
 
 /// A short text: at most 500 bytes of printable ASCII, from 32 to 126, without `"` and `\`. A
 /// contract sees the list of its bytes.
-#[derive(Debug, Drop, PartialEq, Eq, PartialOrd, Ord)]
+#[derive(Debug, Drop)]
 pub struct Txt {
-    bytes: Bytes,
+    bytes: Box<Bytes>,
 }
 
 impl Model for Txt {
     ghost Value = { List ℕ };
 
-    ghost view = { λ a. a.bytes };
+    ghost view = { λ a. a.bytes.value };
 
-    ghost invariant = { λ a. IsText a.bytes };
-
-    ghost inverse = { λ bytes. record { bytes = bytes } };
+    ghost invariant = { λ a. IsText a.bytes.value };
 }
 
 impl Txt {
@@ -76,7 +82,7 @@ impl Txt {
         let mut copy = Vec::with_capacity(alloc, bytes.len())?;
         copy.extend_from_slice(bytes)?;
         Ok(Txt {
-            bytes: Bytes::from_vec(copy),
+            bytes: Box::new(alloc, Bytes::from_vec(copy))?,
         })
     }
 
@@ -89,11 +95,67 @@ impl Txt {
     }
 }
 
+impl PartialEq for Txt {
+    ghost eq = { pointwise nat_eq };
+
+    ghost laws = { partial_equiv_from_equiv nat_list_eq_equiv };
+
+    fn eq(&self, other: &Txt) -> bool {
+        self.as_slice() == other.as_slice()
+    }
+}
+
+impl Eq for Txt {
+    ghost laws = { nat_list_eq_equiv };
+}
+
+impl PartialOrd for Txt {
+    ghost partial_cmp = { λ x y. Some (slice_cmp nat_cmp x y) };
+
+    ghost laws = { texts_po };
+
+    fn partial_cmp(&self, other: &Txt) -> Option<Ordering> {
+        Some(self.cmp(other))
+    }
+}
+
+impl Ord for Txt {
+    ghost cmp = { slice_cmp nat_cmp };
+
+    ghost total = { nat_list_cmp_total };
+
+    ghost matches_partial_cmp = { λ x y. refl };
+
+    ghost matches_eq = { texts_ties };
+
+    fn cmp(&self, other: &Txt) -> Ordering {
+        self.as_slice().cmp(other.as_slice())
+    }
+}
+
+impl Hash for Txt {
+    ghost hash_input = { fed.slice fed.u8 };
+
+    ghost respects_eq = { Prim.search (hashing, rules) };
+
+    fn hash<H: Hasher>(&self, state: &mut H) {
+        self.as_slice().hash(state);
+    }
+}
+
 impl Duplicate for Txt {
     fn duplicate(&self, alloc: Global) -> Result<Self, Memory> {
         Ok(Txt {
-            bytes: self.bytes.duplicate(alloc)?,
+            bytes: Box::new(alloc, self.bytes.duplicate(alloc)?)?,
         })
+    }
+}
+
+impl<T: Drop> From<AllocFailed<T>> for TxtRefused {
+    ghost from_gives = { λ _ refused. refused ≡ Memory };
+
+    fn from(_: AllocFailed<T>) -> TxtRefused {
+        TxtRefused::Memory
     }
 }
 

@@ -45,7 +45,7 @@ module _ {K V : Type 0} {R : K → K → Ordering} (o : IsTotalOrder R) where
     ]
   ] refl
 
-  set_agree : (m n : FinMap R V) (k : K) (row : Option V) (q : K) → (eq_by_cmp R q k ≡ false → fin.get m q ≡ fin.get n q) → fin.get (set_at m k row) q ≡ fin.get (set_at n k row) q
+  pub set_agree : (m n : FinMap R V) (k : K) (row : Option V) (q : K) → (eq_by_cmp R q k ≡ false → fin.get m q ≡ fin.get n q) → fin.get (set_at m k row) q ≡ fin.get (set_at n k row) q
   set_agree m n k row q same = get-set_at o m k row q ∙ elim (eq_by_cmp R q k) as (λ b. (b ≡ false → fin.get m q ≡ fin.get n q) → cond b row (fin.get m q) ≡ cond b row (fin.get n q)) [ true ↦ λ f. refl | false ↦ λ f. f refl ] same ∙ sym (get-set_at o n k row q)
 
 module _ {K V A : Type 0} {R : K → K → Ordering} (o : IsTotalOrder R) (anti : IsAntisymmetric R) where

@@ -34,7 +34,7 @@ module _ {K V : Type 0} {R : K → K → Ordering} (o : IsTotalOrder R) (anti : 
     | Some here ↦ λ h. ap (λ f. unwrap_or f here) (not_found R b q (apart_at o anti (keys_of a) (keys_of b) q e (found_among R a q here h)))
   ] refl
 
-  overwritten_swap : (db : FinMap R V) (a b : List (K × Option V)) → meets R (keys_of a) (keys_of b) ≡ false → overwritten (overwritten db a) b ≡ overwritten (overwritten db b) a
+  pub overwritten_swap : (db : FinMap R V) (a b : List (K × Option V)) → meets R (keys_of a) (keys_of b) ≡ false → overwritten (overwritten db a) b ≡ overwritten (overwritten db b) a
   overwritten_swap db a b e = same_map o anti _ _ (λ q. get-overwritten o (overwritten db a) b q ∙ ap (unwrap_or (find R q b)) (get-overwritten o db a q) ∙ swap_rows a b q (fin.get db q) e
       ∙ sym (get-overwritten o (overwritten db b) a q ∙ ap (unwrap_or (find R q a)) (get-overwritten o db b q)))
 

@@ -11,7 +11,7 @@ use Rattle.batch_rules.specs.Laws.{Meeting}
 use Rattle.batch_rules.proofs.Maps.{same_key}
 
 module _ {K : Type 0} {R : K → K → Ordering} (o : IsTotalOrder R) (anti : IsAntisymmetric R) where
-  meets-common : (xs ys : List K) → meets R xs ys ≡ true → (k : K) × (is_among R xs k ≡ true) × (is_among R ys k ≡ true)
+  pub meets-common : (xs ys : List K) → meets R xs ys ≡ true → (k : K) × (is_among R xs k ≡ true) × (is_among R ys k ≡ true)
   meets-common [] ys e = cc
   meets-common (x ∷ xs) ys e = elim (is_among R ys x) as (λ b. is_among R ys x ≡ b → (b || meets R xs ys) ≡ true → (k : K) × (is_among R (x ∷ xs) k ≡ true) × (is_among R ys k ≡ true)) [
     | true ↦ λ t e. (x, or_left _ _ (ap is_eq (tied_itself o x)), t)

@@ -5,3 +5,4 @@ pub mod Serials
 pub mod Touches
 pub mod Trees
 pub mod Verdicts
+pub mod Waves

@@ -11,6 +11,7 @@ ghost use Rattle.batch_rules.specs.Touches.{Declared};
 ghost use Rattle.batch_rules.specs.Verdicts.{least};
 ghost use Rattle.batch_rules.specs.Batches.{judged, batch};
 ghost use Rattle.batch_rules.specs.Laws.{Agreement, Frame, Outside, OneWriter, AfterCommit, SerialLaw, EachOnce, Progress, Meeting, IsLeast, VerdictLaw, WaitsForEarlier};
+ghost use Rattle.batch_rules.specs.Waves.{IsInWaves};
 ghost use Rattle.batch_rules.specs.declared.verdicts.Rule.{Rule};
 
 /// Where two databases agree on the read set of a run on the first, the run on the second has the same accesses, the same end and
@@ -73,4 +74,9 @@ pub fn verdict_law<K, S>()
 /// A request waits for earlier ones alone.
 pub fn waits_for_earlier<K, V, Q, A>()
     ensures { (R : K → K → Ordering) (is_done : A → Bool) (tree : Q → Tree K V A) (rule : Rule) (start : FinMap R V) (list : List Q) → WaitsForEarlier (judged is_done tree rule start [] list) }
+{}
+
+/// The late fold may run in waves: requests that do not conflict all run on one database, and then their rows are installed.
+pub fn late_waves<K, V, W, A>()
+    ensures { (R : K → K → Ordering) → IsTotalOrder R → IsAntisymmetric R → (is_done : A → Bool) (declared_of : W → Declared K) (tree : W → Tree K V A) (db : FinMap R V) (list : List W) → IsInWaves is_done declared_of tree db list }
 {}

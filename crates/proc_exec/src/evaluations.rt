@@ -5,7 +5,7 @@ ghost use Rattle.std.specs.Fmt.{signed_decimal};
 ghost use Rattle.aria_base.specs.declared.values.Value.TheVariants as value;
 ghost use Rattle.proc_lang.specs.Terms as term;
 ghost use Rattle.proc_lang.specs.TermOf.{term_of};
-ghost use Rattle.proc_lang.specs.Values.{both, got, int_of, is_true, same_value, truth};
+ghost use Rattle.proc_lang.specs.Values.{number, both, got, int_of, is_true, same_value, truth};
 ghost use Rattle.proc_lang.specs.Meaning.{value_of, values_of};
 ghost use Rattle.proc_exec.specs.Faults.{Computes};
 
@@ -83,9 +83,71 @@ fn text_at<'a>(request: &'a Request, registers: &'a Vec<Value>, expr: &'a Expr) 
     }
 }
 
+/// The number of a literal, a register, an argument or a tuple's place, where it stands. None of what
+/// is a text there, nor of any other expression.
+fn number_at(scope: &Scope, registers: &Vec<Value>, expr: &Expr) -> Option<i64>
+    ensures { IfSome result (λ n. value_of scope.now.request.now scope.now.item.now registers.now.items (term_of expr.now) ≡ Ok (value.Int n)) }
+{
+    match expr {
+        Expr::Num(number) => Some(*number),
+        Expr::Reg(at) => match registers.get(*at as usize) {
+            Some(Value::Int(number)) => Some(*number),
+            _ => None,
+        },
+        Expr::Arg(at) => match scope.request.call.args.as_slice().get(*at as usize) {
+            Some(Arg::Int(number)) => Some(*number),
+            _ => None,
+        },
+        Expr::Item(at) => Some(scope.number(*at)),
+        _ => None,
+    }
+}
+
+/// The number, where it is within the 64-bit numbers.
+fn fitting(exact: i128) -> Option<i64>
+    ensures { IfSome result (λ n. number exact ≡ Ok (value.Int n)) }
+{
+    match i64::try_from(exact) {
+        Ok(small) => Some(small),
+        Err(_) => None,
+    }
+}
+
+/// The number of an expression whose operands are numbers where they stand, if it is quickly found.
+fn quick(scope: &Scope, registers: &Vec<Value>, expr: &Expr) -> Option<i64>
+    ensures { IfSome result (λ n. value_of scope.now.request.now scope.now.item.now registers.now.items (term_of expr.now) ≡ Ok (value.Int n)) }
+{
+    match expr {
+        Expr::Add(a, b) => {
+            let x = number_at(scope, registers, a)?;
+            let y = number_at(scope, registers, b)?;
+            fitting(i128::from(x) + i128::from(y))
+        }
+        Expr::Sub(a, b) => {
+            let x = number_at(scope, registers, a)?;
+            let y = number_at(scope, registers, b)?;
+            fitting(i128::from(x) - i128::from(y))
+        }
+        _ => number_at(scope, registers, expr),
+    }
+}
+
 /// The value of the expression, for this request, this tuple of an `Each` and these registers.
 #[cycle(evaluating)]
 pub fn eval(scope: &Scope, registers: &Vec<Value>, expr: &Expr) -> Result<Value, Fault>
+    ensures { Computes result (value_of scope.now.request.now scope.now.item.now registers.now.items (term_of expr.now)) }
+{
+    match quick(scope, registers, expr) {
+        Some(number) => Ok(Value::Int(number)),
+        None => eval_other(scope, registers, expr),
+    }
+}
+
+/// The same of an expression that is not quickly found. It is a function of its own, since it pays
+/// at entry for its many locals.
+#[cycle(evaluating)]
+#[inline(never)]
+fn eval_other(scope: &Scope, registers: &Vec<Value>, expr: &Expr) -> Result<Value, Fault>
     ensures { Computes result (value_of scope.now.request.now scope.now.item.now registers.now.items (term_of expr.now)) }
 {
     match expr {
@@ -109,13 +171,43 @@ pub fn eval(scope: &Scope, registers: &Vec<Value>, expr: &Expr) -> Result<Value,
         Expr::And(a, b) => Ok(all_hold(&eval_both(scope, registers, a, b)?)),
         Expr::Or(a, b) => Ok(one_holds(&eval_both(scope, registers, a, b)?)),
         Expr::Not(a) => Ok(truth_value(!holds(&eval(scope, registers, a)?))),
-        Expr::Cat(a, b) => join(scope.alloc, eval_both(scope, registers, a, b)?),
-        Expr::Front(a, b, most) => {
-            let texts = eval_both(scope, registers, a, b)?;
-            front_of(scope.alloc, texts, *most)
-        }
-        Expr::Show(a) => Ok(shown(scope.alloc, int(&eval(scope, registers, a)?))?),
+        Expr::Cat(a, b) => eval_cat(scope, registers, a, b),
+        Expr::Front(a, b, most) => eval_front(scope, registers, a, b, *most),
+        Expr::Show(a) => eval_show(scope, registers, a),
     }
+}
+
+/// Two texts joined.
+#[cycle(evaluating)]
+#[inline(never)]
+fn eval_cat(scope: &Scope, registers: &Vec<Value>, first: &Expr, second: &Expr) -> Result<Value, Fault>
+    ensures { Computes result (value_of scope.now.request.now scope.now.item.now registers.now.items (term.Cat (term_of first.now) (term_of second.now))) }
+{
+    join(scope.alloc, eval_both(scope, registers, first, second)?)
+}
+
+/// The first bytes of two texts joined.
+#[cycle(evaluating)]
+#[inline(never)]
+fn eval_front(
+    scope: &Scope,
+    registers: &Vec<Value>,
+    first: &Expr,
+    second: &Expr,
+    most: u32,
+) -> Result<Value, Fault>
+    ensures { Computes result (value_of scope.now.request.now scope.now.item.now registers.now.items (term.Front (term_of first.now) (term_of second.now) most)) }
+{
+    front_of(scope.alloc, eval_both(scope, registers, first, second)?, most)
+}
+
+/// The printed form of a number.
+#[cycle(evaluating)]
+#[inline(never)]
+fn eval_show(scope: &Scope, registers: &Vec<Value>, number: &Expr) -> Result<Value, Fault>
+    ensures { Computes result (value_of scope.now.request.now scope.now.item.now registers.now.items (term.Show (term_of number.now))) }
+{
+    Ok(shown(scope.alloc, int(&eval(scope, registers, number)?))?)
 }
 
 /// The values of two expressions, the first one first.
@@ -128,12 +220,19 @@ fn eval_both(
 ) -> Result<(Value, Value), Fault>
     ensures { Computes result (both (value_of scope.now.request.now scope.now.item.now registers.now.items (term_of first.now)) (value_of scope.now.request.now scope.now.item.now registers.now.items (term_of second.now))) }
 {
-    let value = eval(scope, registers, first)?;
-    Ok((value, eval(scope, registers, second)?))
+    let value = match number_at(scope, registers, first) {
+        Some(number) => Value::Int(number),
+        None => eval(scope, registers, first)?,
+    };
+    match number_at(scope, registers, second) {
+        Some(number) => Ok((value, Value::Int(number))),
+        None => Ok((value, eval(scope, registers, second)?)),
+    }
 }
 
 /// The product of two expressions divided by a third.
 #[cycle(evaluating)]
+#[inline(never)]
 fn eval_muldiv(
     scope: &Scope,
     registers: &Vec<Value>,
@@ -158,6 +257,13 @@ fn are_equal(
 ) -> Result<bool, Fault>
     ensures { Computes result (got (both (value_of scope.now.request.now scope.now.item.now registers.now.items (term_of first.now)) (value_of scope.now.request.now scope.now.item.now registers.now.items (term_of second.now))) (λ p. Ok (same_value p.0 p.1))) }
 {
+    match (
+        number_at(scope, registers, first),
+        number_at(scope, registers, second),
+    ) {
+        (Some(x), Some(y)) => return Ok(x == y),
+        _ => {}
+    }
     match (
         text_at(scope.request, registers, first),
         text_at(scope.request, registers, second),

@@ -69,8 +69,37 @@ impl Running {
     }
 
     /// The parts of a key with the values of these expressions.
-    #[tactic(auto, using(crate::proofs::KeyParts::one_more))]
     fn parts(&self, scope: &Scope, exprs: &Exprs) -> Result<Parts, Fault>
+        ensures { Computes result (got (values_of scope.now.request.now scope.now.item.now self.now.regs exprs.now) (λ vs. Ok (parts_of vs))) }
+    {
+        match exprs.as_slice() {
+            [a] => Ok(Parts::one(self.part(scope, a)?)),
+            [a, b] => Ok(Parts::two(self.part(scope, a)?, self.part(scope, b)?)),
+            [a, b, c] => Ok(Parts::three(
+                self.part(scope, a)?,
+                self.part(scope, b)?,
+                self.part(scope, c)?,
+            )),
+            [a, b, c, d] => Ok(Parts::four(
+                self.part(scope, a)?,
+                self.part(scope, b)?,
+                self.part(scope, c)?,
+                self.part(scope, d)?,
+            )),
+            [a, b, c, d, e] => Ok(Parts::five(
+                self.part(scope, a)?,
+                self.part(scope, b)?,
+                self.part(scope, c)?,
+                self.part(scope, d)?,
+                self.part(scope, e)?,
+            )),
+            _ => self.many_parts(scope, exprs),
+        }
+    }
+
+    /// The same, of any number of expressions.
+    #[tactic(auto, using(crate::proofs::KeyParts::one_more))]
+    fn many_parts(&self, scope: &Scope, exprs: &Exprs) -> Result<Parts, Fault>
         ensures { Computes result (got (values_of scope.now.request.now scope.now.item.now self.now.regs exprs.now) (λ vs. Ok (parts_of vs))) }
     {
         let mut parts = Vec::with_capacity(scope.alloc, exprs.as_slice().len())?;
@@ -78,6 +107,13 @@ impl Running {
             parts.push(part(eval(scope, &self.registers, expr)?))?;
         }
         Ok(key_parts(scope.alloc, parts)?)
+    }
+
+    /// The value of an expression as a part of a key.
+    fn part(&self, scope: &Scope, expr: &Expr) -> Result<Part, Fault>
+        ensures { Computes result (got (value_of scope.now.request.now scope.now.item.now self.now.regs (term_of expr.now)) (λ v. Ok (part_of v))) }
+    {
+        Ok(part(self.value(scope, expr)?))
     }
 
     /// The row with the values of these expressions.

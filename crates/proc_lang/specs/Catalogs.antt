@@ -14,7 +14,7 @@ use Rattle.proc_lang.specs.declared.procs.ArgKind.{ArgKind}
 use Rattle.proc_lang.specs.declared.procs.ArgKind.TheVariants as kind
 use Rattle.proc_lang.specs.declared.procs.Proc.{Proc}
 use Rattle.proc_lang.specs.declared.catalogs.TheConstants.{MOST_TABLES, MOST_PROCS, MOST_KEY_PARTS, MOST_COLUMNS, MOST_ARGS, MOST_REGS, MOST_STATEMENTS, DEEPEST_EXPR, GREATEST_CODE, MOST_FRONT}
-use Rattle.proc_lang.specs.Terms.{Term, Num, Text, Reg, Arg as ArgTerm, Item, Len, Me, Add, Sub, Mul, Div, Mod, MulDiv, Eq, Ne, Lt, Le, And, Or, Not, Cat, Front, Show}
+use Rattle.proc_lang.specs.Terms.{Term, Num, Text, Me, Named, By, Of, MulDiv, Front}
 use Rattle.proc_lang.specs.Steps.{Step, Steps, NoMore, More}
 use Rattle.proc_lang.specs.Steps as step
 use Rattle.proc_lang.specs.Meaning.{Run, script}
@@ -34,53 +34,23 @@ is_between low high n = nat_le low n && nat_le n high
 abbrev pub depth : Term → ℕ
 depth (Num z) = 1
 depth (Text bytes) = 1
-depth (Reg n) = 1
-depth (ArgTerm n) = 1
-depth (Item n) = 1
-depth (Len n) = 1
 depth Me = 1
-depth (Add a b) = 1 + max (depth a) (depth b)
-depth (Sub a b) = 1 + max (depth a) (depth b)
-depth (Mul a b) = 1 + max (depth a) (depth b)
-depth (Div a b) = 1 + max (depth a) (depth b)
-depth (Mod a b) = 1 + max (depth a) (depth b)
+depth (Named p n) = 1
+depth (By o a) = 1 + depth a
+depth (Of o a b) = 1 + max (depth a) (depth b)
 depth (MulDiv a b c) = 1 + max (max (depth a) (depth b)) (depth c)
-depth (Eq a b) = 1 + max (depth a) (depth b)
-depth (Ne a b) = 1 + max (depth a) (depth b)
-depth (Lt a b) = 1 + max (depth a) (depth b)
-depth (Le a b) = 1 + max (depth a) (depth b)
-depth (And a b) = 1 + max (depth a) (depth b)
-depth (Or a b) = 1 + max (depth a) (depth b)
-depth (Not a) = 1 + depth a
-depth (Cat a b) = 1 + max (depth a) (depth b)
 depth (Front a b most) = 1 + max (depth a) (depth b)
-depth (Show a) = 1 + depth a
 
 -- no `front` within it takes more bytes than a text has
 abbrev pub fronts_fit : Term → Bool
 fronts_fit (Num z) = true
 fronts_fit (Text bytes) = true
-fronts_fit (Reg n) = true
-fronts_fit (ArgTerm n) = true
-fronts_fit (Item n) = true
-fronts_fit (Len n) = true
 fronts_fit Me = true
-fronts_fit (Add a b) = fronts_fit a && fronts_fit b
-fronts_fit (Sub a b) = fronts_fit a && fronts_fit b
-fronts_fit (Mul a b) = fronts_fit a && fronts_fit b
-fronts_fit (Div a b) = fronts_fit a && fronts_fit b
-fronts_fit (Mod a b) = fronts_fit a && fronts_fit b
+fronts_fit (Named p n) = true
+fronts_fit (By o a) = fronts_fit a
+fronts_fit (Of o a b) = fronts_fit a && fronts_fit b
 fronts_fit (MulDiv a b c) = fronts_fit a && fronts_fit b && fronts_fit c
-fronts_fit (Eq a b) = fronts_fit a && fronts_fit b
-fronts_fit (Ne a b) = fronts_fit a && fronts_fit b
-fronts_fit (Lt a b) = fronts_fit a && fronts_fit b
-fronts_fit (Le a b) = fronts_fit a && fronts_fit b
-fronts_fit (And a b) = fronts_fit a && fronts_fit b
-fronts_fit (Or a b) = fronts_fit a && fronts_fit b
-fronts_fit (Not a) = fronts_fit a
-fronts_fit (Cat a b) = fronts_fit a && fronts_fit b
 fronts_fit (Front a b most) = nat_le most MOST_FRONT && fronts_fit a && fronts_fit b
-fronts_fit (Show a) = fronts_fit a
 
 abbrev pub term_fits : Term → Bool
 term_fits t = nat_le (depth t) DEEPEST_EXPR && fronts_fit t

@@ -24,32 +24,43 @@ use Rattle.proc_lang.specs.Steps.{Step, Steps, NoMore, More}
 use Rattle.proc_lang.specs.Steps as step
 use Rattle.proc_lang.specs.Values.{Got, got, both, int_of, text_of, is_true, truth, blank, same_value, number, divided, remainder, joined, front, me_of, value_of_arg, tuples_of}
 
+-- ---- operators
+
+abbrev pub by_unary : term.Unary → Value → Value
+by_unary term.Not v = truth (not (is_true v))
+by_unary term.Show v = value.Text (signed_decimal (int_of v))
+
+abbrev pub by_binary : term.Binary → Value × Value → Got Value
+by_binary term.Add p = number (int_of p.0 +ℤ int_of p.1)
+by_binary term.Sub p = number (int_of p.0 -ℤ int_of p.1)
+by_binary term.Mul p = number (int_of p.0 *ℤ int_of p.1)
+by_binary term.Div p = divided (int_of p.0) (int_of p.1)
+by_binary term.Mod p = remainder (int_of p.0) (int_of p.1)
+by_binary term.Eq p = Ok (truth (same_value p.0 p.1))
+by_binary term.Ne p = Ok (truth (not (same_value p.0 p.1)))
+by_binary term.Lt p = Ok (truth (int_lt (int_of p.0) (int_of p.1)))
+by_binary term.Le p = Ok (truth (int_le (int_of p.0) (int_of p.1)))
+by_binary term.And p = Ok (truth (is_true p.0 && is_true p.1))
+by_binary term.Or p = Ok (truth (is_true p.0 || is_true p.1))
+by_binary term.Cat p = joined (text_of p.0) (text_of p.1)
+
 -- ---- expressions: the request, the current tuple of an `each`, the registers
+
+abbrev pub named_value : Request → List ℤ → List Value → term.Plain → ℕ → Value
+named_value r item regs term.Reg n = slice_index_or regs n (value.Int (pos 0))
+named_value r item regs term.Arg n = value_of_arg (slice_get r.call.args n)
+named_value r item regs term.Item n = value.Int (slice_index_or item n (pos 0))
+named_value r item regs term.Len n = value.Int (pos (length (tuples_of (slice_get r.call.args n))))
 
 abbrev pub value_of : Request → List ℤ → List Value → Term → Got Value
 value_of r item regs (term.Num z) = Ok (value.Int z)
 value_of r item regs (term.Text bytes) = Ok (value.Text bytes)
-value_of r item regs (term.Reg n) = Ok (slice_index_or regs n (value.Int (pos 0)))
-value_of r item regs (term.Arg n) = Ok (value_of_arg (slice_get r.call.args n))
-value_of r item regs (term.Item n) = Ok (value.Int (slice_index_or item n (pos 0)))
-value_of r item regs (term.Len n) = Ok (value.Int (pos (length (tuples_of (slice_get r.call.args n)))))
 value_of r item regs term.Me = Ok (me_of r.q)
-value_of r item regs (term.Add a b) = got (both (value_of r item regs a) (value_of r item regs b)) (λ p. number (int_of p.0 +ℤ int_of p.1))
-value_of r item regs (term.Sub a b) = got (both (value_of r item regs a) (value_of r item regs b)) (λ p. number (int_of p.0 -ℤ int_of p.1))
-value_of r item regs (term.Mul a b) = got (both (value_of r item regs a) (value_of r item regs b)) (λ p. number (int_of p.0 *ℤ int_of p.1))
-value_of r item regs (term.Div a b) = got (both (value_of r item regs a) (value_of r item regs b)) (λ p. divided (int_of p.0) (int_of p.1))
-value_of r item regs (term.Mod a b) = got (both (value_of r item regs a) (value_of r item regs b)) (λ p. remainder (int_of p.0) (int_of p.1))
+value_of r item regs (term.Named p n) = Ok (named_value r item regs p n)
+value_of r item regs (term.By o a) = got (value_of r item regs a) (λ v. Ok (by_unary o v))
+value_of r item regs (term.Of o a b) = got (both (value_of r item regs a) (value_of r item regs b)) (by_binary o)
 value_of r item regs (term.MulDiv a b c) = got (both (both (value_of r item regs a) (value_of r item regs b)) (value_of r item regs c)) (λ p. divided (int_of p.0.0 *ℤ int_of p.0.1) (int_of p.1))
-value_of r item regs (term.Eq a b) = got (both (value_of r item regs a) (value_of r item regs b)) (λ p. Ok (truth (same_value p.0 p.1)))
-value_of r item regs (term.Ne a b) = got (both (value_of r item regs a) (value_of r item regs b)) (λ p. Ok (truth (not (same_value p.0 p.1))))
-value_of r item regs (term.Lt a b) = got (both (value_of r item regs a) (value_of r item regs b)) (λ p. Ok (truth (int_lt (int_of p.0) (int_of p.1))))
-value_of r item regs (term.Le a b) = got (both (value_of r item regs a) (value_of r item regs b)) (λ p. Ok (truth (int_le (int_of p.0) (int_of p.1))))
-value_of r item regs (term.And a b) = got (both (value_of r item regs a) (value_of r item regs b)) (λ p. Ok (truth (is_true p.0 && is_true p.1)))
-value_of r item regs (term.Or a b) = got (both (value_of r item regs a) (value_of r item regs b)) (λ p. Ok (truth (is_true p.0 || is_true p.1)))
-value_of r item regs (term.Not a) = got (value_of r item regs a) (λ v. Ok (truth (not (is_true v))))
-value_of r item regs (term.Cat a b) = got (both (value_of r item regs a) (value_of r item regs b)) (λ p. joined (text_of p.0) (text_of p.1))
 value_of r item regs (term.Front a b n) = got (both (value_of r item regs a) (value_of r item regs b)) (λ p. Ok (front (text_of p.0) (text_of p.1) n))
-value_of r item regs (term.Show a) = got (value_of r item regs a) (λ v. Ok (value.Text (signed_decimal (int_of v))))
 
 -- the values of a list, from the left, behind those that are done
 abbrev pub values_after : Request → List ℤ → List Value → List Value → List Term → Got (List Value)

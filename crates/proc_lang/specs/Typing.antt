@@ -88,32 +88,33 @@ by_three operands = got operands (λ p. got (wanted KIND (same_kind p.0.0 Int &&
 abbrev pub by_equals : Typed (Kind × Kind) → Typed Kind
 by_equals operands = got operands (λ p. got (wanted KIND (same_kind p.0 p.1)) (λ _. Ok Int))
 
+abbrev pub named_kind : Scope → Set → term.Plain → ℕ → Typed Kind
+named_kind s set term.Reg n = register_kind s set n
+named_kind s set term.Arg n = argument_kind s n
+named_kind s set term.Item n = item_kind s n
+named_kind s set term.Len n = got (argument_width s n) (λ _. Ok Int)
+
+abbrev pub unary_kind : term.Unary → Typed Kind → Typed Kind
+unary_kind term.Not operand = by_one Int Int operand
+unary_kind term.Show operand = by_one Int Text operand
+
+abbrev pub binary_kind : term.Binary → Typed (Kind × Kind) → Typed Kind
+binary_kind term.Eq operands = by_equals operands
+binary_kind term.Ne operands = by_equals operands
+binary_kind term.Cat operands = by_two Text Text operands
+binary_kind other operands = by_two Int Int operands
+
 -- the kind of an expression's value. A node's own argument, item or register is looked at first, then its operands from the left,
 -- then their kinds
 abbrev pub kind_of : Scope → Set → Term → Typed Kind
 kind_of s set (term.Num z) = Ok Int
 kind_of s set (term.Text bytes) = Ok Text
-kind_of s set (term.Reg n) = register_kind s set n
-kind_of s set (term.Arg n) = argument_kind s n
-kind_of s set (term.Item n) = item_kind s n
-kind_of s set (term.Len n) = got (argument_width s n) (λ _. Ok Int)
 kind_of s set term.Me = Ok Int
-kind_of s set (term.Add a b) = by_two Int Int (both (kind_of s set a) (kind_of s set b))
-kind_of s set (term.Sub a b) = by_two Int Int (both (kind_of s set a) (kind_of s set b))
-kind_of s set (term.Mul a b) = by_two Int Int (both (kind_of s set a) (kind_of s set b))
-kind_of s set (term.Div a b) = by_two Int Int (both (kind_of s set a) (kind_of s set b))
-kind_of s set (term.Mod a b) = by_two Int Int (both (kind_of s set a) (kind_of s set b))
+kind_of s set (term.Named p n) = named_kind s set p n
+kind_of s set (term.By o a) = unary_kind o (kind_of s set a)
+kind_of s set (term.Of o a b) = binary_kind o (both (kind_of s set a) (kind_of s set b))
 kind_of s set (term.MulDiv a b c) = by_three (both (both (kind_of s set a) (kind_of s set b)) (kind_of s set c))
-kind_of s set (term.Eq a b) = by_equals (both (kind_of s set a) (kind_of s set b))
-kind_of s set (term.Ne a b) = by_equals (both (kind_of s set a) (kind_of s set b))
-kind_of s set (term.Lt a b) = by_two Int Int (both (kind_of s set a) (kind_of s set b))
-kind_of s set (term.Le a b) = by_two Int Int (both (kind_of s set a) (kind_of s set b))
-kind_of s set (term.And a b) = by_two Int Int (both (kind_of s set a) (kind_of s set b))
-kind_of s set (term.Or a b) = by_two Int Int (both (kind_of s set a) (kind_of s set b))
-kind_of s set (term.Not a) = by_one Int Int (kind_of s set a)
-kind_of s set (term.Cat a b) = by_two Text Text (both (kind_of s set a) (kind_of s set b))
 kind_of s set (term.Front a b most) = by_two Text Text (both (kind_of s set a) (kind_of s set b))
-kind_of s set (term.Show a) = by_one Int Text (kind_of s set a)
 
 -- the kinds of a list, from the left, behind those that are done
 abbrev pub kinds_after : Scope → Set → List Kind → List Term → Typed (List Kind)

@@ -1,4 +1,5 @@
 pub mod Entries
 pub mod Listing
 pub mod Owned
+pub mod Pooled
 pub mod Together

@@ -27,14 +27,14 @@ use Rattle.tbl_rows.proofs.Entries.{entries-is}
 use Rattle.tbl_rows.proofs.Owned.{same_key}
 use Rattle.tbl_rows.proofs.Together.{listed, find-append, AllNumberedFrom, later, own_later, past}
 
-abbrev Entries : Type 0
+abbrev pub Entries : Type 0
 Entries = List (Key × Cells)
 
 -- no two entries have one key
-abbrev Distinct : Entries → Type 0
+abbrev pub Distinct : Entries → Type 0
 Distinct es = IsDistinct (eq_by_cmp key_cmp) (keys_of es)
 
-nil_distinct : Distinct []
+pub nil_distinct : Distinct []
 unfolding IsDistinct
 nil_distinct = tt
 
@@ -56,7 +56,7 @@ some_more q x xs some = elim (eq_by_cmp key_cmp q x.0) as (λ b. IsSome (cond b 
 some_first : (x : Key × Cells) (xs : Entries) → IsSome (fin.find key_cmp x.0 (x ∷ xs))
 some_first x xs = subst (λ b. IsSome (cond b (Some x.1) (fin.find key_cmp x.0 xs))) (sym ((eq_by_cmp_equiv key_cmp_total).refl x.0)) refl
 
-distinct-append : (xs ys : Entries) → Distinct xs → Distinct ys → ((q : Key) → IsSome (fin.find key_cmp q xs) → fin.find key_cmp q ys ≡ None) → Distinct (xs ++ ys)
+pub distinct-append : (xs ys : Entries) → Distinct xs → Distinct ys → ((q : Key) → IsSome (fin.find key_cmp q xs) → fin.find key_cmp q ys ≡ None) → Distinct (xs ++ ys)
 distinct-append [] ys first second apart = second
 distinct-append (x ∷ xs) ys first second apart =
     let none : fin.find key_cmp x.0 (xs ++ ys) ≡ None =
@@ -78,7 +78,7 @@ all_apart : (k : Key) (es : Entries) → T (below_all key_cmp k es) → AllByRec
 all_apart k [] below = tt
 all_apart k (e ∷ es) below = let h = halves _ _ below in (apart_from_less _ h.0, all_apart k es h.1)
 
-distinct_from_sorted : (es : Entries) → T (fin.is_sorted key_cmp es) → Distinct es
+pub distinct_from_sorted : (es : Entries) → T (fin.is_sorted key_cmp es) → Distinct es
 distinct_from_sorted [] rise = nil_distinct
 distinct_from_sorted (e ∷ es) rise = let h = halves _ _ rise in IsDistinct-cons _ e.0 (keys_of es) (all_apart e.0 es h.0) (distinct_from_sorted es h.1)
 
@@ -91,7 +91,7 @@ distinct_listed n (p ∷ ps) numbered own =
     let here : p.number ≡ n = numbered 0 p (omega arith) ∙ omega arith in
     past (suc n) ps q (later n p ps numbered) (own_later p ps own) (omega (arith, at, here)))
 
-found-lookup : (q : Key) (es : Entries) → lookup (eq_by_cmp key_cmp q) es ≡ fin.find key_cmp q es
+pub found-lookup : (q : Key) (es : Entries) → lookup (eq_by_cmp key_cmp q) es ≡ fin.find key_cmp q es
 found-lookup q [] = refl
 found-lookup q (e ∷ es) = ap (cond (eq_by_cmp key_cmp q e.0) (Some e.1)) (found-lookup q es)
 
@@ -147,13 +147,17 @@ sorted-map f lt (x ∷ xs) sorted k d low below =
     let next = get_or-map f (x ∷ xs) (k + 1) x d inside in
     (λ i. lt (next i) (here i)) ∙ sorted k x low inside
 
+-- entries with keys apart, sorted, are those of the map that they make
+pub entries-ordered : (es : Entries) (rows sorted : List (Bor Key × Bor Cells)) → Distinct es → map deref_pair rows ≡ es → IsPermutation rows sorted → IsSortedBy (λ a b. is_lt (derived_cmp a.0.now b.0.now)) sorted → map deref_pair sorted ≡ fin.entries (fin.from_entries {R = key_cmp} es)
+entries-ordered es rows sorted first all moved rising =
+    let fs = map deref_pair sorted in
+    let moved : IsPermutation es fs = subst (λ es. IsPermutation es fs) all (IsPermutation-map deref_pair rows sorted moved) in
+    let ordered : IsSortedBy (λ a b. is_lt (key_cmp a.0 b.0)) fs =
+    λ k d low below. sym (ap is_lt (derived-is (slice_index_or fs (k + 1) d).0 (slice_index_or fs k d).0)) ∙ sorted-map deref_pair (λ a b. is_lt (derived_cmp a.0 b.0)) sorted rising k d low below in
+    let second = IsDistinct-IsPermutation (eq_by_cmp key_cmp) ((eq_by_cmp_equiv key_cmp_total).symm) (keys_of es) (keys_of fs) (IsPermutation-map (λ e. e.0) es fs moved) first in
+    sym (entries-is (fin.from_entries es) fs (rise fs second ordered) (λ q. fin.get-from_entries key_cmp_total es q ∙ find-permutation es fs q first second moved))
+
 -- the rows of all shards, sorted
 pub entries-sorted : (ps : List Piece) (rows sorted : List (Bor Key × Bor Cells)) → IsWhole ps → map deref_pair rows ≡ listed ps → IsPermutation rows sorted → IsSortedBy (λ a b. is_lt (derived_cmp a.0.now b.0.now)) sorted → map deref_pair sorted ≡ fin.entries (joined ps)
 entries-sorted ps rows sorted whole all moved rising =
-    let fs = map deref_pair sorted in
-    let moved : IsPermutation (listed ps) fs = subst (λ es. IsPermutation es fs) all (IsPermutation-map deref_pair rows sorted moved) in
-    let ordered : IsSortedBy (λ a b. is_lt (key_cmp a.0 b.0)) fs =
-    λ k d low below. sym (ap is_lt (derived-is (slice_index_or fs (k + 1) d).0 (slice_index_or fs k d).0)) ∙ sorted-map deref_pair (λ a b. is_lt (derived_cmp a.0 b.0)) sorted rising k d low below in
-    let first = distinct_listed 0 ps (λ i d below. whole.numbered i d below ∙ omega arith) whole.own in
-    let second = IsDistinct-IsPermutation (eq_by_cmp key_cmp) ((eq_by_cmp_equiv key_cmp_total).symm) (keys_of (listed ps)) (keys_of fs) (IsPermutation-map (λ e. e.0) (listed ps) fs moved) first in
-    sym (entries-is (joined ps) fs (rise fs second ordered) (λ q. fin.get-from_entries key_cmp_total (listed ps) q ∙ find-permutation (listed ps) fs q first second moved))
+    entries-ordered (listed ps) rows sorted (distinct_listed 0 ps (λ i d below. whole.numbered i d below ∙ omega arith) whole.own) all moved rising

@@ -10,7 +10,7 @@ use Rattle.std.proofs.lemmas.List.{get_or_default, get_or-set_same, get_or-set_o
 use Rattle.aria_base.specs.Orders.{key_cmp, Cells}
 use Rattle.aria_base.specs.declared.keys.Key.{Key}
 use Rattle.aria_base.proofs.Orders.{key_cmp_total, key_cmp-IsAntisymmetric}
-use Rattle.tbl_rows.specs.Shards.{home, Piece, IsOwn, AllOwn, IsWhole, with_row, without_row, bare, joined, at_home}
+use Rattle.tbl_rows.specs.Shards.{home, mark, Piece, IsOwn, AllOwn, IsWhole, with_row, without_row, bare, joined, at_home}
 use Rattle.tbl_rows.specs.declared.homes.TheConstants.{SHARDS}
 use Rattle.tbl_rows.proofs.Owned.{same_key, IsOwn-bare}
 
@@ -26,7 +26,7 @@ find-append q (x ∷ xs) ys =
       | false ↦ find-append q xs ys
     ]
 
-or_none : (row : Option Cells) → option_or row None ≡ row
+pub or_none : (row : Option Cells) → option_or row None ≡ row
 or_none None = refl
 or_none (Some row) = refl
 
@@ -69,7 +69,7 @@ from n (p ∷ ps) q (suc i) d numbered own at below =
     ∙ from (suc n) ps q i d (later n p ps numbered) (own_later p ps own) (at ∙ omega arith) (omega (arith, below))
 
 pub home-below : (q : Key) → home q < SHARDS
-unfolding home
+unfolding home mark
 home-below q = omega arith
 
 pub find-listed : (ps : List Piece) → IsWhole ps → (q : Key) → fin.find key_cmp q (listed ps) ≡ at_home ps q
@@ -97,7 +97,7 @@ IsWhole-set ps i p whole below number own =
       own = each (λ j s. IsOwn s) own whole.own;
     }
 
-apart_stays : (q k : Key) (w row : Option Cells) → (q ≡ k → ⊥) → cond (eq_by_cmp key_cmp q k) w row ≡ row
+pub apart_stays : (q k : Key) (w row : Option Cells) → (q ≡ k → ⊥) → cond (eq_by_cmp key_cmp q k) w row ≡ row
 apart_stays q k w row apart =
     elim (eq_by_cmp key_cmp q k) as (λ b. eq_by_cmp key_cmp q k ≡ b → cond b w row ≡ row) [
       | true ↦ λ tied. absurd (apart (same_key q k tied))

@@ -7,7 +7,7 @@ use Rattle.aria_base.specs.Orders.{Cells, Database}
 use Rattle.aria_base.specs.declared.keys.Part.{Part}
 use Rattle.aria_base.specs.declared.keys.Part.TheVariants as part
 use Rattle.aria_base.specs.declared.keys.Key.{Key}
-use Rattle.tbl_rows.specs.declared.homes.TheConstants.{SHARDS, HIDDEN_BITS}
+use Rattle.tbl_rows.specs.declared.homes.TheConstants.{SHARDS, HIDDEN_BITS, LOW_BITS}
 
 -- one more word in a key's mark: times 2 ^ 64 over the golden ratio, which puts neighbours far apart
 abbrev pub marked : ℕ → ℕ → ℕ
@@ -22,9 +22,17 @@ part_marked mark (part.Text bytes) = fold marked mark bytes
 abbrev pub folded : ℕ → ℕ
 folded mark = (mark + mark / 2 ^ 32) % 2 ^ 64
 
--- the shard of a key: the highest bits of its mark, which is folded before it is marked once more
+-- a key's mark, which is folded before it is marked once more
+unfoldable pub mark : Key → ℕ
+mark key = marked (folded (marked (fold part_marked key.table key.parts) 0)) 0
+
+-- the shard of a key: the highest bits of its mark
 unfoldable pub home : Key → ℕ
-home key = marked (folded (marked (fold part_marked key.table key.parts) 0)) 0 / 2 ^ HIDDEN_BITS
+home key = mark key / 2 ^ HIDDEN_BITS
+
+-- the bucket of a key, of so many in its shard: by bits that its shard does not show
+unfoldable pub slot : ℕ → Key → ℕ
+slot count key = mark key / 2 ^ LOW_BITS % count
 
 -- what a contract sees of a shard
 pub record Piece : Type 0 where
@@ -71,3 +79,16 @@ joined pieces = fin.from_entries (flat_map (λ piece. fin.entries piece.rows) pi
 -- the row that the key's own shard has there
 abbrev pub at_home : List Piece → Key → Option Cells
 at_home pieces q = fin.get (slice_index_or pieces (home q) (bare 0)).rows q
+
+-- the map that buckets are together
+abbrev pub pooled : List Database → Database
+pooled buckets = fin.from_entries (flat_map fin.entries buckets)
+
+-- each key of a bucket belongs to it
+abbrev pub AllSlotted : (Key → ℕ) → List Database → Type 0
+AllSlotted h buckets = (i : ℕ) (d : Database) → i < length buckets → (q : Key) → IsSome (fin.get (slice_index_or buckets i d) q) → h q ≡ i
+
+-- what is so of the buckets of every shard
+pub record IsPool (buckets : List Database) : Type 0 where
+  pub some : 0 < length buckets
+  pub own : AllSlotted (slot (length buckets)) buckets

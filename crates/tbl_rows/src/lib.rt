@@ -12,7 +12,9 @@
 //! ```
 #![tactic(auto)]
 
+mod buckets;
 mod homes;
+mod pools;
 mod refusals;
 mod shards;
 mod tables;

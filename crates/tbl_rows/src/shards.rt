@@ -6,44 +6,50 @@ ghost use Rattle.std.specs.FinMap as fin;
 ghost use Rattle.tbl_rows.specs.Shards.{home, bare, with_row, without_row, IsOwn};
 ghost use Rattle.tbl_rows.specs.declared.homes.TheConstants.{SHARDS};
 
+use crate::buckets::Bucket;
+use crate::pools::{bare_pool, place_of, rows_of, spread};
 use crate::refusals::Refused;
-use aria_base::{Duplicate, Key, Memory, Row, copy_key, copy_row};
+use aria_base::{Duplicate, Key, Memory, Row};
 use std::alloc::Global;
-use std::collections::BTreeMap;
 use std::marker::Model;
 
+/// How many rows a bucket has on average at most, while there is memory for more buckets.
+const MEAN: usize = 12;
+
 /// A part of the rows: those of the keys that belong to it. A contract sees its number and the map
-/// of its rows.
+/// of its rows. `len` counts the rows, and says when there are to be more buckets: nothing else rests on it.
 #[derive(Drop)]
 pub struct Shard {
     number: u8,
-    rows: BTreeMap<Key, Row>,
+    len: usize,
+    buckets: Vec<Bucket>,
 }
 
 impl Model for Shard {
-    ghost use Rattle.std.specs.FinMap as fin;
     ghost use Rattle.tbl_rows.specs.Codes.{piece_code};
-    ghost use Rattle.tbl_rows.specs.Shards.{Piece, IsShard};
+    ghost use Rattle.tbl_rows.specs.Shards.{Piece, IsShard, pooled, IsPool};
 
     ghost Value = { Piece };
 
     ghost coded = { piece_code };
 
-    ghost view = { λ a. record { number = a.number; rows = fin.from_entries a.rows.entries } };
+    ghost view = { λ a. record { number = a.number; rows = pooled a.buckets.items } };
 
-    ghost invariant = { λ a. IsShard (record { number = a.number; rows = fin.from_entries a.rows.entries }) };
+    ghost invariant = { λ a. IsShard (record { number = a.number; rows = pooled a.buckets.items }) × IsPool a.buckets.items };
 }
 
 impl Shard {
     /// A shard with this number and no rows.
-    pub(crate) fn new(alloc: Global, number: u8) -> Shard
+    pub(crate) fn new(alloc: Global, number: u8) -> Result<Shard, Memory>
         requires { number < SHARDS }
-        ensures { result ≡ bare number }
+        ensures { IfOk result (λ shard. shard ≡ bare number) }
     {
-        Shard {
+        let buckets = bare_pool(alloc, 1)?;
+        Ok(Shard {
             number,
-            rows: BTreeMap::new(alloc),
-        }
+            len: 0,
+            buckets,
+        })
     }
 
     /// The shard's number.
@@ -58,7 +64,8 @@ impl Shard {
     pub(crate) fn get(&self, key: &Key) -> Option<&Row>
         ensures { option_copied result ≡ fin.get self.now.rows key.now }
     {
-        self.rows.get(key)
+        let bucket = &self.buckets[place_of(&self.buckets, key)];
+        bucket.get(key)
     }
 
     /// Sets the row at a key. `Refused` means want of memory.
@@ -70,12 +77,40 @@ impl Shard {
         ensures number { self.new.number ≡ self.old.number }
         ensures own { IsOwn self.new }
     {
-        match self.rows.insert(key, row) {
-            Ok(_) => Ok(()),
-            Err(failed) => {
-                let (key, row) = failed.value;
-                Err(Refused { key, row })
-            }
+        if self.len / MEAN >= self.buckets.len() {
+            self.grow();
+        }
+        self.put_here(key, row)
+    }
+
+    /// The same, in the buckets that there are.
+    fn put_here(&mut self, key: Key, row: Row) -> Result<(), Refused>
+        requires { home key ≡ self.old.number }
+        ensures put { OnOk result (self.new ≡ with_row self.old key row) }
+        ensures refused { IfErr result (λ refused. (refused.key ≡ key) × (refused.row ≡ row)) }
+        ensures kept { OnErr result (self.new ≡ self.old) }
+        ensures number { self.new.number ≡ self.old.number }
+        ensures own { IsOwn self.new }
+    {
+        let place = place_of(&self.buckets, &key);
+        let bucket = &mut self.buckets[place];
+        let added = bucket.put(key, row)?;
+        self.len = self.len.saturating_add(usize::from(added));
+        Ok(())
+    }
+
+    /// Makes the buckets half as many again, if there is memory.
+    fn grow(&mut self)
+        ensures { self.new ≡ self.old }
+    {
+        let count = self
+            .buckets
+            .len()
+            .saturating_add(self.buckets.len() / 2)
+            .saturating_add(1);
+        match spread(*self.buckets.allocator(), &self.buckets, count) {
+            Ok(buckets) => self.buckets = buckets,
+            Err(_) => {}
         }
     }
 
@@ -86,16 +121,20 @@ impl Shard {
         ensures deleted { self.new ≡ without_row self.old key.now }
         ensures own { IsOwn self.new }
     {
-        self.rows.remove(key).is_some()
+        let place = place_of(&self.buckets, key);
+        let bucket = &mut self.buckets[place];
+        let found = bucket.delete(key);
+        self.len = self.len.saturating_sub(usize::from(found));
+        found
     }
 
     /// Appends the rows in the order of their keys.
     pub(crate) fn list<'a>(&'a self, out: &mut Vec<(&'a Key, &'a Row)>) -> Result<(), Memory>
         ensures { OnOk result (map deref_pair out.new.items ≡ map deref_pair out.old.items ++ fin.entries self.now.rows) }
     {
-        for (key, row) in &self.rows {
-            out.push((key, row))?;
-        }
+        let mut rows = rows_of(*out.allocator(), &self.buckets)?;
+        rows.sort_by(|a, b| a.0.cmp(b.0))?;
+        out.append(&mut rows)?;
         Ok(())
     }
 
@@ -109,13 +148,11 @@ impl Shard {
 
 impl Duplicate for Shard {
     fn duplicate(&self, alloc: Global) -> Result<Self, Memory> {
-        let mut rows = BTreeMap::new(alloc);
-        for (key, row) in &self.rows {
-            rows.insert(copy_key(alloc, key)?, copy_row(alloc, row)?)?;
-        }
+        let buckets = spread(alloc, &self.buckets, self.buckets.len())?;
         Ok(Shard {
             number: self.number,
-            rows,
+            len: self.len,
+            buckets,
         })
     }
 }

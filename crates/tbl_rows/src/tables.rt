@@ -42,7 +42,7 @@ impl Tables {
     {
         let mut shards = Vec::with_capacity(alloc, usize::from(SHARDS))?;
         for number in 0..SHARDS {
-            shards.push(Shard::new(alloc, number))?;
+            shards.push(Shard::new(alloc, number)?)?;
         }
         Ok(Tables { shards })
     }

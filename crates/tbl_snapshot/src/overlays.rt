@@ -74,7 +74,10 @@ impl<'a> Access for Overlay<'a> {
 
     fn write(&mut self, key: Key, row: Option<Row>) -> Result<(), Memory> {
         match place_of(&self.writes, &key) {
-            Some(place) => self.writes[place].1 = row,
+            Some(place) => {
+                self.writes[place].1 = row;
+                drop(key);
+            }
             None => self.writes.push((key, row))?,
         }
         Ok(())

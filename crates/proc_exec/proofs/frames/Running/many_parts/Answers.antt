@@ -3,7 +3,7 @@ use Rattle.std.specs.declared.result.Result.TheVariants.{Ok}
 use Rattle.std.proofs.lemmas.List.{drop_all}
 use Rattle.proc_lang.specs.Meaning.{values_of}
 use Rattle.proc_exec.proofs.KeyParts.{value_at, as_key}
-use Rattle.proc_exec.proofs.frames.Running.parts.Goals as goal
+use Rattle.proc_exec.proofs.frames.Running.many_parts.Goals as goal
 
 pub returns : goal.returns
 returns c =
