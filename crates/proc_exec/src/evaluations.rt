@@ -181,7 +181,7 @@ fn eval_other(scope: &Scope, registers: &Vec<Value>, expr: &Expr) -> Result<Valu
 #[cycle(evaluating)]
 #[inline(never)]
 fn eval_cat(scope: &Scope, registers: &Vec<Value>, first: &Expr, second: &Expr) -> Result<Value, Fault>
-    ensures { Computes result (value_of scope.now.request.now scope.now.item.now registers.now.items (term.Cat (term_of first.now) (term_of second.now))) }
+    ensures { Computes result (value_of scope.now.request.now scope.now.item.now registers.now.items (term.Of term.Cat (term_of first.now) (term_of second.now))) }
 {
     join(scope.alloc, eval_both(scope, registers, first, second)?)
 }
@@ -205,7 +205,7 @@ fn eval_front(
 #[cycle(evaluating)]
 #[inline(never)]
 fn eval_show(scope: &Scope, registers: &Vec<Value>, number: &Expr) -> Result<Value, Fault>
-    ensures { Computes result (value_of scope.now.request.now scope.now.item.now registers.now.items (term.Show (term_of number.now))) }
+    ensures { Computes result (value_of scope.now.request.now scope.now.item.now registers.now.items (term.By term.Show (term_of number.now))) }
 {
     Ok(shown(scope.alloc, int(&eval(scope, registers, number)?))?)
 }
