@@ -2,7 +2,7 @@
 use Rattle.std.specs.Prelude.{◌≡◌, ℕ, ◌==◌, if◌then◌else◌, refl}
 use Rattle.std.specs.Coded.{Coded, code_by}
 use base.Stored.{Gv, gnil, gnum, gcons, num}
-use Rattle.proc_lang.specs.Steps.{Step, Let, Get, Need, Find, Put, Del, If, Each, Give, Fail, Steps, NoMore, More}
+use Rattle.proc_lang.specs.Steps.{Absence, Traps, Fails, Blanks, Step, Let, Read, Put, Del, If, Each, Give, Fail, Steps, NoMore, More}
 use Rattle.proc_lang.specs.TermCodes.{coded_tree, kept, kept_terms, kept_numbers, term_in, terms_in, numbers_in, term_again, terms_again, numbers_again}
 
 -- a tag and three parts
@@ -19,18 +19,31 @@ right gnil = gnil
 right (gnum n) = gnil
 right (gcons a b) = b
 
+abbrev kept_absence : Absence → Gv
+kept_absence Traps = gnil
+kept_absence (Fails code) = gcons (gnum 0) (gnum code)
+kept_absence (Blanks flag) = gcons (gnum 1) (gnum flag)
+
+abbrev absence_in : Gv → Absence
+absence_in gnil = Traps
+absence_in (gnum n) = Traps
+absence_in (gcons tag n) = if num tag == 0 then Fails (num n) else Blanks (num n)
+
+absence_again : (absence : Absence) → absence_in (kept_absence absence) ≡ absence
+absence_again Traps = refl
+absence_again (Fails code) = refl
+absence_again (Blanks flag) = refl
+
 abbrev mutual
   pub kept_step : Step → Gv
   kept_step (Let r e) = tagged 0 (gnum r) (kept e) gnil
-  kept_step (Get t ks rs) = tagged 1 (gnum t) (kept_terms ks) (kept_numbers rs)
-  kept_step (Need t ks rs code) = tagged 2 (gcons (gnum t) (gnum code)) (kept_terms ks) (kept_numbers rs)
-  kept_step (Find t ks rs flag) = tagged 3 (gcons (gnum t) (gnum flag)) (kept_terms ks) (kept_numbers rs)
-  kept_step (Put t ks es) = tagged 4 (gnum t) (kept_terms ks) (kept_terms es)
-  kept_step (Del t ks) = tagged 5 (gnum t) (kept_terms ks) gnil
-  kept_step (If e a b) = tagged 6 (kept e) (kept_steps a) (kept_steps b)
-  kept_step (Each n body) = tagged 7 (gnum n) (kept_steps body) gnil
-  kept_step (Give e) = tagged 8 gnil (kept e) gnil
-  kept_step (Fail code) = tagged 9 (gnum code) gnil gnil
+  kept_step (Read absence t ks rs) = tagged 1 (gcons (gnum t) (kept_absence absence)) (kept_terms ks) (kept_numbers rs)
+  kept_step (Put t ks es) = tagged 2 (gnum t) (kept_terms ks) (kept_terms es)
+  kept_step (Del t ks) = tagged 3 (gnum t) (kept_terms ks) gnil
+  kept_step (If e a b) = tagged 4 (kept e) (kept_steps a) (kept_steps b)
+  kept_step (Each n body) = tagged 5 (gnum n) (kept_steps body) gnil
+  kept_step (Give e) = tagged 6 gnil (kept e) gnil
+  kept_step (Fail code) = tagged 7 (gnum code) gnil gnil
 
   pub kept_steps : Steps → Gv
   kept_steps NoMore = gnil
@@ -40,14 +53,12 @@ abbrev mutual
 abbrev of_tag : ℕ → Gv → Gv → Gv → Steps → Steps → Step
 of_tag tag p a b first second =
     if tag == 0 then Let (num p) (term_in a)
-    else if tag == 1 then Get (num p) (terms_in a) (numbers_in b)
-    else if tag == 2 then Need (num (left p)) (terms_in a) (numbers_in b) (num (right p))
-    else if tag == 3 then Find (num (left p)) (terms_in a) (numbers_in b) (num (right p))
-    else if tag == 4 then Put (num p) (terms_in a) (terms_in b)
-    else if tag == 5 then Del (num p) (terms_in a)
-    else if tag == 6 then If (term_in p) first second
-    else if tag == 7 then Each (num p) first
-    else if tag == 8 then Give (term_in a)
+    else if tag == 1 then Read (absence_in (right p)) (num (left p)) (terms_in a) (numbers_in b)
+    else if tag == 2 then Put (num p) (terms_in a) (terms_in b)
+    else if tag == 3 then Del (num p) (terms_in a)
+    else if tag == 4 then If (term_in p) first second
+    else if tag == 5 then Each (num p) first
+    else if tag == 6 then Give (term_in a)
     else Fail (num p)
 
 abbrev mutual
@@ -68,9 +79,7 @@ abbrev mutual
 mutual
   pub step_again : (s : Step) → step_in (kept_step s) ≡ s
   step_again (Let r e) = λ i. Let r (term_again e i)
-  step_again (Get t ks rs) = λ i. Get t (terms_again ks i) (numbers_again rs i)
-  step_again (Need t ks rs code) = λ i. Need t (terms_again ks i) (numbers_again rs i) code
-  step_again (Find t ks rs flag) = λ i. Find t (terms_again ks i) (numbers_again rs i) flag
+  step_again (Read absence t ks rs) = λ i. Read (absence_again absence i) t (terms_again ks i) (numbers_again rs i)
   step_again (Put t ks es) = λ i. Put t (terms_again ks i) (terms_again es i)
   step_again (Del t ks) = λ i. Del t (terms_again ks i)
   step_again (If e a b) = λ i. If (term_again e i) (steps_again a i) (steps_again b i)

@@ -1,10 +1,15 @@
 -- How terms are kept as ghost values, and found again. No rule rests on the form: it only has to tell terms apart.
-use Rattle.std.specs.Prelude.{◌≡◌, ◌+◌, ◌-◌, ℕ, ℤ, pos, negsuc, List, [], ◌∷◌, ◌==◌, if◌then◌else◌, refl}
+use Rattle.std.specs.Prelude.{◌≡◌, ◌+◌, ◌-◌, ℕ, ℤ, pos, negsuc, List, [], ◌∷◌, ◌==◌, if◌then◌else◌, slice_index_or, refl}
 use Rattle.std.specs.Coded.{Coded, code_by, coded_list}
 use base.Stored.{Gv, gnil, gnum, gcons, num}
 use mathlib.Core.Path.{ap, ◌∙◌}
-use Rattle.proc_lang.specs.Terms.{Plain, Reg, Arg, Item, Len, Unary, Not, Show, Binary, Add, Sub, Mul, Div, Mod, Eq, Ne, Lt, Le, And, Or, Cat, Term, Num, Text, Me, Named, By, Of, MulDiv, Front}
-use Rattle.std.specs.Prelude.{slice_index_or}
+use Rattle.proc_lang.specs.declared.operators.Source.{Source}
+use Rattle.proc_lang.specs.declared.operators.Source.TheVariants.{Reg, Arg, Item, Len}
+use Rattle.proc_lang.specs.declared.operators.UnaryOp.{UnaryOp}
+use Rattle.proc_lang.specs.declared.operators.UnaryOp.TheVariants.{Not, Show}
+use Rattle.proc_lang.specs.declared.operators.BinaryOp.{BinaryOp}
+use Rattle.proc_lang.specs.declared.operators.BinaryOp.TheVariants.{Add, Sub, Mul, Div, Mod, Eq, Ne, Lt, Le, And, Or, Cat}
+use Rattle.proc_lang.specs.Terms.{Term, Num, Text, Me, Named, Unary, Binary, MulDiv, Front}
 
 abbrev pub coded_tree : Coded Gv
 coded_tree = record { code = λ t. t; inj = λ x y p. p }
@@ -30,33 +35,33 @@ tagged tag a b = gcons (gnum tag) (gcons a b)
 abbrev pair : Gv → Gv → Gv
 pair a b = tagged 7 a b
 
-abbrev plain_number : Plain → ℕ
-plain_number Reg = 0
-plain_number Arg = 1
-plain_number Item = 2
-plain_number Len = 3
+abbrev source_number : Source → ℕ
+source_number Reg = 0
+source_number Arg = 1
+source_number Item = 2
+source_number Len = 3
 
-abbrev plain_in : ℕ → Plain
-plain_in n = slice_index_or (Reg ∷ Arg ∷ Item ∷ Len ∷ []) n Reg
+abbrev source_in : ℕ → Source
+source_in n = slice_index_or (Reg ∷ Arg ∷ Item ∷ Len ∷ []) n Reg
 
-plain_again : (o : Plain) → plain_in (plain_number o) ≡ o
-plain_again Reg = refl
-plain_again Arg = refl
-plain_again Item = refl
-plain_again Len = refl
+source_again : (s : Source) → source_in (source_number s) ≡ s
+source_again Reg = refl
+source_again Arg = refl
+source_again Item = refl
+source_again Len = refl
 
-abbrev unary_number : Unary → ℕ
+abbrev unary_number : UnaryOp → ℕ
 unary_number Not = 0
 unary_number Show = 1
 
-abbrev unary_in : ℕ → Unary
+abbrev unary_in : ℕ → UnaryOp
 unary_in n = slice_index_or (Not ∷ Show ∷ []) n Not
 
-unary_again : (o : Unary) → unary_in (unary_number o) ≡ o
+unary_again : (o : UnaryOp) → unary_in (unary_number o) ≡ o
 unary_again Not = refl
 unary_again Show = refl
 
-abbrev binary_number : Binary → ℕ
+abbrev binary_number : BinaryOp → ℕ
 binary_number Add = 0
 binary_number Sub = 1
 binary_number Mul = 2
@@ -70,7 +75,7 @@ binary_number And = 9
 binary_number Or = 10
 binary_number Cat = 11
 
-abbrev binary_in : ℕ → Binary
+abbrev binary_in : ℕ → BinaryOp
 binary_in n = slice_index_or (Add ∷ Sub ∷ Mul ∷ Div ∷ Mod ∷ Eq ∷ Ne ∷ Lt ∷ Le ∷ And ∷ Or ∷ Cat ∷ []) n Add
 
 abbrev pub kept : Term → Gv
@@ -78,19 +83,19 @@ kept (Num (pos n)) = tagged 0 (gnum 0) (gnum n)
 kept (Num (negsuc n)) = tagged 0 (gnum 1) (gnum n)
 kept (Text bytes) = tagged 1 gnil (kept_numbers bytes)
 kept Me = gnil
-kept (Named p n) = tagged 2 (gnum (plain_number p)) (gnum n)
-kept (By o a) = tagged 3 (gnum (unary_number o)) (kept a)
-kept (Of o a b) = tagged (7 + binary_number o) (kept a) (kept b)
+kept (Named from n) = tagged 2 (gnum (source_number from)) (gnum n)
+kept (Unary o a) = tagged 3 (gnum (unary_number o)) (kept a)
+kept (Binary o a b) = tagged (7 + binary_number o) (kept a) (kept b)
 kept (MulDiv a b c) = tagged 4 (kept a) (pair (kept b) (kept c))
 kept (Front a b n) = tagged 5 (gnum n) (pair (kept a) (kept b))
 
 -- the terms of a pair
 abbrev first : Term → Term
-first (Of Add a b) = a
+first (Binary Add a b) = a
 first other = other
 
 abbrev second : Term → Term
-second (Of Add a b) = b
+second (Binary Add a b) = b
 second other = other
 
 abbrev number_in : ℕ → ℕ → ℤ
@@ -101,11 +106,11 @@ abbrev of_tag : ℕ → Gv → Gv → Term → Term → Term
 of_tag tag p q a b =
     if tag == 0 then Num (number_in (num p) (num q))
     else if tag == 1 then Text (numbers_in q)
-    else if tag == 2 then Named (plain_in (num p)) (num q)
-    else if tag == 3 then By (unary_in (num p)) b
+    else if tag == 2 then Named (source_in (num p)) (num q)
+    else if tag == 3 then Unary (unary_in (num p)) b
     else if tag == 4 then MulDiv a (first b) (second b)
     else if tag == 5 then Front (first b) (second b) (num p)
-    else Of (binary_in (tag - 7)) a b
+    else Binary (binary_in (tag - 7)) a b
 
 abbrev pub term_in : Gv → Term
 term_in gnil = Me
@@ -114,28 +119,28 @@ term_in (gcons tag gnil) = Me
 term_in (gcons tag (gnum n)) = Me
 term_in (gcons tag (gcons p q)) = of_tag (num tag) p q (term_in p) (term_in q)
 
-of_again : (o : Binary) (p q : Gv) (a b : Term) → of_tag (7 + binary_number o) p q a b ≡ Of o a b
-of_again Add p q a b = refl
-of_again Sub p q a b = refl
-of_again Mul p q a b = refl
-of_again Div p q a b = refl
-of_again Mod p q a b = refl
-of_again Eq p q a b = refl
-of_again Ne p q a b = refl
-of_again Lt p q a b = refl
-of_again Le p q a b = refl
-of_again And p q a b = refl
-of_again Or p q a b = refl
-of_again Cat p q a b = refl
+binary_again : (o : BinaryOp) (p q : Gv) (a b : Term) → of_tag (7 + binary_number o) p q a b ≡ Binary o a b
+binary_again Add p q a b = refl
+binary_again Sub p q a b = refl
+binary_again Mul p q a b = refl
+binary_again Div p q a b = refl
+binary_again Mod p q a b = refl
+binary_again Eq p q a b = refl
+binary_again Ne p q a b = refl
+binary_again Lt p q a b = refl
+binary_again Le p q a b = refl
+binary_again And p q a b = refl
+binary_again Or p q a b = refl
+binary_again Cat p q a b = refl
 
 pub term_again : (t : Term) → term_in (kept t) ≡ t
 term_again (Num (pos n)) = refl
 term_again (Num (negsuc n)) = refl
 term_again (Text bytes) = ap Text (numbers_again bytes)
 term_again Me = refl
-term_again (Named p n) = ap (λ p. Named p n) (plain_again p)
-term_again (By o a) = λ i. By (unary_again o i) (term_again a i)
-term_again (Of o a b) = of_again o (kept a) (kept b) (term_in (kept a)) (term_in (kept b)) ∙ (λ i. Of o (term_again a i) (term_again b i))
+term_again (Named from n) = ap (λ from. Named from n) (source_again from)
+term_again (Unary o a) = λ i. Unary (unary_again o i) (term_again a i)
+term_again (Binary o a b) = binary_again o (kept a) (kept b) (term_in (kept a)) (term_in (kept b)) ∙ (λ i. Binary o (term_again a i) (term_again b i))
 term_again (MulDiv a b c) = λ i. MulDiv (term_again a i) (term_again b i) (term_again c i)
 term_again (Front a b n) = λ i. Front (term_again a i) (term_again b i) n
 

@@ -12,6 +12,7 @@ mod catalogs;
 mod ends;
 mod expressions;
 mod flaws;
+mod operators;
 mod procs;
 mod statements;
 
@@ -25,5 +26,6 @@ pub use expressions::{Expr, Exprs, copy_expr};
 pub use flaws::{
     ARGUMENT, COLUMNS, KEY_LENGTH, KIND, MOST_BLOCKS, NESTING, REGISTER, UNKNOWN_TABLE, Wrong,
 };
+pub use operators::{BinaryOp, Source, UnaryOp};
 pub use procs::{ArgKind, ArgKinds, Path, PathPart, Proc};
 pub use statements::{Block, Regs, Stmt, copy_stmt};
