@@ -14,7 +14,8 @@ use Rattle.aria_base.specs.declared.values.Kind.TheVariants.{Int}
 use Rattle.proc_lang.specs.declared.ends.End.{End}
 use Rattle.proc_lang.specs.declared.ends.End.TheVariants as end
 use Rattle.proc_lang.specs.declared.ends.Trap.TheVariants.{Absent}
-use Rattle.proc_lang.specs.declared.flaws.TheConstants.{KIND, NESTING, MOST_BLOCKS}
+use Rattle.proc_lang.specs.declared.flaws.TheConstants.{KIND, NESTING}
+use Rattle.proc_lang.specs.declared.limits.TheConstants.{MOST_BLOCKS}
 use Rattle.proc_lang.specs.Terms.{Term}
 use Rattle.proc_lang.specs.Steps.{Step, Steps, NoMore, More}
 use Rattle.proc_lang.specs.Steps as step

@@ -25,7 +25,7 @@ use Rattle.batch_rules.specs.Trees.{Tree, Ends, Reads, Writes}
 use Rattle.proc_lang.specs.declared.ends.End.{End}
 use Rattle.proc_lang.specs.declared.ends.End.TheVariants as end
 use Rattle.proc_lang.specs.declared.ends.Trap.TheVariants.{Absent, Many}
-use Rattle.proc_lang.specs.declared.ends.TheConstants.{MOST_ACCESSES, MOST_GIVEN}
+use Rattle.proc_lang.specs.declared.limits.TheConstants.{MOST_ACCESSES, MOST_GIVEN}
 use Rattle.proc_lang.specs.declared.procs.Proc.{Proc}
 use Rattle.proc_lang.specs.Terms.{Term}
 use Rattle.proc_lang.specs.Terms as term
