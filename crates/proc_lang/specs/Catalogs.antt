@@ -13,7 +13,7 @@ use Rattle.proc_lang.specs.declared.ends.End.TheVariants as end
 use Rattle.proc_lang.specs.declared.procs.ArgKind.{ArgKind}
 use Rattle.proc_lang.specs.declared.procs.ArgKind.TheVariants as kind
 use Rattle.proc_lang.specs.declared.procs.Proc.{Proc}
-use Rattle.proc_lang.specs.declared.catalogs.TheConstants.{MOST_TABLES, MOST_PROCS, MOST_KEY_PARTS, MOST_COLUMNS, MOST_ARGS, MOST_REGS, MOST_STATEMENTS, DEEPEST_EXPR, GREATEST_CODE, MOST_FRONT}
+use Rattle.proc_lang.specs.declared.limits.TheConstants.{MOST_TABLES, MOST_PROCS, MOST_KEY_PARTS, MOST_COLUMNS, MOST_ARGS, MOST_REGS, MOST_STATEMENTS, DEEPEST_EXPR, GREATEST_CODE, MOST_FRONT}
 use Rattle.proc_lang.specs.Terms.{Term, Num, Text, Me, Named, Unary, Binary, MulDiv, Front}
 use Rattle.proc_lang.specs.Steps.{Absence, Traps, Fails, Blanks, Step, Steps, NoMore, More}
 use Rattle.proc_lang.specs.Steps as step

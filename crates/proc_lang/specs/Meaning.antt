@@ -16,8 +16,7 @@ use Rattle.batch_rules.specs.Trees.{Tree, Ends, Reads, Writes}
 use Rattle.proc_lang.specs.declared.ends.End.{End}
 use Rattle.proc_lang.specs.declared.ends.End.TheVariants as end
 use Rattle.proc_lang.specs.declared.ends.Trap.TheVariants.{Absent, Many}
-use Rattle.proc_lang.specs.declared.catalogs.TheConstants.{MOST_KEY_PARTS, MOST_COLUMNS}
-use Rattle.proc_lang.specs.declared.ends.TheConstants.{MOST_ACCESSES, MOST_GIVEN}
+use Rattle.proc_lang.specs.declared.limits.TheConstants.{MOST_KEY_PARTS, MOST_COLUMNS, MOST_ACCESSES, MOST_GIVEN}
 use Rattle.proc_lang.specs.declared.operators.Source.{Source}
 use Rattle.proc_lang.specs.declared.operators.Source.TheVariants as source
 use Rattle.proc_lang.specs.declared.operators.UnaryOp.{UnaryOp}

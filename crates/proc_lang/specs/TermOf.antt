@@ -4,6 +4,8 @@ use Rattle.proc_lang.specs.declared.expressions.Expr.TheVariants as expr
 use Rattle.proc_lang.specs.declared.operators.Source.TheVariants as source
 use Rattle.proc_lang.specs.declared.operators.UnaryOp.TheVariants as unary
 use Rattle.proc_lang.specs.declared.operators.BinaryOp.TheVariants as binary
+use Rattle.proc_lang.specs.declared.operators.Shape.{Shape}
+use Rattle.proc_lang.specs.declared.operators.Shape.TheVariants as shape
 use Rattle.proc_lang.specs.Terms.{Term}
 use Rattle.proc_lang.specs.Terms as term
 
@@ -31,3 +33,14 @@ term_of (expr.Not' p a) = term.Unary unary.Not (term_of a)
 term_of (expr.Cat' p a q b) = term.Binary binary.Cat (term_of a) (term_of b)
 term_of (expr.Front' p a q b n) = term.Front (term_of a) (term_of b) n
 term_of (expr.Show' p a) = term.Unary unary.Show (term_of a)
+
+-- and of one that is seen by its shape
+abbrev pub shape_term : Shape → Term
+shape_term (shape.Num z) = term.Num z
+shape_term (shape.Text bytes) = term.Text bytes.now
+shape_term shape.Me = term.Me
+shape_term (shape.Named from n) = term.Named from n
+shape_term (shape.Unary o a) = term.Unary o (term_of a.now)
+shape_term (shape.Binary o a b) = term.Binary o (term_of a.now) (term_of b.now)
+shape_term (shape.MulDiv a b c) = term.MulDiv (term_of a.now) (term_of b.now) (term_of c.now)
+shape_term (shape.Front a b n) = term.Front (term_of a.now) (term_of b.now) n

@@ -11,7 +11,8 @@ use Rattle.aria_base.specs.declared.schemas.Table.{Table}
 use Rattle.proc_lang.specs.declared.procs.ArgKind.{ArgKind}
 use Rattle.proc_lang.specs.declared.procs.ArgKind.TheVariants as arg
 use Rattle.proc_lang.specs.declared.procs.Proc.{Proc}
-use Rattle.proc_lang.specs.declared.flaws.TheConstants.{UNKNOWN_TABLE, KEY_LENGTH, COLUMNS, KIND, REGISTER, ARGUMENT, NESTING, MOST_BLOCKS}
+use Rattle.proc_lang.specs.declared.flaws.TheConstants.{UNKNOWN_TABLE, KEY_LENGTH, COLUMNS, KIND, REGISTER, ARGUMENT, NESTING}
+use Rattle.proc_lang.specs.declared.limits.TheConstants.{MOST_BLOCKS}
 use Rattle.proc_lang.specs.declared.operators.Source.{Source}
 use Rattle.proc_lang.specs.declared.operators.Source.TheVariants as source
 use Rattle.proc_lang.specs.declared.operators.UnaryOp.{UnaryOp}
