@@ -72,25 +72,25 @@ impl Running {
         ensures { Computes result (got (values_of scope.now.request.now scope.now.item.now self.now.regs exprs.now) (λ vs. Ok (parts_of vs))) }
     {
         match exprs.as_slice() {
-            [a] => Ok(Parts::one(self.part(scope, a)?)),
-            [a, b] => Ok(Parts::two(self.part(scope, a)?, self.part(scope, b)?)),
+            [a] => Ok(Parts::one(part(self.value(scope, a)?))),
+            [a, b] => Ok(Parts::two(part(self.value(scope, a)?), part(self.value(scope, b)?))),
             [a, b, c] => Ok(Parts::three(
-                self.part(scope, a)?,
-                self.part(scope, b)?,
-                self.part(scope, c)?,
+                part(self.value(scope, a)?),
+                part(self.value(scope, b)?),
+                part(self.value(scope, c)?),
             )),
             [a, b, c, d] => Ok(Parts::four(
-                self.part(scope, a)?,
-                self.part(scope, b)?,
-                self.part(scope, c)?,
-                self.part(scope, d)?,
+                part(self.value(scope, a)?),
+                part(self.value(scope, b)?),
+                part(self.value(scope, c)?),
+                part(self.value(scope, d)?),
             )),
             [a, b, c, d, e] => Ok(Parts::five(
-                self.part(scope, a)?,
-                self.part(scope, b)?,
-                self.part(scope, c)?,
-                self.part(scope, d)?,
-                self.part(scope, e)?,
+                part(self.value(scope, a)?),
+                part(self.value(scope, b)?),
+                part(self.value(scope, c)?),
+                part(self.value(scope, d)?),
+                part(self.value(scope, e)?),
             )),
             // no key: all are evaluated, since one may trap, and the single 0 stands for the parts
             _ => {
@@ -98,13 +98,6 @@ impl Running {
                 Ok(Parts::one(Part::Int(0)))
             }
         }
-    }
-
-    /// The value of an expression as a part of a key.
-    fn part(&self, scope: &Scope, expr: &Expr) -> Result<Part, Fault>
-        ensures { Computes result (got (value_of scope.now.request.now scope.now.item.now self.now.regs (term_of expr.now)) (λ v. Ok (part_of v))) }
-    {
-        Ok(part(self.value(scope, expr)?))
     }
 
     /// The row with the values of these expressions.

@@ -15,6 +15,7 @@ mod interpretations;
 mod limits;
 mod numbers;
 mod operands;
+mod operators;
 mod outcomes;
 mod runs;
 mod scopes;
