@@ -30,13 +30,6 @@ abbrev pub IsQuiet : Step → Type 0
 IsQuiet (Wrote of at bytes) = ⊥
 IsQuiet step = Unit {0}
 
--- a call that does nothing to other files
-abbrev pub IsOf : ℕ → Step → Type 0
-IsOf file Idle = Unit {0}
-IsOf file (Wrote of at bytes) = of ≡ file
-IsOf file (Missed of at len) = of ≡ file
-IsOf file (Synced of) = of ≡ file
-
 -- how many bytes were written
 abbrev pub step_bytes : Step → ℕ
 step_bytes (Wrote of at bytes) = length bytes

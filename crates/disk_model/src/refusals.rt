@@ -1,11 +1,12 @@
-// Why a call of the log is refused.
+// Why a call on a file of the store is refused.
 ghost use Rattle.std.specs.Prelude.{◌≡◌};
-ghost use Rattle.input_log.specs.declared.refusals.LogRefused.TheVariants as refused;
+ghost use Rattle.disk_model.specs.declared.refusals.LogRefused.TheVariants as refused;
 
 use aria_base::Failed;
 use std::alloc::{AllocError, AllocFailed};
 use thiserror::Error;
 
+/// A refused call on one file of a disk: of a log, or of a checkpoint's slot.
 #[derive(Clone, Copy, Debug, PartialEq, Eq, Error)]
 pub enum LogRefused {
     #[error("no memory")]
@@ -13,8 +14,7 @@ pub enum LogRefused {
     /// A call on the disk failed.
     #[error("the disk failed")]
     DiskFault,
-    /// The file holds no log: it is empty, or the file ends within the open record at this
-    /// offset.
+    /// What stands at this offset of the file is not what was to be read there.
     #[error("file {file} is damaged at {at}")]
     Damaged { file: u8, at: u64 },
 }

@@ -1,10 +1,34 @@
--- What of an image a write that was torn leaves alone.
-use Rattle.std.proofs.Common.{◌≡◌, ◌≢◌, ℕ, ◌+◌, ◌-◌, ◌<◌, ◌≤◌, List, [], ◌∷◌, ◌++◌, length, take, drop, get_or, Bool, false, sym, ◌∙◌, ap, arith, inl, inr, length-append, length-take, length-drop}
+-- What of the bytes a write leaves alone, whole or torn.
+use Rattle.std.proofs.Common.{◌≡◌, ◌≢◌, ℕ, ◌+◌, ◌-◌, ◌<◌, ◌≤◌, List, [], ◌∷◌, ◌++◌, length, take, drop, get_or, Bool, false, sym, ◌∙◌, ap, arith, inl, inr, append_assoc, length-append, length-take, length-drop}
 use Rattle.std.specs.Prelude.{nat_le, nat_lt, ◌&&◌, ◌||◌}
 use Rattle.std.proofs.lemmas.Bool.{cases_lt}
 use Rattle.std.proofs.lemmas.Bool.Decides.{nat_tests}
-use Rattle.std.proofs.lemmas.List.{same_lists, get_or_default, take-append-le, take-take, drop_all, append-nil, get_or-take, get_or-drop, get_or_append_left, get_or-append_right}
-use Rattle.disk_model.specs.Files.{File, IsImage, covers, loosened, untouched}
+use Rattle.std.proofs.lemmas.List.{same_lists, get_or_default, take_at, drop_at, length-take-le, take-append-le, take-take, drop_all, append-nil, get_or-take, get_or-drop, get_or_append_left, get_or-append_right}
+use Rattle.disk_model.specs.Files.{File, IsImage, covers, loosened, put, untouched}
+
+module _ (old : List ℕ) (at : ℕ) (bytes : List ℕ) (within : at ≤ length old) where
+  regroup : put old at bytes ≡ take at old ++ (bytes ++ drop (at + length bytes) old)
+  regroup = append_assoc (take at old) bytes (drop (at + length bytes) old)
+
+  pub put_before : take at (put old at bytes) ≡ take at old
+  put_before = ap (λ (l : List ℕ). take at l) regroup ∙ take_at (take at old) (bytes ++ drop (at + length bytes) old) at (length-take-le at old within)
+
+  pub put_here : drop at (put old at bytes) ≡ bytes ++ drop (at + length bytes) old
+  put_here = ap (λ (l : List ℕ). drop at l) regroup ∙ drop_at (take at old) (bytes ++ drop (at + length bytes) old) at (length-take-le at old within)
+
+  pub put_length : at + length bytes ≤ length (put old at bytes)
+  put_length = omega (arith, length-append (take at old ++ bytes) (drop (at + length bytes) old), length-append (take at old) bytes, length-take-le at old within)
+
+-- what is written behind a byte, and then that byte, are one write
+pub put_twice : (old : List ℕ) (at : ℕ) (bytes : List ℕ) (byte : ℕ) → at + 1 ≤ length old → put (put old (at + 1) bytes) at (byte ∷ []) ≡ put old at (byte ∷ bytes)
+put_twice old at bytes byte within =
+    let new : List ℕ = put old (at + 1) bytes in
+    let front : take at new ≡ take at old = sym (take-take at (at + 1) new (omega arith)) ∙ ap (λ (l : List ℕ). take at l) (put_before old (at + 1) bytes within) ∙ take-take at (at + 1) old (omega arith) in
+    ap (λ (l : List ℕ). l ++ byte ∷ [] ++ drop (at + 1) new) front
+    ∙ ap (λ (l : List ℕ). take at old ++ byte ∷ [] ++ l) (put_here old (at + 1) bytes within)
+    ∙ append_assoc (take at old) (byte ∷ []) (bytes ++ drop (at + 1 + length bytes) old)
+    ∙ ap (λ (n : ℕ). take at old ++ (byte ∷ (bytes ++ drop n old))) (omega arith)
+    ∙ sym (append_assoc (take at old) (byte ∷ bytes) (drop (at + length (byte ∷ bytes)) old))
 
 -- places that agree make parts that agree
 pub same_part : (at n : ℕ) (xs ys : List ℕ) → at + n ≤ length xs → at + n ≤ length ys → ((k : ℕ) → at ≤ k → k < at + n → get_or xs k 0 ≡ get_or ys k 0) → take n (drop at xs) ≡ take n (drop at ys)
