@@ -21,3 +21,6 @@ mod slots;
 pub use heads::Head;
 pub use readings::{head_of, read_slot};
 pub use slots::{blank, lay, show, shut};
+
+#[cfg(test)]
+mod tests;

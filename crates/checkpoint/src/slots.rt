@@ -57,6 +57,8 @@ pub fn lay<D: Disk>(disk: &mut D, slot: u8, head: &Head, body: &[u8]) -> Result<
     requires shut { EachImage (current (D.history disk.old) slot) IsShut }
     requires fallback { head.now.fallback ≤ 101 }
     ensures bytes { OnOk result (current (D.history disk.new) slot ≡ option_map (λ f. untouched (laid head.now body.now f.seen)) (current (D.history disk.old) slot)) }
+    ensures still_shut { OnOk result (EachImage (current (D.history disk.new) slot) IsShut) }
+    ensures stable { OnOk result (IsStable (current (D.history disk.new) slot)) }
     ensures images { Leaves (D.history disk.old) (D.history disk.new) slot IsShut }
     ensures refused { IfErr result (FaultOnly (D.history disk.old) (D.history disk.new)) }
 {
@@ -72,6 +74,7 @@ pub fn show<D: Disk>(disk: &mut D, slot: u8) -> Result<(), LogRefused>
     requires shut { EachImage (current (D.history disk.old) slot) IsShut }
     requires stable { IsStable (current (D.history disk.old) slot) }
     ensures bytes { OnOk result (current (D.history disk.new) slot ≡ option_map (λ f. untouched (opened f.seen)) (current (D.history disk.old) slot)) }
+    ensures still_stable { OnOk result (IsStable (current (D.history disk.new) slot)) }
     ensures images { Leaves (D.history disk.old) (D.history disk.new) slot (IsShutOrOpened (current (D.history disk.old) slot)) }
     ensures refused { IfErr result (FaultOnly (D.history disk.old) (D.history disk.new)) }
 {

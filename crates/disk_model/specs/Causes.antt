@@ -1,5 +1,5 @@
 -- When a call on one file is refused for want of memory or for a fault of the disk, and for nothing else.
-use Rattle.std.specs.Prelude.{◌≡◌, ℕ, ⊤}
+use Rattle.std.specs.Prelude.{◌≡◌, ⊤}
 use Rattle.aria_base.specs.Faults.{Rose}
 use Rattle.disk_model.specs.Histories.{History}
 use Rattle.disk_model.specs.declared.refusals.LogRefused.{LogRefused}

@@ -1,6 +1,7 @@
-use Rattle.std.proofs.Common.{◌≡◌, ℕ, List, length, ◌∙◌, ap, option_map}
+use Rattle.std.proofs.Common.{◌≡◌, ℕ, List, length, ◌∙◌, ap, option_map, arith}
 use Rattle.disk_model.specs.Files.{untouched, put}
 use Rattle.disk_model.specs.Histories.{current}
+use Rattle.disk_model.proofs.Spans.{stable_untouched}
 use Rattle.checkpoint.proofs.Torn.{lay_lost, lay_torn, lay_room, laid_both, head_size}
 use Rattle.checkpoint.proofs.slots.lay.Goals as goal
 
@@ -35,3 +36,9 @@ returns-clause-bytes g c =
     ∙ ap (λ t. option_map (λ f. untouched (put f.seen 40 c.args.body.now)) t) c.in_ok-write_at.ensures.written
     ∙ laid_both told c.bytes-front.result c.args.body.now
     ∙ ap (λ (l : List ℕ). option_map (λ f. untouched (put (put f.seen 1 l) 40 c.args.body.now)) told) c.bytes-front.ensures
+
+pub returns-clause-still_shut : goal.returns-clause-still_shut
+returns-clause-still_shut g c = let all = returns-clause-images g c in all.each (g.D.Disk.history c.write_synced.new.disk).now all.later (omega arith)
+
+pub returns-clause-stable : goal.returns-clause-stable
+returns-clause-stable g c = rw c.in_ok-write_synced.ensures.written (stable_untouched _ (λ f. put f.seen 40 c.args.body.now))
