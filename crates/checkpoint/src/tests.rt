@@ -1,8 +1,8 @@
 ghost use Rattle.std.specs.Prelude.{◌<◌};
 
-use crate::{Head, blank, head_of, lay, read_slot, show};
+use crate::{Head, blank, head_of, lay, read_slot, show, shut};
 use batch_rules::verdicts::Rule;
-use disk_model::{LogRefused, MemDisk};
+use disk_model::{Disk, LogRefused, MemDisk};
 use std::alloc::Global;
 use std::fmt::Debug;
 use std::process::Abort;
@@ -105,6 +105,33 @@ fn each_call_fails_in_turn(rt: HostRuntime) -> Result<(), Fail> {
         let (disk, answer) = written(rt.alloc(), call)?;
         same(&rt, &call, &answer, &Err(LogRefused::DiskFault));
         same(&rt, &call, &(disk.calls(), disk.faults()), &(call, 1));
+    }
+    Ok(())
+}
+
+// The checkpoint in slot 1, shut after it was shown, or without having been shown.
+fn shut_again(alloc: Global, shown: bool) -> Result<MemDisk, Fail> {
+    let mut disk = MemDisk::new(alloc, 100, 1000, Vec::new(alloc))?;
+    blank(&mut disk, 1)?;
+    lay(&mut disk, 1, &HEAD, &BODY)?;
+    if shown {
+        show(&mut disk, 1)?;
+        shut(&mut disk, 1)?;
+    } else {
+        shut(&mut disk, 1)?;
+    }
+    Ok(disk)
+}
+
+#[test]
+fn only_an_open_gate_is_closed(rt: HostRuntime) -> Result<(), Fail> {
+    let mut wanted = WRITTEN;
+    wanted[0] = 0;
+    // Seven calls to show it, and then a read, a write and a sync; or five to lay it, and a read.
+    for (shown, calls) in [(true, 10), (false, 6)] {
+        let disk = shut_again(rt.alloc(), shown)?;
+        same(&rt, &shown, &disk.bytes(1), &wanted.as_slice());
+        same(&rt, &shown, &disk.calls(), &calls);
     }
     Ok(())
 }
