@@ -10,7 +10,7 @@ use Rattle.batch_rules.specs.Plays.{Seen, PlayEnd, Finishes, Strays, Played, aft
 use Rattle.proc_lang.specs.declared.ends.End.{End}
 use Rattle.proc_lang.specs.declared.ends.End.TheVariants as end
 use Rattle.proc_lang.specs.declared.ends.Trap.TheVariants.{Many}
-use Rattle.proc_lang.specs.declared.ends.TheConstants.{MOST_ACCESSES}
+use Rattle.proc_lang.specs.declared.limits.TheConstants.{MOST_ACCESSES}
 use Rattle.proc_lang.specs.Meaning.{Frame, Next, Run}
 use Rattle.proc_exec.specs.declared.outcomes.Ran.{Ran}
 use Rattle.proc_exec.specs.declared.outcomes.Ran.TheVariants as ran

@@ -22,7 +22,7 @@ pub fn get<L: Limits, A: Access>(
     state: &mut Running,
     access: &mut A,
 ) -> Result<(), Stop>
-    ensures { (next : Next) → Follows result (L.declared setting.now.limits.now) next state.new (A.seen access.new) (play (L.declared setting.now.limits.now) (step_run setting.now.scope.request.now (step.Get table key.now registers.now) setting.now.scope.item.now next state.old) (A.seen access.old)) }
+    ensures { (next : Next) → Follows result (L.declared setting.now.limits.now) next state.new (A.seen access.new) (play (L.declared setting.now.limits.now) (step_run setting.now.scope.request.now (step.Read step.Traps table key.now registers.now) setting.now.scope.item.now next state.old) (A.seen access.old)) }
 {
     let key = state.key(&setting.scope, table, key)?;
     let Some(row) = fetch(setting.limits, key, state, access)? else {
@@ -42,7 +42,7 @@ pub fn need<L: Limits, A: Access>(
     state: &mut Running,
     access: &mut A,
 ) -> Result<(), Stop>
-    ensures { (next : Next) → Follows result (L.declared setting.now.limits.now) next state.new (A.seen access.new) (play (L.declared setting.now.limits.now) (step_run setting.now.scope.request.now (step.Need table key.now registers.now code) setting.now.scope.item.now next state.old) (A.seen access.old)) }
+    ensures { (next : Next) → Follows result (L.declared setting.now.limits.now) next state.new (A.seen access.new) (play (L.declared setting.now.limits.now) (step_run setting.now.scope.request.now (step.Read (step.Fails code) table key.now registers.now) setting.now.scope.item.now next state.old) (A.seen access.old)) }
 {
     let key = state.key(&setting.scope, table, key)?;
     let Some(row) = fetch(setting.limits, key, state, access)? else {
@@ -62,7 +62,7 @@ pub fn find<L: Limits, A: Access>(
     state: &mut Running,
     access: &mut A,
 ) -> Result<(), Stop>
-    ensures { (next : Next) → Follows result (L.declared setting.now.limits.now) next state.new (A.seen access.new) (play (L.declared setting.now.limits.now) (step_run setting.now.scope.request.now (step.Find table key.now registers.now flag) setting.now.scope.item.now next state.old) (A.seen access.old)) }
+    ensures { (next : Next) → Follows result (L.declared setting.now.limits.now) next state.new (A.seen access.new) (play (L.declared setting.now.limits.now) (step_run setting.now.scope.request.now (step.Read (step.Blanks flag) table key.now registers.now) setting.now.scope.item.now next state.old) (A.seen access.old)) }
 {
     let key = state.key(&setting.scope, table, key)?;
     match fetch(setting.limits, key, state, access)? {

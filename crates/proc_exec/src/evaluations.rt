@@ -3,6 +3,8 @@ ghost use Rattle.std.specs.Prelude.{◌≡◌, ◌&&◌, ◌||◌, ℤ, IfOk, If
 ghost use Rattle.std.specs.declared.result.Result.TheVariants.{Ok};
 ghost use Rattle.std.specs.Fmt.{signed_decimal};
 ghost use Rattle.aria_base.specs.declared.values.Value.TheVariants as value;
+ghost use Rattle.proc_lang.specs.declared.operators.UnaryOp.TheVariants as unary;
+ghost use Rattle.proc_lang.specs.declared.operators.BinaryOp.TheVariants as binary;
 ghost use Rattle.proc_lang.specs.Terms as term;
 ghost use Rattle.proc_lang.specs.TermOf.{term_of};
 ghost use Rattle.proc_lang.specs.Values.{number, both, got, int_of, is_true, same_value, truth};
@@ -181,7 +183,7 @@ fn eval_other(scope: &Scope, registers: &Vec<Value>, expr: &Expr) -> Result<Valu
 #[cycle(evaluating)]
 #[inline(never)]
 fn eval_cat(scope: &Scope, registers: &Vec<Value>, first: &Expr, second: &Expr) -> Result<Value, Fault>
-    ensures { Computes result (value_of scope.now.request.now scope.now.item.now registers.now.items (term.Cat (term_of first.now) (term_of second.now))) }
+    ensures { Computes result (value_of scope.now.request.now scope.now.item.now registers.now.items (term.Binary binary.Cat (term_of first.now) (term_of second.now))) }
 {
     join(scope.alloc, eval_both(scope, registers, first, second)?)
 }
@@ -205,7 +207,7 @@ fn eval_front(
 #[cycle(evaluating)]
 #[inline(never)]
 fn eval_show(scope: &Scope, registers: &Vec<Value>, number: &Expr) -> Result<Value, Fault>
-    ensures { Computes result (value_of scope.now.request.now scope.now.item.now registers.now.items (term.Show (term_of number.now))) }
+    ensures { Computes result (value_of scope.now.request.now scope.now.item.now registers.now.items (term.Unary unary.Show (term_of number.now))) }
 {
     Ok(shown(scope.alloc, int(&eval(scope, registers, number)?))?)
 }

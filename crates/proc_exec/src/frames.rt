@@ -32,7 +32,7 @@ pub struct Running {
 impl Model for Running {
     ghost use Rattle.std.specs.Prelude.{length, ◌≤◌};
     ghost use Rattle.proc_lang.specs.Meaning.{Frame};
-    ghost use Rattle.proc_lang.specs.declared.ends.TheConstants.{MOST_GIVEN};
+    ghost use Rattle.proc_lang.specs.declared.limits.TheConstants.{MOST_GIVEN};
 
     ghost Value = { Frame };
 
