@@ -11,7 +11,8 @@ use Rattle.batch_rules.specs.declared.verdicts.Verdict.TheVariants.{Finish, Wait
 use Rattle.batch_rules.specs.Verdicts.{meets, finishes, goes_ahead, keeps_turn}
 use Rattle.batch_rules.specs.Batches.{placed}
 use Rattle.batch_rules.proofs.Meets.{meets_turned}
-use Rattle.batch_rules.proofs.Pairs.{Pairs, Pairs_middle, All-filtered}
+use Rattle.batch_rules.proofs.Lists.{All-filtered}
+use Rattle.batch_rules.proofs.Pairs.{Pairs, Pairs_middle}
 
 -- the order of those behind a request that finishes is cut in two by it, whether it goes ahead or keeps its turn
 pub placed-cons : {X : Type 0} (verdict_of : X → Verdict) (x : X) (xs : List X)

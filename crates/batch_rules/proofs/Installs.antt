@@ -7,7 +7,7 @@ use Rattle.std.specs.Option.{unwrap_or}
 use Rattle.std.specs.FinMap as fin
 use Rattle.std.specs.FinMap.{FinMap, IsAntisymmetric, find, same_map}
 use Rattle.std.proofs.lemmas.List.Elements.{All-head, All-tail}
-use Rattle.batch_rules.specs.Touches.{is_among, keys_of, overwritten}
+use Rattle.batch_rules.specs.Touches.{is_among, keys_of, overwritten, installed}
 use Rattle.batch_rules.specs.Verdicts.{meets, finishes, goes_ahead, keeps_turn}
 use Rattle.batch_rules.specs.Trees.{Tree}
 use Rattle.batch_rules.specs.Batches.{Judged, placed, reads_at, rows_at, writes_at, after_commit}
@@ -38,10 +38,24 @@ module _ {K V : Type 0} {R : K → K → Ordering} (o : IsTotalOrder R) (anti : 
   overwritten_swap db a b e = same_map o anti _ _ (λ q. get-overwritten o (overwritten db a) b q ∙ ap (unwrap_or (find R q b)) (get-overwritten o db a q) ∙ swap_rows a b q (fin.get db q) e
       ∙ sym (get-overwritten o (overwritten db b) a q ∙ ap (unwrap_or (find R q a)) (get-overwritten o db b q)))
 
-module _ {K V X : Type 0} {R : K → K → Ordering} (rows : X → List (K × Option V)) where
-  abbrev pub installed : FinMap R V → List X → FinMap R V
-  installed db [] = db
-  installed db (x ∷ xs) = installed (overwritten db (rows x)) xs
+module _ {K V X : Type 0} {R : K → K → Ordering} where
+  pub installed_same : (f g : X → List (K × Option V)) (m : FinMap R V) (xs : List X) → All (λ x. f x ≡ g x) xs → installed f m xs ≡ installed g m xs
+  installed_same f g m [] a = refl
+  installed_same f g m (x ∷ xs) a = ap (λ rows. installed f (overwritten m rows) xs) (All-head (λ x. f x ≡ g x) x xs a)
+      ∙ installed_same f g (overwritten m (g x)) xs (All-tail (λ x. f x ≡ g x) x xs a)
+
+module _ {K V X : Type 0} {R : K → K → Ordering} (o : IsTotalOrder R) (anti : IsAntisymmetric R) where
+  -- rows that meet none of theirs may be installed before them
+  pub installed_swap : (f : X → List (K × Option V)) (m : FinMap R V) (rows : List (K × Option V)) (xs : List X) → All (λ x. meets R (keys_of rows) (keys_of (f x)) ≡ false) xs
+      → installed f (overwritten m rows) xs ≡ overwritten (installed f m xs) rows
+  installed_swap f m rows [] a = refl
+  installed_swap f m rows (x ∷ xs) a = ap (λ m. installed f m xs) (overwritten_swap o anti m rows (f x) (All-head (λ x. meets R (keys_of rows) (keys_of (f x)) ≡ false) x xs a))
+      ∙ installed_swap f (overwritten m (f x)) rows xs (All-tail (λ x. meets R (keys_of rows) (keys_of (f x)) ≡ false) x xs a)
+
+  pub installed_apart : (f : X → List (K × Option V)) (m : FinMap R V) (q : K) (xs : List X) → All (λ x. is_among R (keys_of (f x)) q ≡ false) xs → fin.get (installed f m xs) q ≡ fin.get m q
+  installed_apart f m q [] a = refl
+  installed_apart f m q (x ∷ xs) a = installed_apart f (overwritten m (f x)) q xs (All-tail (λ x. is_among R (keys_of (f x)) q ≡ false) x xs a)
+      ∙ get-apart o anti m (f x) q (All-head (λ x. is_among R (keys_of (f x)) q ≡ false) x xs a)
 
 module _ {K V X : Type 0} {R : K → K → Ordering} (o : IsTotalOrder R) (anti : IsAntisymmetric R) (rows : X → List (K × Option V)) where
   -- rows that have no key in common with those before them can be moved to the front

@@ -1,5 +1,5 @@
 -- What a verdict says of each earlier request.
-use Rattle.std.proofs.Common.{◌≡◌, ℕ, zero, suc, ◌+◌, ◌<◌, List, [], ◌∷◌, ◌++◌, map, length, take, Bool, true, false, cond, Some, None, Option, refl, sym, ap, ◌∙◌, subst, Ordering, arith}
+use Rattle.std.proofs.Common.{◌≡◌, ℕ, zero, suc, ◌+◌, ◌<◌, List, [], ◌∷◌, ◌++◌, length, take, Bool, true, false, cond, Some, None, Option, refl, sym, ap, ◌∙◌, subst, Ordering, arith}
 use Rattle.std.specs.Prelude.{◌||◌, is_some, slice_index_or}
 use Rattle.std.specs.List.{All, list_any, position_from}
 use Rattle.std.specs.FinMap.{FinMap}
@@ -10,16 +10,16 @@ use Rattle.std.proofs.lemmas.List.Folds.{list_any-append}
 use Rattle.batch_rules.specs.declared.verdicts.Rule.{Rule}
 use Rattle.batch_rules.specs.declared.verdicts.Rule.TheVariants.{Plain, Reorder}
 use Rattle.batch_rules.specs.Trees.{Tree}
-use Rattle.batch_rules.specs.Verdicts.{finishes, goes_ahead, keeps_turn, cause_of, verdict_by, least, has_waw, has_raw, has_war, verdict}
+use Rattle.batch_rules.specs.Verdicts.{finishes, goes_ahead, keeps_turn, verdict_by, least, by_keys}
 use Rattle.batch_rules.specs.Batches.{Judged, reads_at, writes_at, judge, judged}
 use Rattle.batch_rules.proofs.Commits.{IsClean}
 use Rattle.batch_rules.proofs.Pairs.{Pairs}
 
-finish_waw : (rule : Rule) (waw raw war : Option ℕ) → finishes (verdict_by (cause_of rule waw raw war) (is_some raw)) ≡ true → is_some waw ≡ false
+finish_waw : (rule : Rule) (waw raw war : Option ℕ) → finishes (verdict_by rule waw raw war) ≡ true → is_some waw ≡ false
 finish_waw rule (Some j) raw war e = sym e
 finish_waw rule None raw war e = refl
 
-ahead_war : (rule : Rule) (waw raw war : Option ℕ) → goes_ahead (verdict_by (cause_of rule waw raw war) (is_some raw)) ≡ true → is_some war ≡ false
+ahead_war : (rule : Rule) (waw raw war : Option ℕ) → goes_ahead (verdict_by rule waw raw war) ≡ true → is_some war ≡ false
 ahead_war rule (Some i) raw war e = cc
 ahead_war Plain None (Some j) war e = cc
 ahead_war Plain None None war e = cc
@@ -27,7 +27,7 @@ ahead_war Reorder None None war e = cc
 ahead_war Reorder None (Some j) (Some k) e = cc
 ahead_war Reorder None (Some j) None e = refl
 
-turn_raw : (rule : Rule) (waw raw war : Option ℕ) → keeps_turn (verdict_by (cause_of rule waw raw war) (is_some raw)) ≡ true → is_some raw ≡ false
+turn_raw : (rule : Rule) (waw raw war : Option ℕ) → keeps_turn (verdict_by rule waw raw war) ≡ true → is_some raw ≡ false
 turn_raw rule (Some i) raw war e = cc
 turn_raw rule None None war e = refl
 turn_raw Plain None (Some j) war e = sym e
@@ -45,9 +45,9 @@ module _ {S : Type 0} (holds : S → Bool) where
 module _ {K V Q A : Type 0} {R : K → K → Ordering} (is_done : A → Bool) (tree : Q → Tree K V A) (rule : Rule) (start : FinMap R V) where
   clean : (us : List Q) (x : Judged Q) (vs : List Q) (q : Q) → IsClean R (λ d. d.verdict) (λ d. reads_at is_done tree start d.request) (λ d. writes_at is_done tree start d.request) x (judge is_done tree rule start (us ++ x.request ∷ vs) q)
   clean us x vs q = record {
-    waw = λ e. none_holds (has_waw R (reads_at is_done tree start) (writes_at is_done tree start) q) us x.request vs (finish_waw rule _ _ _ e);
-    war = λ e. none_holds (has_war R (reads_at is_done tree start) (writes_at is_done tree start) q) us x.request vs (ahead_war rule _ _ _ e);
-    raw = λ e. none_holds (has_raw R (reads_at is_done tree start) (writes_at is_done tree start) q) us x.request vs (turn_raw rule _ _ _ e);
+    waw = λ e. none_holds ((by_keys R (reads_at is_done tree start) (writes_at is_done tree start)).waw q) us x.request vs (finish_waw rule _ _ _ e);
+    war = λ e. none_holds ((by_keys R (reads_at is_done tree start) (writes_at is_done tree start)).war q) us x.request vs (ahead_war rule _ _ _ e);
+    raw = λ e. none_holds ((by_keys R (reads_at is_done tree start) (writes_at is_done tree start)).raw q) us x.request vs (turn_raw rule _ _ _ e);
   }
 
   clean_of : (us : List Q) (x : Judged Q) (vs list : List Q) → All (IsClean R (λ d. d.verdict) (λ d. reads_at is_done tree start d.request) (λ d. writes_at is_done tree start d.request) x) (judged is_done tree rule start (us ++ x.request ∷ vs) list)
@@ -72,13 +72,3 @@ module _ {K V Q A : Type 0} {R : K → K → Ordering} (is_done : A → Bool) (t
   judged-at earlier [] i d below = absurd (omega arith)
   judged-at earlier (x ∷ xs) zero d below = ap (λ l. judge is_done tree rule start l x) (sym (append-nil earlier))
   judged-at earlier (x ∷ xs) (suc i) d below = judged-at (earlier ++ x ∷ []) xs i d (omega arith) ∙ ap (λ l. judge is_done tree rule start l (slice_index_or xs i d.request)) (append_assoc earlier (x ∷ []) (take i xs))
-
--- a verdict on values is the verdict on what they are made of
-module _ {K S Z : Type 0} (R : K → K → Ordering) (reads writes : S → List K) (of : Z → S) where
-  position_from-map : (holds : S → Bool) (i : ℕ) (xs : List Z) → position_from holds i (map of xs) ≡ position_from (λ z. holds (of z)) i xs
-  position_from-map holds i [] = refl
-  position_from-map holds i (x ∷ xs) = ap (cond (holds (of x)) (Some i)) (position_from-map holds (i + 1) xs)
-
-  pub verdict-map : (rule : Rule) (earlier : List Z) (me : Z) → verdict R reads writes rule (map of earlier) (of me) ≡ verdict R (λ z. reads (of z)) (λ z. writes (of z)) rule earlier me
-  verdict-map rule earlier me = λ i. verdict_by (cause_of rule (position_from-map (has_waw R reads writes (of me)) 1 earlier i) (position_from-map (has_raw R reads writes (of me)) 1 earlier i) (position_from-map (has_war R reads writes (of me)) 1 earlier i))
-      (is_some (position_from-map (has_raw R reads writes (of me)) 1 earlier i))

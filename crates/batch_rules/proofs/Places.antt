@@ -12,7 +12,7 @@ use Rattle.batch_rules.specs.declared.verdicts.Rule.{Rule}
 use Rattle.batch_rules.specs.declared.verdicts.Rule.TheVariants.{Plain, Reorder}
 use Rattle.batch_rules.specs.declared.verdicts.Verdict.TheVariants.{Finish}
 use Rattle.batch_rules.specs.Trees.{Tree, end_of}
-use Rattle.batch_rules.specs.Verdicts.{finishes, goes_ahead, keeps_turn, cause_of, verdict_by}
+use Rattle.batch_rules.specs.Verdicts.{finishes, goes_ahead, keeps_turn, verdict_by}
 use Rattle.batch_rules.specs.Batches.{Entry, has_ended, is_late, is_carried, ordered, carried, judge, judged, after_commit, late_runs, fate_at, map_at, entries_from, batch}
 use Rattle.batch_rules.specs.Laws.{EachOnce, Progress}
 use Rattle.batch_rules.proofs.Commits.{placed-cons}
@@ -43,7 +43,7 @@ module _ {K Q A : Type 0} where
   parted (e ∷ es) a = subst (λ l. IsPermutation ((l ++ filter is_late (e ∷ es)) ++ carried (e ∷ es)) (e ∷ es)) (sym (placed-cons (λ e. e.judged.verdict) e es))
       (put_somewhere e es (reverse (filter (λ e. goes_ahead e.judged.verdict) es)) (filter (λ e. keeps_turn e.judged.verdict) es) (filter is_late es) (carried es) (finishes e.judged.verdict) (has_ended e.fate) (All-head ends_if_finishes e es a) (parted es (All-tail ends_if_finishes e es a)))
 
-first_verdict : (rule : Rule) → verdict_by (cause_of rule None None None) false ≡ Finish false
+first_verdict : (rule : Rule) → verdict_by rule None None None ≡ Finish false
 first_verdict Plain = refl
 first_verdict Reorder = refl
 
@@ -104,10 +104,10 @@ module _ {K V Q A : Type 0} {R : K → K → Ordering} (is_done : A → Bool) (t
       let ds = judged is_done tree rule start [] (first ∷ rest) in
       let again = late_runs percent ds in
       let db = after_commit is_done tree start start ds in
-      let next = map_at is_done tree again start db first (verdict_by (cause_of rule None None None) false) in
+      let next = map_at is_done tree again start db first (verdict_by rule None None None) in
       let behind = carried (entries_from is_done tree again start next (judged is_done tree rule start (first ∷ []) rest)) in
       let same : carried (entries_from is_done tree again start db ds) ≡ behind
-      = ap (λ v. cond (if has_ended (fate_at is_done tree again start db first v) then false else true) (record { judged = judge is_done tree rule start [] first; fate = fate_at is_done tree again start db first (verdict_by (cause_of rule None None None) false) } ∷ behind) behind) (first_verdict rule) in record {
+      = ap (λ v. cond (if has_ended (fate_at is_done tree again start db first v) then false else true) (record { judged = judge is_done tree rule start [] first; fate = fate_at is_done tree again start db first (verdict_by rule None None None) } ∷ behind) behind) (first_verdict rule) in record {
         ends = ap (λ v. Some (fate_at is_done tree again start db first v)) (first_verdict rule);
         fewer = subst (λ l. length l < length (first ∷ rest)) (sym same) (let h = few is_done tree again rule start (first ∷ []) rest next in omega arith);
         sooner = subst (λ l. (i : ℕ) (d : Entry K Q A) → i < length l → i + 1 < (slice_index_or l i d).judged.tid) (sym same) (λ i d below. let h = (above 1 _ (numbered_after is_done tree again rule start (first ∷ []) rest next)).at i d below in omega arith);

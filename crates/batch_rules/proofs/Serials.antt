@@ -7,13 +7,13 @@ use Rattle.std.specs.FinMap.{FinMap, IsAntisymmetric}
 use Rattle.std.proofs.lemmas.List.Elements.{All-head, All-tail}
 use Rattle.batch_rules.specs.declared.verdicts.Verdict.{Verdict}
 use Rattle.batch_rules.specs.Trees.{Tree, end_of}
-use Rattle.batch_rules.specs.Touches.{overwritten, map_after}
+use Rattle.batch_rules.specs.Touches.{overwritten, installed, map_after}
 use Rattle.batch_rules.specs.Laws.{AgreeOn}
 use Rattle.batch_rules.specs.Batches.{reads_at, rows_at, writes_at}
 use Rattle.batch_rules.specs.Serials.{serial_ends, serial_map}
 use Rattle.batch_rules.proofs.Agree.{agreement}
 use Rattle.batch_rules.proofs.Commits.{IsApart}
-use Rattle.batch_rules.proofs.Installs.{installed, get-apart}
+use Rattle.batch_rules.proofs.Installs.{get-apart}
 use Rattle.batch_rules.proofs.Maps.{map_after-is}
 use Rattle.batch_rules.proofs.Meets.{apart_at}
 use Rattle.batch_rules.proofs.Pairs.{Pairs}

@@ -11,11 +11,11 @@ use Rattle.batch_rules.specs.declared.verdicts.Rule.TheVariants.{Plain, Reorder}
 use Rattle.batch_rules.specs.declared.verdicts.Cause.TheVariants.{Waw, Raw, Both}
 use Rattle.batch_rules.specs.declared.verdicts.Verdict.{Verdict}
 use Rattle.batch_rules.specs.declared.verdicts.Verdict.TheVariants.{Finish, Wait}
-use Rattle.batch_rules.specs.Verdicts.{finishes, meets, has_waw, has_raw, has_war, verdict}
+use Rattle.batch_rules.specs.Verdicts.{Dependencies, finishes, meets, verdict_on}
 use Rattle.batch_rules.specs.Batches.{Judged, Entry, Batch, Ended, ordered, carried, rows_at, writes_at, after_commit}
 use Rattle.batch_rules.specs.Serials.{serial_ends, serial_map}
 use Rattle.batch_rules.specs.Trees.{Tree, trace_of, end_of}
-use Rattle.batch_rules.specs.Touches.{Declared, is_among, may_read, reads_of, writes_of, map_after, outside, overwritten}
+use Rattle.batch_rules.specs.Touches.{Declared, keys_of, is_among, may_read, may_write, reads_of, writes_of, map_after, outside, overwritten}
 
 module _ {K V : Type 0} {R : K → K → Ordering} where
   -- the databases have the same row, or none, at each of the keys
@@ -32,6 +32,15 @@ pub record SameRun {K V A : Type 0} {R : K → K → Ordering} (is_done : A → 
   pub end : end_of t m ≡ end_of t n
   pub writes : writes_of is_done t m ≡ writes_of is_done t n
 
+-- a run writes declared keys alone, and leaves all others as they were
+pub record IsConfined {K V A : Type 0} {R : K → K → Ordering} (is_done : A → Bool) (t : Tree K V A) (declared : Declared K) (db : FinMap R V) : Type 0 where
+  pub keys : (k : K) → is_among R (keys_of (writes_of is_done t db)) k ≡ true → may_write R declared k ≡ true
+  pub rest : (k : K) → may_write R declared k ≡ false → fin.get (map_after is_done t db) k ≡ fin.get db k
+
+-- where two databases agree within the declared keys, the first access outside them, if there is one, is at the same key on both
+abbrev pub SameStray : {K V A : Type 0} {R : K → K → Ordering} → Tree K V A → Declared K → FinMap R V → FinMap R V → Type 0
+SameStray {R = R} t declared m n = AgreeWithin declared m n → outside R declared (trace_of t m) ≡ outside R declared (trace_of t n)
+
 module _ {K V A : Type 0} {R : K → K → Ordering} (is_done : A → Bool) (t : Tree K V A) where
   -- where two databases agree on the read set of the run on the first, both give the same run
   abbrev pub Agreement : FinMap R V → FinMap R V → Type 0
@@ -44,6 +53,10 @@ module _ {K V A : Type 0} {R : K → K → Ordering} (is_done : A → Bool) (t :
   -- where no access lies outside the declared keys, what stands at other keys cannot matter, and none lies outside on them either
   abbrev pub Outside : Declared K → FinMap R V → FinMap R V → Type 0
   Outside declared m n = outside R declared (trace_of t m) ≡ None → AgreeWithin declared m n → SameRun is_done t m n × (outside R declared (trace_of t n) ≡ None)
+
+  -- where no access lies outside the declared keys, the run is confined to them
+  abbrev pub Confined : Declared K → FinMap R V → Type 0
+  Confined declared db = outside R declared (trace_of t db) ≡ None → IsConfined is_done t declared db
 
 module _ {K V Q A : Type 0} {R : K → K → Ordering} (is_done : A → Bool) (tree : Q → Tree K V A) where
   -- no two requests that finish in the commit phase write a common key
@@ -85,19 +98,29 @@ Meeting {K} R xs ys = (meets R xs ys ≡ true) ↔ ((k : K) × (is_among R xs k 
 abbrev pub IsLeast : {S : Type 0} → (S → Bool) → List S → Option ℕ → Type 0
 IsLeast holds items r = IsFirst (λ j. IsSomeAnd (slice_get items (j - 1)) (λ item. holds item ≡ true)) 1 (length items + 1) r
 
-module _ {K S : Type 0} (R : K → K → Ordering) (reads writes : S → List K) (earlier : List S) (me : S) where
+module _ {S : Type 0} (on : Dependencies S) (earlier : List S) (me : S) where
   -- What a verdict says. It finishes without a dependency by which it would have to wait, and tells whether it read what an earlier
   -- request writes; or it waits, and the cause names the least request on which there is the dependency.
   abbrev pub Says : Rule → Verdict → Type 0
-  Says Plain (Finish raw) = (raw ≡ false) × IsLeast (has_waw R reads writes me) earlier None × IsLeast (has_raw R reads writes me) earlier None
-  Says Reorder (Finish false) = IsLeast (has_waw R reads writes me) earlier None × IsLeast (has_raw R reads writes me) earlier None
-  Says Reorder (Finish true) = IsLeast (has_waw R reads writes me) earlier None × IsLeast (has_war R reads writes me) earlier None × ((j : ℕ) × IsLeast (has_raw R reads writes me) earlier (Some j))
-  Says rule (Wait (Waw j)) = IsLeast (has_waw R reads writes me) earlier (Some j)
-  Says rule (Wait (Raw j)) = (rule ≡ Plain) × IsLeast (has_waw R reads writes me) earlier None × IsLeast (has_raw R reads writes me) earlier (Some j)
-  Says rule (Wait (Both j k)) = (rule ≡ Reorder) × IsLeast (has_waw R reads writes me) earlier None × IsLeast (has_raw R reads writes me) earlier (Some j) × IsLeast (has_war R reads writes me) earlier (Some k)
+  Says Plain (Finish raw) = (raw ≡ false) × IsLeast (on.waw me) earlier None × IsLeast (on.raw me) earlier None
+  Says Reorder (Finish false) = IsLeast (on.waw me) earlier None × IsLeast (on.raw me) earlier None
+  Says Reorder (Finish true) = IsLeast (on.waw me) earlier None × IsLeast (on.war me) earlier None × ((j : ℕ) × IsLeast (on.raw me) earlier (Some j))
+  Says rule (Wait (Waw j)) = IsLeast (on.waw me) earlier (Some j)
+  Says rule (Wait (Raw j)) = (rule ≡ Plain) × IsLeast (on.waw me) earlier None × IsLeast (on.raw me) earlier (Some j)
+  Says rule (Wait (Both j k)) = (rule ≡ Reorder) × IsLeast (on.waw me) earlier None × IsLeast (on.raw me) earlier (Some j) × IsLeast (on.war me) earlier (Some k)
 
   abbrev pub VerdictLaw : Rule → Type 0
-  VerdictLaw rule = Says rule (verdict R reads writes rule earlier me)
+  VerdictLaw rule = Says rule (verdict_on on rule earlier me)
+
+-- place by place, `me` has the same dependencies on the requests before it as `you`, whatever they are told by
+pub record SameDependencies {S Z : Type 0} (on : Dependencies S) (earlier : List S) (me : S) (also : Dependencies Z) (others : List Z) (you : Z) : Type 0 where
+  pub waw : map (on.waw me) earlier ≡ map (also.waw you) others
+  pub raw : map (on.raw me) earlier ≡ map (also.raw you) others
+  pub war : map (on.war me) earlier ≡ map (also.war you) others
+
+-- equal dependencies give equal verdicts
+abbrev pub SameVerdict : {S Z : Type 0} (on : Dependencies S) → List S → S → Dependencies Z → List Z → Z → Rule → Type 0
+SameVerdict on earlier me also others you rule = SameDependencies on earlier me also others you → verdict_on on rule earlier me ≡ verdict_on also rule others you
 
 -- the numbers of a cause are those of requests before number n
 abbrev pub CauseBelow : ℕ → Verdict → Type 0

@@ -8,10 +8,11 @@ ghost use Rattle.std.specs.FinMap.{FinMap, IsAntisymmetric};
 ghost use Rattle.std.specs.declared.cmp.Ordering.{Ordering};
 ghost use Rattle.batch_rules.specs.Trees.{Tree, end_of};
 ghost use Rattle.batch_rules.specs.Touches.{Declared};
-ghost use Rattle.batch_rules.specs.Verdicts.{least};
+ghost use Rattle.batch_rules.specs.Verdicts.{Dependencies, least};
 ghost use Rattle.batch_rules.specs.Batches.{judged, batch};
-ghost use Rattle.batch_rules.specs.Laws.{Agreement, Frame, Outside, OneWriter, AfterCommit, SerialLaw, EachOnce, Progress, Meeting, IsLeast, VerdictLaw, WaitsForEarlier};
-ghost use Rattle.batch_rules.specs.Waves.{IsInWaves};
+ghost use Rattle.batch_rules.specs.Laws.{Agreement, Frame, Outside, SameStray, Confined, OneWriter, AfterCommit, SerialLaw, EachOnce, Progress, Meeting, IsLeast, VerdictLaw, SameVerdict, WaitsForEarlier};
+ghost use Rattle.batch_rules.specs.Numberings.{IsOneToOneOn, place_in, NumbersDecide};
+ghost use Rattle.batch_rules.specs.Waves.{ConflictsBothWays, IsInWaves};
 ghost use Rattle.batch_rules.specs.declared.verdicts.Rule.{Rule};
 
 /// Where two databases agree on the read set of a run on the first, the run on the second has the same accesses, the same end and
@@ -28,6 +29,16 @@ pub fn frame<K, V, A>()
 /// Where no access of a run lies outside declared keys, what stands at all other keys cannot matter to it.
 pub fn outside<K, V, A>()
     ensures { (R : K → K → Ordering) → IsTotalOrder R → IsAntisymmetric R → (is_done : A → Bool) (t : Tree K V A) (declared : Declared K) (m n : FinMap R V) → Outside is_done t declared m n }
+{}
+
+/// Where two databases agree within declared keys, a run's first access outside them is the same on both.
+pub fn same_stray<K, V, A>()
+    ensures { (R : K → K → Ordering) → IsTotalOrder R → (t : Tree K V A) (declared : Declared K) (m n : FinMap R V) → SameStray t declared m n }
+{}
+
+/// A run with no access outside declared keys changes declared writes alone.
+pub fn confined<K, V, A>()
+    ensures { (R : K → K → Ordering) → IsTotalOrder R → IsAntisymmetric R → (is_done : A → Bool) (t : Tree K V A) (declared : Declared K) (db : FinMap R V) → Confined is_done t declared db }
 {}
 
 /// No two requests that finish in the commit phase write a common key.
@@ -67,13 +78,33 @@ pub fn least_holder<S>()
 {}
 
 /// The verdict says of the earlier requests what each rule is made of.
-pub fn verdict_law<K, S>()
-    ensures { (R : K → K → Ordering) (reads writes : S → List K) (earlier : List S) (me : S) (rule : Rule) → VerdictLaw R reads writes earlier me rule }
+pub fn verdict_law<S>()
+    ensures { (on : Dependencies S) (earlier : List S) (me : S) (rule : Rule) → VerdictLaw on earlier me rule }
+{}
+
+/// Requests with equal dependencies have equal verdicts, whatever the dependencies are told by.
+pub fn same_verdict<S, Z>()
+    ensures { (on : Dependencies S) (earlier : List S) (me : S) (also : Dependencies Z) (others : List Z) (you : Z) (rule : Rule) → SameVerdict on earlier me also others you rule }
+{}
+
+/// Numbers that are equal exactly where the touched keys are give the verdict by the keys.
+pub fn numbers_decide<K, S>()
+    ensures { (R : K → K → Ordering) (keys : List K) (number : K → ℕ) (reads writes : S → List K) (earlier : List S) (me : S) (rule : Rule) → NumbersDecide R keys number reads writes earlier me rule }
+{}
+
+/// Places in a list of keys are such numbers, also where a key stands there twice.
+pub fn places_one_to_one<K>()
+    ensures { (R : K → K → Ordering) → IsTotalOrder R → (keys : List K) → IsOneToOneOn R keys (place_in R keys) }
 {}
 
 /// A request waits for earlier ones alone.
 pub fn waits_for_earlier<K, V, Q, A>()
     ensures { (R : K → K → Ordering) (is_done : A → Bool) (tree : Q → Tree K V A) (rule : Rule) (start : FinMap R V) (list : List Q) → WaitsForEarlier (judged is_done tree rule start [] list) }
+{}
+
+/// A request conflicts with those that conflict with it.
+pub fn conflicts_both_ways<K>()
+    ensures { (R : K → K → Ordering) → IsTotalOrder R → IsAntisymmetric R → (a b : Declared K) → ConflictsBothWays R a b }
 {}
 
 /// The late fold may run in waves: requests that do not conflict all run on one database, and then their rows are installed.

@@ -5,13 +5,15 @@
 //! follows: above all, that running the requests of the printed order one after the other gives what the batch gave.
 //!
 //! ```text
-//!     Trees      a request: ends, or reads and goes on, or writes and goes on
-//!     Touches    what a run reads and leaves, and its first access outside declared keys
-//!     Plays      the run step by step, as an interpreter makes it
-//!     Verdicts   who depends on whom, and who waits for whom
-//!     Batches    the answer of a batch; its printed order
-//!     Serials    one request after the other
-//!     Laws       what is proved of them
+//!     Trees       a request: ends, or reads and goes on, or writes and goes on
+//!     Touches     what a run reads and leaves, and its first access outside declared keys
+//!     Plays       the run step by step, as an interpreter makes it
+//!     Verdicts    who depends on whom, and who waits for whom
+//!     Numberings  numbers in the place of keys
+//!     Batches     the answer of a batch; its printed order
+//!     Waves       the late fold by waves of requests that do not conflict
+//!     Serials     one request after the other
+//!     Laws        what is proved of them
 //! ```
 //!
 //! The definitions stand in specs/, and there is no code but the three types of `verdicts`.
