@@ -1,9 +1,8 @@
 -- What a verdict says in words.
-use Rattle.std.proofs.Common.{◌≡◌, ℕ, zero, suc, inl, inr, ◌+◌, ◌-◌, ◌<◌, ◌≤◌, List, [], ◌∷◌, ◌++◌, length, Bool, true, false, cond, Some, None, Option, refl, sym, ap, ◌∙◌, subst, Ordering, arith}
+use Rattle.std.proofs.Common.{◌≡◌, ℕ, zero, suc, inl, inr, ◌+◌, ◌-◌, ◌<◌, ◌≤◌, List, [], ◌∷◌, ◌++◌, length, Bool, true, false, cond, Some, None, Option, refl, sym, ap, ◌∙◌, subst, arith}
 use Rattle.std.specs.Prelude.{IsSomeAnd, slice_get}
 use Rattle.std.specs.List.{All, position_from}
 use Rattle.std.specs.Str.TwoWay.{IsFirst, Nowhere}
-use Rattle.std.specs.FinMap.{FinMap}
 use Rattle.std.proofs.lemmas.Bool.{cases_lt, false≢true}
 use Rattle.std.proofs.lemmas.List.Elements.{All-nil, All-cons}
 use Rattle.batch_rules.specs.declared.verdicts.Rule.{Rule}
@@ -11,9 +10,8 @@ use Rattle.batch_rules.specs.declared.verdicts.Rule.TheVariants.{Plain, Reorder}
 use Rattle.batch_rules.specs.declared.verdicts.Cause.TheVariants.{Waw, Raw, Both}
 use Rattle.batch_rules.specs.declared.verdicts.Verdict.{Verdict}
 use Rattle.batch_rules.specs.declared.verdicts.Verdict.TheVariants.{Finish, Wait}
-use Rattle.batch_rules.specs.Trees.{Tree}
-use Rattle.batch_rules.specs.Verdicts.{Dependencies, verdict_by, least, verdict_on, by_keys}
-use Rattle.batch_rules.specs.Batches.{Judged, reads_at, writes_at, judged}
+use Rattle.batch_rules.specs.Verdicts.{Dependencies, verdict_by, least, verdict_on}
+use Rattle.batch_rules.specs.Batches.{Judged, judged}
 use Rattle.batch_rules.specs.Laws.{IsLeast, Says, VerdictLaw, CauseBelow, WaitsForEarlier}
 
 module _ {S : Type 0} (holds : S → Bool) where
@@ -69,10 +67,10 @@ module _ {S : Type 0} (on : Dependencies S) (earlier : List S) (me : S) where
   pub cause_below : (rule : Rule) → CauseBelow (length earlier + 1) (verdict_on on rule earlier me)
   cause_below rule = below rule _ (verdict_says rule)
 
-module _ {K V Q A : Type 0} {R : K → K → Ordering} (is_done : A → Bool) (tree : Q → Tree K V A) (rule : Rule) (start : FinMap R V) where
-  waits_after : (earlier list : List Q) → All (λ d. CauseBelow d.tid d.verdict) (judged is_done tree rule start earlier list)
-  waits_after earlier [] = All-nil (λ (d : Judged Q). CauseBelow d.tid d.verdict)
-  waits_after earlier (q ∷ qs) = All-cons (λ (d : Judged Q). CauseBelow d.tid d.verdict) _ _ (cause_below (by_keys R (reads_at is_done tree start) (writes_at is_done tree start)) earlier q rule) (waits_after (earlier ++ q ∷ []) qs)
+module _ {O : Type 0} (on : Dependencies O) (rule : Rule) where
+  waits_after : (earlier list : List O) → All (λ d. CauseBelow d.tid d.verdict) (judged on rule earlier list)
+  waits_after earlier [] = All-nil (λ (d : Judged O). CauseBelow d.tid d.verdict)
+  waits_after earlier (o ∷ os) = All-cons (λ (d : Judged O). CauseBelow d.tid d.verdict) _ _ (cause_below on earlier o rule) (waits_after (earlier ++ o ∷ []) os)
 
-  pub waits_for_earlier : (list : List Q) → WaitsForEarlier (judged is_done tree rule start [] list)
+  pub waits_for_earlier : (list : List O) → WaitsForEarlier (judged on rule [] list)
   waits_for_earlier list = waits_after [] list

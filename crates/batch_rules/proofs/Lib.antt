@@ -1,11 +1,12 @@
 pub mod Agree
+pub mod Carriers
 pub mod Causes
 mod Commits
 mod Examples
 pub mod Fates
 pub mod Installs
 pub mod Judges
-pub mod Lates
+pub mod Keeping
 pub mod Lists
 pub mod Maps
 pub mod Meets

@@ -13,6 +13,7 @@ use Rattle.batch_rules.specs.Batches.{late_fate, late_map, late_fates, late_left
 use Rattle.batch_rules.specs.Verdicts.{meets}
 use Rattle.batch_rules.specs.Laws.{AgreeWithin}
 use Rattle.batch_rules.specs.Waves.{late_rows, conflicts, ConflictsBothWays, Waved, wave_behind, waved, found, wave_fates, IsInWaves}
+use Rattle.batch_rules.proofs.Carriers.{fates_map, left_map}
 use Rattle.batch_rules.proofs.Installs.{get-apart, installed_same, installed_swap, installed_apart}
 use Rattle.batch_rules.proofs.Lists.{All-filtered, map_same}
 use Rattle.batch_rules.proofs.Maps.{same_key}
@@ -214,16 +215,6 @@ module _ {K W : Type 0} {R : K → K → Ordering} (o : IsTotalOrder R) (anti : 
   pub items-waved : (earlier : List (Waved W)) (ws : List W) → map (λ e. e.item) (waved R declared_of earlier ws) ≡ ws
   items-waved earlier [] = refl
   items-waved earlier (w ∷ ws) = ap (λ rest. w ∷ rest) (items-waved (record { wave = wave_behind R declared_of earlier w; item = w } ∷ earlier) ws)
-
--- the late fold over images
-module _ {K V W X A : Type 0} {R : K → K → Ordering} (is_done : A → Bool) (declared_of : W → Declared K) (tree : W → Tree K V A) (f : X → W) where
-  fates_map : (db : FinMap R V) (xs : List X) → late_fates is_done (λ x. declared_of (f x)) (λ x. tree (f x)) db xs ≡ late_fates is_done declared_of tree db (map f xs)
-  fates_map db [] = refl
-  fates_map db (x ∷ xs) = ap (λ fates. late_fate (declared_of (f x)) (tree (f x)) db ∷ fates) (fates_map (late_map is_done (declared_of (f x)) (tree (f x)) db) xs)
-
-  left_map : (db : FinMap R V) (xs : List X) → late_left is_done (λ x. declared_of (f x)) (λ x. tree (f x)) db xs ≡ late_left is_done declared_of tree db (map f xs)
-  left_map db [] = refl
-  left_map db (x ∷ xs) = left_map (late_map is_done (declared_of (f x)) (tree (f x)) db) xs
 
 module _ {K V W A : Type 0} {R : K → K → Ordering} (o : IsTotalOrder R) (anti : IsAntisymmetric R) (is_done : A → Bool) (declared_of : W → Declared K) (tree : W → Tree K V A) where
   pub waves_law : (db : FinMap R V) (ws : List W) → IsInWaves is_done declared_of tree db ws

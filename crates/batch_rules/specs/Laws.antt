@@ -1,5 +1,5 @@
 -- The laws of a batch, as sentences over the definitions.
-use Rattle.std.specs.Prelude.{◌≡◌, ◌↔◌, ⊤, ℕ, ◌+◌, ◌-◌, ◌<◌, ◌≤◌, List, ◌++◌, map, length, slice_index_or, Option, Some, None, Bool, true, false, IsSomeAnd, slice_get}
+use Rattle.std.specs.Prelude.{◌≡◌, ◌↔◌, ⊤, ℕ, ◌+◌, ◌-◌, ◌<◌, ◌≤◌, List, [], ◌++◌, map, length, slice_index_or, Option, Some, None, Bool, true, false, IsSomeAnd, slice_get}
 use Rattle.std.specs.declared.cmp.Ordering.{Ordering}
 use Rattle.std.specs.FinMap as fin
 use Rattle.std.specs.FinMap.{FinMap, find}
@@ -12,7 +12,7 @@ use Rattle.batch_rules.specs.declared.verdicts.Cause.TheVariants.{Waw, Raw, Both
 use Rattle.batch_rules.specs.declared.verdicts.Verdict.{Verdict}
 use Rattle.batch_rules.specs.declared.verdicts.Verdict.TheVariants.{Finish, Wait}
 use Rattle.batch_rules.specs.Verdicts.{Dependencies, finishes, meets, verdict_on}
-use Rattle.batch_rules.specs.Batches.{Judged, Entry, Batch, Ended, ordered, carried, rows_at, writes_at, after_commit}
+use Rattle.batch_rules.specs.Batches.{Carrier, Judged, Entry, Batch, Ended, ordered, carried, decided, judged, written, after_commit, batch_by, read_through, entry_through}
 use Rattle.batch_rules.specs.Serials.{serial_ends, serial_map}
 use Rattle.batch_rules.specs.Trees.{Tree, trace_of, end_of}
 use Rattle.batch_rules.specs.Touches.{Declared, keys_of, is_among, may_read, may_write, reads_of, writes_of, map_after, outside, overwritten}
@@ -58,15 +58,14 @@ module _ {K V A : Type 0} {R : K → K → Ordering} (is_done : A → Bool) (t :
   abbrev pub Confined : Declared K → FinMap R V → Type 0
   Confined declared db = outside R declared (trace_of t db) ≡ None → IsConfined is_done t declared db
 
-module _ {K V Q A : Type 0} {R : K → K → Ordering} (is_done : A → Bool) (tree : Q → Tree K V A) where
-  -- no two requests that finish in the commit phase write a common key
-  abbrev pub OneWriter : FinMap R V → List (Judged Q) → Type 0
-  OneWriter start ds = AllPairs (λ d e. finishes d.verdict ≡ true → finishes e.verdict ≡ true → meets R (writes_at is_done tree start d.request) (writes_at is_done tree start e.request) ≡ false) ds
+-- no two requests that finish in the commit phase write a common key
+abbrev pub OneWriter : {K V A O : Type 0} → (K → K → Ordering) → Carrier K V A O → List (Judged O) → Type 0
+OneWriter R by ds = AllPairs (λ d e. finishes d.verdict ≡ true → finishes e.verdict ≡ true → meets R (written by d.request) (written by e.request) ≡ false) ds
 
 -- at the key k the database after the commit phase has what a request that finishes there writes, and what it had where none writes k
-pub record AfterCommit {K V Q A : Type 0} {R : K → K → Ordering} (is_done : A → Bool) (tree : Q → Tree K V A) (start : FinMap R V) (ds : List (Judged Q)) (k : K) : Type 0 where
-  pub written : (d : Judged Q) (row : Option V) → Contains ds d → finishes d.verdict ≡ true → find R k (rows_at is_done tree start d.request) ≡ Some row → fin.get (after_commit is_done tree start start ds) k ≡ row
-  pub kept : All (λ d. finishes d.verdict ≡ true → is_among R (writes_at is_done tree start d.request) k ≡ false) ds → fin.get (after_commit is_done tree start start ds) k ≡ fin.get start k
+pub record AfterCommit {K V A O : Type 0} {R : K → K → Ordering} (by : Carrier K V A O) (start : FinMap R V) (ds : List (Judged O)) (k : K) : Type 0 where
+  pub by_writer : (d : Judged O) (row : Option V) → Contains ds d → finishes d.verdict ≡ true → find R k (by.rows d.request) ≡ Some row → fin.get (after_commit by start ds) k ≡ row
+  pub kept : All (λ d. finishes d.verdict ≡ true → is_among R (written by d.request) k ≡ false) ds → fin.get (after_commit by start ds) k ≡ fin.get start k
 
 -- run one after the other from the start, the requests of the order end as their fates say, and leave this database
 pub record Serialises {K V Q A : Type 0} {R : K → K → Ordering} (is_done : A → Bool) (tree : Q → Tree K V A) (start : FinMap R V) (order : List (Entry K Q A)) (left : FinMap R V) : Type 0 where
@@ -79,16 +78,16 @@ module _ {K V Q A : Type 0} {R : K → K → Ordering} (is_done : A → Bool) (t
   SerialLaw start answer = Serialises is_done tree start (ordered answer.entries) answer.map
 
 -- the entries are the list with its numbers; and the printed order and what waits are the entries, each once
-pub record EachOnce {K Q A : Type 0} (list : List Q) (entries : List (Entry K Q A)) : Type 0 where
+pub record EachOnce {K O A : Type 0} (list : List O) (entries : List (Entry K O A)) : Type 0 where
   pub numbered : map (λ e. (e.judged.tid, e.judged.request)) entries ≡ enumerate_from 1 list
   pub parted : IsPermutation (ordered entries ++ carried entries) entries
 
 -- The first request of the list finishes, with its end on the start. So fewer are carried than there were; and since the next list
 -- begins with them, each stands at a smaller place than before.
-pub record Progress {K Q A : Type 0} (list : List Q) (end : A) (entries : List (Entry K Q A)) : Type 0 where
+pub record Progress {K O A : Type 0} (list : List O) (end : A) (entries : List (Entry K O A)) : Type 0 where
   pub ends : slice_get (map (λ e. e.fate) entries) 0 ≡ Some (Ended end)
   pub fewer : length (carried entries) < length list
-  pub sooner : (i : ℕ) (d : Entry K Q A) → i < length (carried entries) → i + 1 < (slice_index_or (carried entries) i d).judged.tid
+  pub sooner : (i : ℕ) (d : Entry K O A) → i < length (carried entries) → i + 1 < (slice_index_or (carried entries) i d).judged.tid
 
 -- two lists meet where some key is among both
 abbrev pub Meeting : {K : Type 0} (R : K → K → Ordering) → List K → List K → Type 0
@@ -130,5 +129,16 @@ CauseBelow n (Wait (Raw j)) = (1 ≤ j) × (j < n)
 CauseBelow n (Wait (Both j k)) = ((1 ≤ j) × (j < n)) × ((1 ≤ k) × (k < n))
 
 -- each request waits for earlier ones alone
-abbrev pub WaitsForEarlier : {Q : Type 0} → List (Judged Q) → Type 0
+abbrev pub WaitsForEarlier : {O : Type 0} → List (Judged O) → Type 0
 WaitsForEarlier ds = All (λ d. CauseBelow d.tid d.verdict) ds
+
+-- the list with the verdicts that were decided of it one by one is the judged list
+abbrev pub DecidedEach : {O : Type 0} → Dependencies O → Rule → List O → Type 0
+DecidedEach on rule list = decided 1 list (map (λ d. d.verdict) (judged on rule [] list)) ≡ judged on rule [] list
+
+-- requests that are carried by what `of` makes of them have the same batch: the same database, and each the same fate
+pub record SameBatch {K V A O P : Type 0} {R : K → K → Ordering} (of : O → P) (by : Carrier K V A P) (is_done : A → Bool) (tree : P → Tree K V A)
+    (rule : Rule) (percent : ℕ) (start : FinMap R V) (list : List O) : Type 0 where
+  pub entries : (batch_by by is_done tree rule percent start (map of list)).entries
+      ≡ map (entry_through of) (batch_by (read_through of by) is_done (λ o. tree (of o)) rule percent start list).entries
+  pub left : (batch_by by is_done tree rule percent start (map of list)).map ≡ (batch_by (read_through of by) is_done (λ o. tree (of o)) rule percent start list).map

@@ -52,6 +52,10 @@ pub record Dependencies (S : Type 0) : Type 0 where
 abbrev pub verdict_on : {S : Type 0} → Dependencies S → Rule → List S → S → Verdict
 verdict_on on rule earlier me = verdict_by rule (least (on.waw me) earlier) (least (on.raw me) earlier) (least (on.war me) earlier)
 
+-- the same dependencies of values that these are made of
+abbrev pub through : {S Z : Type 0} → (Z → S) → Dependencies S → Dependencies Z
+through of on = record { waw = λ me other. on.waw (of me) (of other); raw = λ me other. on.raw (of me) (of other); war = λ me other. on.war (of me) (of other) }
+
 -- whether two lists have a common key
 abbrev pub meets : {K : Type 0} (R : K → K → Ordering) → List K → List K → Bool
 meets R xs ys = list_any (is_among R ys) xs
