@@ -18,8 +18,8 @@ const TAG_SPAN: u64 = 16_384;
 /// a seat of its own.
 #[derive(Drop)]
 pub struct Words {
-    // The words of key k are 2k + 1, for the requests that write it, and 2k + 2, for those that
-    // read it. Word 0 is no key's: seats are split and joined on it.
+    // The words of key k are 2k, for the requests that write it, and 2k + 1, for those that read it. The
+    // last word is no key's: without keys too there is a word 0, on which seats are split and joined.
     table: Table<(), View, Origin, LeastNumbers, Global>,
     keys: u32,
     tag: u64,
@@ -100,7 +100,6 @@ impl Words {
         };
         let word_count = 2 * keys as usize + 1;
         old.reserve_exact(word_count - old.len())?;
-        old.insert(0, 0)?;
         old.resize(word_count, u64::MAX)?;
         let (table, seat) = Table::of_words(alloc, &old, &origin)?;
         Ok((
@@ -121,7 +120,7 @@ impl Words {
         requires key { key < self.now.keys }
         ensures { seat.new ≡ with_mark seat.old tid key false }
     {
-        let word = 2 * key as usize + 2;
+        let word = 2 * key as usize + 1;
         let number = self.number_of(tid);
         self.table
             .shared
@@ -135,7 +134,7 @@ impl Words {
         requires key { key < self.now.keys }
         ensures { seat.new ≡ with_mark seat.old tid key true }
     {
-        let word = 2 * key as usize + 1;
+        let word = 2 * key as usize;
         let number = self.number_of(tid);
         self.table
             .shared
@@ -173,11 +172,14 @@ impl Words {
     {
         let laid = Snapshot::of(&self);
         let last = Snapshot::of(&seat);
-        let mut words = Vec::from_elem(self.alloc, 0, 2 * self.keys as usize)?;
+        let count = 2 * self.keys as usize;
+
+        // With room for the last word too, so that the next `over` fills the block up in place.
+        let mut words = Vec::with_capacity(self.alloc, count + 1)?;
         let Words { table, tag, .. } = self;
         let closed = table.close_with(seat.seat);
-        for (place, word) in words.iter_mut().enumerate() {
-            *word = closed.word(place + 1);
+        for place in 0..count {
+            words.push(closed.word(place)).unwrap();
         }
         closed.free();
         Ok(Closed {
