@@ -2,8 +2,8 @@
 ghost use Rattle.std.specs.Prelude.{◌≡◌, IfOk, length};
 ghost use Rattle.proc_lang.specs.TermOf.{term_of};
 ghost use Rattle.proc_lang.specs.Values.{both};
-ghost use Rattle.proc_lang.specs.Meaning.{value_of, values_of};
 ghost use Rattle.proc_exec.specs.Faults.{Computes};
+ghost use Rattle.proc_exec.specs.Scopes.{value_in, values_in};
 
 use crate::numbers::product_divided_by;
 use crate::operands::{direct_number, named, number_at};
@@ -17,7 +17,7 @@ use proc_lang::{Expr, Exprs, Shape};
 /// The value of the expression, for this request, this tuple of an `Each` and these registers.
 #[cycle(evaluating)]
 pub fn eval(scope: &Scope, registers: &Vec<Value>, expr: &Expr) -> Result<Value, Fault>
-    ensures { Computes result (value_of scope.now.request.now scope.now.item.now registers.now.items (term_of expr.now)) }
+    ensures { Computes result (value_in scope.now registers.now.items (term_of expr.now)) }
 {
     match direct_number(scope, registers, expr) {
         Some(number) => Ok(Value::Int(number)),
@@ -30,7 +30,7 @@ pub fn eval(scope: &Scope, registers: &Vec<Value>, expr: &Expr) -> Result<Value,
 #[cycle(evaluating)]
 #[inline(never)]
 fn eval_shape(scope: &Scope, registers: &Vec<Value>, expr: &Expr) -> Result<Value, Fault>
-    ensures { Computes result (value_of scope.now.request.now scope.now.item.now registers.now.items (term_of expr.now)) }
+    ensures { Computes result (value_in scope.now registers.now.items (term_of expr.now)) }
 {
     match expr.shape() {
         Shape::Num(number) => Ok(Value::Int(number)),
@@ -65,7 +65,7 @@ fn eval_both(
     first: &Expr,
     second: &Expr,
 ) -> Result<(Value, Value), Fault>
-    ensures { Computes result (both (value_of scope.now.request.now scope.now.item.now registers.now.items (term_of first.now)) (value_of scope.now.request.now scope.now.item.now registers.now.items (term_of second.now))) }
+    ensures { Computes result (both (value_in scope.now registers.now.items (term_of first.now)) (value_in scope.now registers.now.items (term_of second.now))) }
 {
     let value = match number_at(scope, registers, first) {
         Some(number) => Value::Int(number),
@@ -80,7 +80,7 @@ fn eval_both(
 /// The values of a list of expressions, from the left.
 pub fn eval_all(scope: &Scope, registers: &Vec<Value>, exprs: &Exprs) -> Result<Items<Value>, Fault>
     ensures count { IfOk result (λ values. length values ≡ length exprs.now) }
-    ensures values { Computes result (values_of scope.now.request.now scope.now.item.now registers.now.items exprs.now) }
+    ensures values { Computes result (values_in scope.now registers.now.items exprs.now) }
 {
     let mut values = Vec::with_capacity(scope.alloc, exprs.as_slice().len())?;
     for expr in exprs.as_slice() {

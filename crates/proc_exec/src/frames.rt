@@ -5,8 +5,9 @@ ghost use Rattle.aria_base.specs.declared.values.Value.TheVariants as value;
 ghost use Rattle.proc_lang.specs.Steps as step;
 ghost use Rattle.proc_lang.specs.TermOf.{term_of};
 ghost use Rattle.proc_lang.specs.Values.{blank, got};
-ghost use Rattle.proc_lang.specs.Meaning.{Next, step_run, begun, set_to, set_all, blank_all, blank_one, value_of, values_of, key_from, row_from, part_of, parts_of};
+ghost use Rattle.proc_lang.specs.Meaning.{Next, begun, set_to, set_all, blank_all, blank_one, key_from, row_from, part_of, parts_of};
 ghost use Rattle.proc_exec.specs.Faults.{Computes};
+ghost use Rattle.proc_exec.specs.Scopes.{value_in, values_in, step_in};
 ghost use Rattle.proc_exec.specs.Steppings.{Counts, Goes};
 
 use crate::evaluations::{eval, eval_all};
@@ -54,7 +55,7 @@ impl Running {
 
     /// The value of an expression.
     pub fn value(&self, scope: &Scope, expr: &Expr) -> Result<Value, Fault>
-        ensures { Computes result (value_of scope.now.request.now scope.now.item.now self.now.regs (term_of expr.now)) }
+        ensures { Computes result (value_in scope.now self.now.regs (term_of expr.now)) }
     {
         eval(scope, &self.registers, expr)
     }
@@ -69,7 +70,7 @@ impl Running {
 
     /// The parts of a key with the values of these expressions.
     fn parts(&self, scope: &Scope, exprs: &Exprs) -> Result<Parts, Fault>
-        ensures { Computes result (got (values_of scope.now.request.now scope.now.item.now self.now.regs exprs.now) (λ vs. Ok (parts_of vs))) }
+        ensures { Computes result (got (values_in scope.now self.now.regs exprs.now) (λ vs. Ok (parts_of vs))) }
     {
         match exprs.as_slice() {
             [a] => Ok(Parts::one(part(self.value(scope, a)?))),
@@ -111,7 +112,7 @@ impl Running {
 
     /// Sets a register to the value of an expression.
     pub fn assign(&mut self, scope: &Scope, register: u32, expr: &Expr) -> Result<(), Fault>
-        ensures { (next : Next) → Goes result next self.new (step_run scope.now.request.now (step.Let register (term_of expr.now)) scope.now.item.now next self.old) }
+        ensures { (next : Next) → Goes result next self.new (step_in scope.now (step.Let register (term_of expr.now)) next self.old) }
     {
         let value = self.value(scope, expr)?;
         self.set(register, value);
@@ -187,7 +188,7 @@ impl Running {
 
     /// Adds the value of an expression to the reply; traps where it would be one too many.
     pub fn give(&mut self, scope: &Scope, expr: &Expr) -> Result<(), Fault>
-        ensures { (next : Next) → Goes result next self.new (step_run scope.now.request.now (step.Give (term_of expr.now)) scope.now.item.now next self.old) }
+        ensures { (next : Next) → Goes result next self.new (step_in scope.now (step.Give (term_of expr.now)) next self.old) }
     {
         let value = self.value(scope, expr)?;
         if MOST_GIVEN <= self.given.len() {

@@ -4,7 +4,8 @@ ghost use Rattle.std.specs.declared.result.Result.TheVariants.{Ok};
 ghost use Rattle.aria_base.specs.declared.values.Value.TheVariants as value;
 ghost use Rattle.proc_lang.specs.TermOf.{term_of};
 ghost use Rattle.proc_lang.specs.Values.{both, got, number, same_value};
-ghost use Rattle.proc_lang.specs.Meaning.{named_value, value_of};
+ghost use Rattle.proc_lang.specs.Meaning.{named_value};
+ghost use Rattle.proc_exec.specs.Scopes.{value_in};
 
 use crate::scopes::Scope;
 use aria_base::{Arg, Duplicate, Memory, Value};
@@ -36,7 +37,7 @@ fn register(alloc: Global, registers: &Vec<Value>, at: u32) -> Result<Value, Mem
 /// The text of a literal, a register or an argument, where it stands. None of what is a number there,
 /// nor of any other expression.
 fn text_at<'a>(scope: &Scope<'a>, registers: &'a Vec<Value>, expr: &'a Expr) -> Option<&'a [u8]>
-    ensures { IfSome result (λ text. value_of scope.now.request.now scope.now.item.now registers.now.items (term_of expr.now) ≡ Ok (value.Text text.now)) }
+    ensures { IfSome result (λ text. value_in scope.now registers.now.items (term_of expr.now) ≡ Ok (value.Text text.now)) }
 {
     match expr {
         Expr::Text(text) => Some(text.as_slice()),
@@ -55,7 +56,7 @@ fn text_at<'a>(scope: &Scope<'a>, registers: &'a Vec<Value>, expr: &'a Expr) -> 
 /// The number of a literal, a register, an argument or a tuple's place, where it stands. None of what
 /// is a text there, nor of any other expression.
 pub fn number_at(scope: &Scope, registers: &Vec<Value>, expr: &Expr) -> Option<i64>
-    ensures { IfSome result (λ n. value_of scope.now.request.now scope.now.item.now registers.now.items (term_of expr.now) ≡ Ok (value.Int n)) }
+    ensures { IfSome result (λ n. value_in scope.now registers.now.items (term_of expr.now) ≡ Ok (value.Int n)) }
 {
     match expr {
         Expr::Num(number) => Some(*number),
@@ -84,7 +85,7 @@ fn fitting(exact: i128) -> Option<i64>
 
 /// Whether two operands are equal, both numbers or both texts where they stand.
 fn equal_at(scope: &Scope, registers: &Vec<Value>, first: &Expr, second: &Expr) -> Option<bool>
-    ensures { IfSome result (λ equal. got (both (value_of scope.now.request.now scope.now.item.now registers.now.items (term_of first.now)) (value_of scope.now.request.now scope.now.item.now registers.now.items (term_of second.now))) (λ p. Ok (same_value p.0 p.1)) ≡ Ok equal) }
+    ensures { IfSome result (λ equal. got (both (value_in scope.now registers.now.items (term_of first.now)) (value_in scope.now registers.now.items (term_of second.now))) (λ p. Ok (same_value p.0 p.1)) ≡ Ok equal) }
 {
     match number_at(scope, registers, first) {
         Some(x) => Some(x == number_at(scope, registers, second)?),
@@ -95,7 +96,7 @@ fn equal_at(scope: &Scope, registers: &Vec<Value>, first: &Expr, second: &Expr) 
 /// The number of an expression, where it is found without memory: that of an operand where it stands,
 /// and what a sum, a difference or a test for equality makes of two such operands.
 pub fn direct_number(scope: &Scope, registers: &Vec<Value>, expr: &Expr) -> Option<i64>
-    ensures { IfSome result (λ n. value_of scope.now.request.now scope.now.item.now registers.now.items (term_of expr.now) ≡ Ok (value.Int n)) }
+    ensures { IfSome result (λ n. value_in scope.now registers.now.items (term_of expr.now) ≡ Ok (value.Int n)) }
 {
     match expr {
         Expr::Add(a, b) => {
