@@ -166,9 +166,8 @@ fn rest(x: i64, y: i64) -> i64
     ensures { result ≡ x -ℤ y *ℤ quotient x y }
 {
     if 0 < y {
-        i128::from(x).rem_euclid(i128::from(y)) as i64
-    } else {
-        let left = negated(x).rem_euclid(negated(y));
-        (-left) as i64
+        return x.rem_euclid(y);
     }
+    let left = negated(x).rem_euclid(negated(y));
+    (-left) as i64
 }

@@ -13,7 +13,12 @@ use proc_lang::{Expr, Source};
 use std::alloc::Global;
 
 /// The value that a number of the source names.
-pub fn named(scope: &Scope, registers: &Vec<Value>, source: Source, at: u32) -> Result<Value, Memory>
+pub fn named(
+    scope: &Scope,
+    registers: &Vec<Value>,
+    source: Source,
+    at: u32,
+) -> Result<Value, Memory>
     ensures { IfOk result (λ v. v ≡ named_value scope.now.request.now scope.now.item.now registers.now.items source at) }
 {
     match source {
