@@ -9,7 +9,8 @@ use Rattle.atomic_table.proofs.Lists.{set_else}
 use Rattle.aria_base.proofs.Reserved.{unmarked, word_of-least}
 use Rattle.aria_base.proofs.Shares.{each-set, each-push, sum_by-set, sum_by-set_two, sum_by-set_push}
 use Rattle.aria_base.specs.declared.marks.Mark.{Mark}
-use Rattle.aria_base.specs.Reserved.{tag_span, greatest_tid, number_under, place_of, word_of, AreAbove, HasTid, IsMarked}
+use Rattle.aria_base.specs.declared.limits.TheConstants.{MOST_REQUESTS, TAG_SPAN}
+use Rattle.aria_base.specs.Reserved.{number_under, place_of, word_of, AreAbove, HasTid, IsMarked}
 use Rattle.resv_words.specs.declared.rules.View.{View}
 use Rattle.aria_base.specs.Shares.{all_shares}
 use Rattle.resv_words.specs.Rule.{mark, view, IsPut, IsLeastPut, Idle, Kept, marked, one_less, one, sum_of, spent_view}
@@ -84,7 +85,7 @@ key_again key true tid = omega arith
 key_again key false tid = omega arith
 
 -- from the word and the number of the step both the key and the TID are told
-pub marks_key : (old : List ℕ) (tag slots id : ℕ) (me : Me (Unit {0}) View) (tid key : ℕ) (writes : Bool) (word number : ℕ) → 0 < me.0.share → tid ≤ greatest_tid
+pub marks_key : (old : List ℕ) (tag slots id : ℕ) (me : Me (Unit {0}) View) (tid key : ℕ) (writes : Bool) (word number : ℕ) → 0 < me.0.share → tid ≤ MOST_REQUESTS
     → word ≡ place_of (mark tid key writes) → number ≡ number_under tag tid
     → Allows (Kept old tag) slots id me word (λ n. min n number) (marked writes (step slots word number 0 none) me)
 marks_key old tag slots id me tid key writes word number has_share within word_is number_is =
@@ -97,8 +98,8 @@ marks_key old tag slots id me tid key writes word number has_share within word_i
     m : Mark
     m = mark tid key writes
 
-    tid_again : tid ≡ number_under tag tid % tag_span
-    tid_again = sym (mul-add-mod_self_right tag tag_span tid ∙ mod-eq_of_lt (omega arith))
+    tid_again : tid ≡ number_under tag tid % TAG_SPAN
+    tid_again = sym (mul-add-mod_self_right tag TAG_SPAN tid ∙ mod-eq_of_lt (omega arith))
 
 -- what is put, where a new seat has the marks of another
 module _ (tag : ℕ) (views : List View) (id : ℕ) (v : View) (at : get_elem? views id ≡ some v) where

@@ -1,5 +1,6 @@
 ghost use Rattle.std.specs.Prelude.{◌≡◌, ◌+◌, ◌-◌, ◌*◌, ◌^◌, ◌<◌, ◌≤◌, [], ◌++◌, length, true, false, IfOk, OnOk, OnErr};
-ghost use Rattle.aria_base.specs.Reserved.{greatest_tid, number_under, AreAbove};
+ghost use Rattle.aria_base.specs.declared.limits.TheConstants.{MOST_REQUESTS};
+ghost use Rattle.aria_base.specs.Reserved.{number_under, AreAbove};
 ghost use Rattle.aria_base.specs.Shares.{all_shares};
 ghost use Rattle.resv_words.specs.Seats.{most_keys, with_mark, closed_of, Tells};
 
@@ -115,7 +116,7 @@ impl Words {
     /// Marks the key as read by the request at place `tid` of the batch.
     pub fn mark_read(&self, seat: &mut WordSeat, tid: u32, key: u32)
         requires own { seat.old.table ≡ self.now.table }
-        requires tid { (1 ≤ tid) × (tid ≤ greatest_tid) }
+        requires tid { (1 ≤ tid) × (tid ≤ MOST_REQUESTS) }
         requires key { key < self.now.keys }
         ensures { seat.new ≡ with_mark seat.old tid key false }
     {
@@ -129,7 +130,7 @@ impl Words {
     /// Marks the key as written by the request at place `tid` of the batch.
     pub fn mark_write(&self, seat: &mut WordSeat, tid: u32, key: u32)
         requires own { seat.old.table ≡ self.now.table }
-        requires tid { (1 ≤ tid) × (tid ≤ greatest_tid) }
+        requires tid { (1 ≤ tid) × (tid ≤ MOST_REQUESTS) }
         requires key { key < self.now.keys }
         ensures { seat.new ≡ with_mark seat.old tid key true }
     {
@@ -190,7 +191,7 @@ impl Words {
     }
 
     fn number_of(&self, tid: u32) -> u64
-        requires { tid ≤ greatest_tid }
+        requires { tid ≤ MOST_REQUESTS }
         ensures { result ≡ number_under self.now.tag tid }
     {
         self.tag * TAG_SPAN + u64::from(tid)
