@@ -5,7 +5,7 @@ use Rattle.std.proofs.lemmas.Bool.{cases_eq}
 use Rattle.std.proofs.lemmas.Bool.Decides.{nat_tests}
 use Rattle.std.proofs.lemmas.List.{same_lists, get_or_default, take_all, get_or-take, drop_more, length-take-le}
 use Rattle.disk_model.specs.Files.{File, IsImage, covers, loosened, untouched, put, wrote}
-use Rattle.disk_model.specs.Histories.{History, current, EachImage, HasImage, IsStable, MayLose, Acts, Within, Leaves}
+use Rattle.disk_model.specs.Histories.{History, current, EachImage, HasImage, IsStable, MayLose, Acts, Leaves}
 use Rattle.disk_model.specs.Readings.{wrote_reads}
 use Rattle.disk_model.proofs.Images.{untouched_image}
 use Rattle.disk_model.proofs.Spans.{each_more, within_call, within_then, within_more}
