@@ -1,2 +1,5 @@
 pub mod Places
 pub mod Runs
+pub mod Splits
+pub mod TextsRead
+pub mod TokensCut

@@ -1,17 +1,16 @@
 -- A run of bytes without a line feed is taken at once, or refused at its first byte past a bound.
-use Rattle.std.proofs.Common.{◌≡◌, ℕ, zero, suc, ◌+◌, ◌-◌, ◌<◌, ◌≤◌, List, [], ◌∷◌, ◌++◌, length, take, drop, Option, Some, None, Bool, true, false, cond, refl, ap, sym, subst, ◌∙◌, arith, append_assoc, length-append, add-zero, inl, inr}
-use Rattle.std.specs.Prelude.{◌==◌, ◌&&◌, not, nat_le, nat_lt}
+use Rattle.std.proofs.Common.{◌≡◌, ℕ, suc, ◌+◌, ◌-◌, ◌<◌, ◌≤◌, List, [], ◌∷◌, ◌++◌, length, take, drop, Some, None, Bool, true, false, refl, ap, sym, subst, ◌∙◌, arith, append_assoc, length-append, add-zero}
+use Rattle.std.specs.Prelude.{◌==◌, not, nat_le}
 use Rattle.std.specs.List.{list_all}
-use Rattle.script_text.specs.declared.refusals.Refusal.{Refusal}
-use Rattle.std.proofs.lemmas.Bool.{and_parts, le-leb, lt-leb, leb-false, leb-true}
-use Rattle.std.proofs.lemmas.List.{append-nil, length-take-le}
+use Rattle.std.proofs.lemmas.Bool.{and_parts, lt-leb, leb-false, leb-true}
+use Rattle.std.proofs.lemmas.List.{append-nil}
 use Rattle.std.proofs.lemmas.Bool.Decides.{nat_tests}
 use Rattle.std.proofs.lemmas.Grind.{common_steps}
 use Rattle.script_text.specs.declared.refusals.Kind8.{Kind8}
 use Rattle.script_text.specs.declared.refusals.Kind8.TheVariants.{Long, Size}
 use Rattle.script_text.specs.Cuts.{Lacks, IsCutAt}
-use Rattle.script_text.specs.Lines.{Feed, Scan, scan_after, stopped, is_past_line, is_past_limit, with_feed, with_byte, unreturned, refused_at}
-use Rattle.script_text.specs.Runs.{counted, first_past, with_run, place, begun_at}
+use Rattle.script_text.specs.Lines.{Feed, Scan, scan_after, with_byte, unreturned, refused_at}
+use Rattle.script_text.specs.Runs.{counted, first_past}
 
 abbrev pub taken_by : Feed → List ℕ → Feed
 taken_by feed run = record feed { taken = feed.taken + length run; begun = feed.begun ++ run }
@@ -38,14 +37,13 @@ run_taken done feed (b ∷ run) more lacks line limit =
     ∙ rw (n, append_assoc feed.begun (b ∷ []) run) refl
 
 -- a line with its line feed
-pub line_taken : (done : List (List ℕ)) (feed : Feed) (rest line : List ℕ) (at next : ℕ) (whole : Scan) → IsCutAt 10 rest (Some at) → scan_after done feed rest ≡ whole
-    → line ≡ unreturned (feed.begun ++ take at rest) → length feed.begun + at ≤ feed.longest → next ≡ feed.taken + (at + 1) → next ≤ feed.limit
-    → scan_after (done ++ line ∷ []) (record feed { taken = next; count = feed.count + 1; begun = [] }) (drop (at + 1) rest) ≡ whole
-line_taken done feed rest line at next whole cut e is short taken limit =
-    let n : length (take at rest) ≡ at = length-take-le at rest (omega (arith, cut.0)) in
-    let few : nat_le feed.limit (feed.taken + length (take at rest)) ≡ false = lt-leb feed.limit (feed.taken + length (take at rest)) (omega arith) in
-    let after : feed.taken + length (take at rest) + 1 ≡ next = omega arith in
-    sym (sym e ∙ ap (scan_after done feed) cut.2 ∙ run_taken done feed (take at rest) (10 ∷ drop (at + 1) rest) cut.1 (omega arith) (omega arith) ∙ rw (few, after, is) refl)
+pub line_taken : (done : List (List ℕ)) (feed : Feed) (rest run behind line : List ℕ) (next : ℕ) (whole : Scan) → IsCutAt 10 rest (Some (run, behind)) → scan_after done feed rest ≡ whole
+    → line ≡ unreturned (feed.begun ++ run) → length feed.begun + length run ≤ feed.longest → next ≡ feed.taken + (length run + 1) → next ≤ feed.limit
+    → scan_after (done ++ line ∷ []) (record feed { taken = next; count = feed.count + 1; begun = [] }) behind ≡ whole
+line_taken done feed rest run behind line next whole cut e is short taken limit =
+    let few : nat_le feed.limit (feed.taken + length run) ≡ false = lt-leb feed.limit (feed.taken + length run) (omega arith) in
+    let after : feed.taken + length run + 1 ≡ next = omega arith in
+    sym (sym e ∙ ap (scan_after done feed) cut.1 ∙ run_taken done feed run (10 ∷ behind) cut.0 short (omega arith) ∙ rw (few, after, is) refl)
 
 -- what stands behind the last line feed
 pub rest_taken : (done : List (List ℕ)) (feed : Feed) (rest : List ℕ) (next : ℕ) (whole : Scan) → Lacks 10 rest → scan_after done feed rest ≡ whole
@@ -101,11 +99,13 @@ refused feeds rest done feed (b ∷ run) kind lacks line limit e = by (refused f
   where
     parts : (not (b == 10) ≡ true) × (list_all (λ c. not (c == 10)) run ≡ true)
     parts = and_parts (not (b == 10)) (list_all (λ c. not (c == 10)) run) lacks
+
     other : (b == 10) ≡ false
     other = grind (arith, common_steps, parts.0)
+
     by : (length (with_byte feed b).begun ≤ feed.longest → feed.taken + 1 ≤ feed.limit
-            → first_past (feed.longest - length (with_byte feed b).begun) (feed.limit - (feed.taken + 1)) (length run) (length run + counted feeds) ≡ Some kind
-            → IsStopped (scan_after done (with_byte feed b) (run ++ tail feeds rest)) done feed.count kind)
+        → first_past (feed.longest - length (with_byte feed b).begun) (feed.limit - (feed.taken + 1)) (length run) (length run + counted feeds) ≡ Some kind
+        → IsStopped (scan_after done (with_byte feed b) (run ++ tail feeds rest)) done feed.count kind)
         → (p : Bool) → nat_le feed.longest (length feed.begun) ≡ p → (q : Bool) → nat_le feed.limit feed.taken ≡ q → IsStopped (scan_after done feed (b ∷ run ++ tail feeds rest)) done feed.count kind
     by rec true h q k =
         let none : feed.longest - length feed.begun ≡ 0 = omega (arith, leb-true feed.longest (length feed.begun) h) in
@@ -127,16 +127,14 @@ refused feeds rest done feed (b ∷ run) kind lacks line limit e = by (refused f
         let w : length (b ∷ run) + counted feeds ≡ suc (length run + counted feeds) = omega arith in
         let less = past_less (feed.longest - length feed.begun) (feed.limit - feed.taken) (length run) (length run + counted feeds) (feed.longest - length (feed.begun ++ b ∷ [])) (feed.limit - (feed.taken + 1)) r l in
         let again = rec (omega (arith, n)) (omega arith)
-          (sym less ∙ ap (first_past (feed.longest - length feed.begun) (feed.limit - feed.taken) (suc (length run))) (sym w) ∙ e) in
+        (sym less ∙ ap (first_past (feed.longest - length feed.begun) (feed.limit - feed.taken) (suc (length run))) (sym w) ∙ e) in
         rw (other, h, k) again
 
 -- a refused line with its line feed, and one without
-pub line_refused : (done : List (List ℕ)) (feed : Feed) (rest : List ℕ) (at : ℕ) (kind : Kind8) (whole : Scan) → IsCutAt 10 rest (Some at) → scan_after done feed rest ≡ whole
-    → length feed.begun ≤ feed.longest → feed.taken ≤ feed.limit → Some kind ≡ first_past (feed.longest - length feed.begun) (feed.limit - feed.taken) at (at + 1) → IsStopped whole done feed.count kind
-line_refused done feed rest at kind whole cut e line limit h =
-    let n : length (take at rest) ≡ at = length-take-le at rest (omega (arith, cut.0)) in
-    subst (λ (s : Scan). IsStopped s done feed.count kind) (sym (ap (scan_after done feed) cut.2) ∙ e)
-    (refused true (drop (at + 1) rest) done feed (take at rest) kind cut.1 line limit (rw n (sym h)))
+pub line_refused : (done : List (List ℕ)) (feed : Feed) (rest run behind : List ℕ) (kind : Kind8) (whole : Scan) → IsCutAt 10 rest (Some (run, behind)) → scan_after done feed rest ≡ whole
+    → length feed.begun ≤ feed.longest → feed.taken ≤ feed.limit → Some kind ≡ first_past (feed.longest - length feed.begun) (feed.limit - feed.taken) (length run) (length run + 1) → IsStopped whole done feed.count kind
+line_refused done feed rest run behind kind whole cut e line limit h =
+    subst (λ (s : Scan). IsStopped s done feed.count kind) (sym (ap (scan_after done feed) cut.1) ∙ e) (refused true behind done feed run kind cut.0 line limit (sym h))
 
 pub rest_refused : (done : List (List ℕ)) (feed : Feed) (rest : List ℕ) (kind : Kind8) (whole : Scan) → Lacks 10 rest → scan_after done feed rest ≡ whole
     → length feed.begun ≤ feed.longest → feed.taken ≤ feed.limit → Some kind ≡ first_past (feed.longest - length feed.begun) (feed.limit - feed.taken) (length rest) (length rest + 0) → IsStopped whole done feed.count kind

@@ -1,5 +1,5 @@
 -- A run of bytes without a line feed, taken at once.
-use Rattle.std.specs.Prelude.{ℕ, ◌+◌, Bool, true, false, ◌&&◌, nat_le, nat_lt, if◌then◌else◌, List, [], ◌++◌, length, Option, Some, None}
+use Rattle.std.specs.Prelude.{ℕ, Bool, true, false, ◌&&◌, nat_le, nat_lt, if◌then◌else◌, List, [], ◌++◌, Option, Some, None}
 use Rattle.script_text.specs.declared.refusals.Kind8.{Kind8}
 use Rattle.script_text.specs.declared.refusals.Kind8.TheVariants.{Long, Size}
 use Rattle.script_text.specs.Lines.{Feed}

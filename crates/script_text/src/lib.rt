@@ -18,10 +18,14 @@
 #![tactic(auto)]
 
 mod cuts;
+mod forms;
 mod items;
 mod lines;
+mod numbers;
+mod readers;
 mod refusals;
 
+pub use forms::read_line;
 pub use items::Item;
 pub use lines::Lines;
 pub use refusals::{CatFault, Kind8, LinesRefused, Refusal};

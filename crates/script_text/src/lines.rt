@@ -5,7 +5,7 @@ ghost use Rattle.script_text.specs.Answers.{IsRefusedBy};
 ghost use Rattle.script_text.specs.Lines.{Feed, blank, unreturned, scan, last_line, refused_at};
 ghost use Rattle.script_text.specs.Runs.{counted, first_past, with_run, begun_at, place};
 
-use crate::cuts::place_of;
+use crate::cuts::cut_at;
 use crate::refusals::{Kind8, LinesRefused, Refusal};
 use aria_base::{Bytes, Memory};
 use std::alloc::Global;
@@ -76,7 +76,14 @@ impl Lines {
         ensures refused { IfErr result (IsRefusedBy (scan self.old piece.now).fault) }
         ensures kept { OnErr result (self.new ≡ self.old) }
     {
-        let Scanned { lines, fault, taken, count, fresh, rest } = self.scan(piece)?;
+        let Scanned {
+            lines,
+            fault,
+            taken,
+            count,
+            fresh,
+            rest,
+        } = self.scan(piece)?;
         if let Some(refusal) = fault {
             return Err(LinesRefused::Line(refusal));
         }
@@ -119,24 +126,45 @@ impl Lines {
         let mut taken = self.taken;
         let mut count = self.count;
         let mut rest = piece;
-        while let Some(at) = place_of(rest, b'\n') {
-            taken = match self.take(fresh, taken, at, true) {
+        while let Some((front, behind)) = cut_at(rest, b'\n') {
+            taken = match self.take(fresh, taken, front.len(), true) {
                 Ok(taken) => taken,
                 Err(kind) => {
                     let fault = Some(refused_at(count, kind));
-                    return Ok(Scanned { lines, fault, taken, count, fresh, rest });
+                    return Ok(Scanned {
+                        lines,
+                        fault,
+                        taken,
+                        count,
+                        fresh,
+                        rest,
+                    });
                 }
             };
-            lines.push(line_of(self.alloc, self.begun_at(fresh), &rest[..at])?)?;
+            lines.push(line_of(self.alloc, self.begun_at(fresh), front)?)?;
             fresh = true;
             count += 1;
-            rest = &rest[at + 1..];
+            rest = behind;
         }
         let fault = match self.take(fresh, taken, rest.len(), false) {
-            Ok(taken) => return Ok(Scanned { lines, fault: None, taken, count, fresh, rest }),
+            Ok(taken) => return Ok(Scanned {
+                lines,
+                fault: None,
+                taken,
+                count,
+                fresh,
+                rest,
+            }),
             Err(kind) => Some(refused_at(count, kind)),
         };
-        Ok(Scanned { lines, fault, taken, count, fresh, rest })
+        Ok(Scanned {
+            lines,
+            fault,
+            taken,
+            count,
+            fresh,
+            rest,
+        })
     }
 
     /// Keeps what stands behind the last line feed.
