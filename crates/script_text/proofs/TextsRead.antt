@@ -8,7 +8,7 @@ use Rattle.std.proofs.lemmas.List.Folds.{list_all_at}
 use Rattle.std.proofs.lemmas.List.Sums.{list_all-from_AllPass}
 use Rattle.std.proofs.lemmas.Grind.{common_steps}
 use Rattle.aria_base.specs.Texts.{IsText, may_hold}
-use Rattle.aria_base.specs.declared.texts.TheConstants.{LONGEST_TEXT}
+use Rattle.aria_base.specs.declared.limits.TheConstants.{LONGEST_TEXT}
 use Rattle.script_text.specs.Tokens.{fit_text}
 
 pub is_text : (bytes : List ℕ) → IsText bytes → fit_text bytes ≡ Some bytes

@@ -13,7 +13,7 @@ use Rattle.std.proofs.lemmas.List.Sums.{AllPass-from_list_all, list_all-from_All
 use Rattle.std.proofs.lemmas.Fmt.{decimal_nonempty}
 use Rattle.std.proofs.lemmas.Grind.{common_steps}
 use Rattle.aria_base.specs.Texts.{IsText, may_hold}
-use Rattle.aria_base.specs.declared.texts.TheConstants.{LONGEST_TEXT}
+use Rattle.aria_base.specs.declared.limits.TheConstants.{LONGEST_TEXT}
 use Rattle.aria_base.specs.declared.keys.Part.{Part}
 use Rattle.aria_base.specs.declared.keys.Part.TheVariants as part
 use Rattle.aria_base.specs.declared.values.Value.{Value}

@@ -11,6 +11,7 @@ use Rattle.aria_base.specs.declared.calls.Arg.{Arg}
 use Rattle.aria_base.specs.declared.calls.Call.{Call}
 use Rattle.aria_base.specs.declared.schemas.Table.{Table}
 use Rattle.proc_lang.specs.Catalogs.{Plan, takes}
+use Rattle.script_text.specs.declared.fits.TheConstants.{MOST_PERCENT}
 use Rattle.script_text.specs.Forms.{said}
 use Rattle.script_text.specs.declared.items.Item.{Item}
 use Rattle.script_text.specs.declared.items.Item.TheVariants as item
@@ -72,9 +73,8 @@ placed_call plan proc args = call_of plan args (proc_named plan proc)
 abbrev pub rule_named : List ℕ → Option ℕ
 rule_named name = if bytes_eq name (codes "plain") then Some 0 else (if bytes_eq name (codes "reorder") then Some 1 else None)
 
--- 101 is more than all of a hundred
 abbrev pub with_percent : ℕ → ℤ → Result (ℕ × ℕ) Kind8
-with_percent rule (pos n) = if nat_le n 101 then Ok (rule, n) else Err Argument
+with_percent rule (pos n) = if nat_le n MOST_PERCENT then Ok (rule, n) else Err Argument
 with_percent rule (negsuc n) = Err Argument
 
 abbrev pub settings_by : Option ℕ → ℤ → Result (ℕ × ℕ) Kind8

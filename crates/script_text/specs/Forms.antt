@@ -2,6 +2,7 @@
 use Rattle.std.specs.Prelude.{ℕ, ℤ, pos, Bool, ◌&&◌, ◌==◌, nat_le, if◌then◌else◌, List, [], ◌∷◌, ◌++◌, length, Option, Some, None, option_and_then, option_map, ok_or, codes, bytes_eq, Result, Ok, Err}
 use Rattle.std.specs.List.{list_all}
 use Rattle.aria_base.specs.Texts.{is_word}
+use Rattle.aria_base.specs.declared.limits.TheConstants.{FEWEST_PARTS, MOST_PARTS, MOST_COLUMNS, MOST_ARGS}
 use Rattle.aria_base.specs.declared.keys.Part.{Part}
 use Rattle.aria_base.specs.declared.values.Value.{Value}
 use Rattle.aria_base.specs.declared.calls.Arg.{Arg}
@@ -29,7 +30,7 @@ catalog_of rest = option_map item.Catalog (option_and_then word_of (only rest))
 abbrev pub with_row : List ℕ → List Part → Option (List Value) → Option Item
 with_row table parts None = None
 with_row table parts (Some values) =
-    if nat_le 1 (length parts) && nat_le (length parts) 5 && nat_le (length values) 16 then Some (item.Row table parts values) else None
+    if nat_le FEWEST_PARTS (length parts) && nat_le (length parts) MOST_PARTS && nat_le (length values) MOST_COLUMNS then Some (item.Row table parts values) else None
 
 abbrev pub row_after : List ℕ → List Part → List (List ℕ) → Option Item
 row_after table parts [] = None
@@ -44,7 +45,7 @@ row_of (table ∷ rest) = if is_word table then row_after table [] rest else Non
 -- `tx PROC a1 ..`: at most 16 arguments
 abbrev pub with_tx : List ℕ → Option (List Arg) → Option Item
 with_tx proc None = None
-with_tx proc (Some args) = if nat_le (length args) 16 then Some (item.Tx proc args) else None
+with_tx proc (Some args) = if nat_le (length args) MOST_ARGS then Some (item.Tx proc args) else None
 
 abbrev pub tx_of : List (List ℕ) → Option Item
 tx_of [] = None

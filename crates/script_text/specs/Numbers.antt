@@ -1,5 +1,6 @@
 -- A number of 64 bits with a sign, in its one spelling.
 use Rattle.std.specs.Prelude.{ℕ, ◌+◌, ◌-◌, ◌*◌, ◌^◌, ℤ, pos, neg_ℤ, int_le, int_lt, Bool, not, ◌&&◌, ◌||◌, ◌==◌, nat_le, if◌then◌else◌, List, [], ◌∷◌, length, Option, Some, None, option_and_then}
+use Rattle.script_text.specs.declared.numbers.TheConstants.{MOST_DIGITS}
 use Rattle.std.specs.Char.{is_ascii_digit}
 
 -- ---- digits
@@ -9,9 +10,9 @@ abbrev pub digits_after : ℕ → List ℕ → Option ℕ
 digits_after front [] = Some front
 digits_after front (b ∷ bs) = if is_ascii_digit b then digits_after (10 * front + (b - 48)) bs else None
 
--- at most 19 digits, and none behind a `0` (48) at their front
+-- not too many digits, and none behind a `0` (48) at their front
 abbrev pub is_short : ℕ → List ℕ → Bool
-is_short b bs = nat_le (length bs) 18 && (not (b == 48) || length bs == 0)
+is_short b bs = nat_le (length (b ∷ bs)) MOST_DIGITS && (not (b == 48) || length bs == 0)
 
 abbrev pub natural_of : List ℕ → Option ℕ
 natural_of [] = None

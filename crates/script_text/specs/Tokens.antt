@@ -3,7 +3,7 @@ use Rattle.std.specs.Prelude.{ℕ, ℤ, ◌-◌, Bool, true, ◌&&◌, ◌==◌,
 use Rattle.std.specs.List.{slice_split, list_all, join_with_byte}
 use Rattle.std.specs.Fmt.{signed_decimal}
 use Rattle.aria_base.specs.Texts.{may_hold}
-use Rattle.aria_base.specs.declared.texts.TheConstants.{LONGEST_TEXT}
+use Rattle.aria_base.specs.declared.limits.TheConstants.{LONGEST_TEXT, SHORTEST_TUPLE, LONGEST_TUPLE}
 use Rattle.aria_base.specs.declared.keys.Part.{Part}
 use Rattle.aria_base.specs.declared.keys.Part.TheVariants as part
 use Rattle.aria_base.specs.declared.values.Value.{Value}
@@ -36,7 +36,7 @@ text_behind rest = option_and_then fit_text (before_last 34 rest)
 -- ---- a list: between brackets (91 and 93) tuples of one length with semicolons (59) between them; `[]` is the empty one
 
 abbrev pub fit_tuple : List ℤ → Option (List ℤ)
-fit_tuple tuple = if nat_le 1 (length tuple) && nat_le (length tuple) 5 then Some tuple else None
+fit_tuple tuple = if nat_le SHORTEST_TUPLE (length tuple) && nat_le (length tuple) LONGEST_TUPLE then Some tuple else None
 
 -- one to five numbers with commas (44) between them
 abbrev pub tuple_of : List ℕ → Option (List ℤ)

@@ -3,6 +3,7 @@ use Rattle.std.specs.Prelude.{◌≡◌, ℕ, ℤ, ◌≤◌, Bool, true, List, 
 use Rattle.std.specs.List.{slice_get}
 use Rattle.aria_base.specs.Orders.{Cells}
 use Rattle.aria_base.specs.Texts.{IsText}
+use Rattle.aria_base.specs.declared.limits.TheConstants.{FEWEST_PARTS, MOST_PARTS, MOST_COLUMNS, MOST_ARGS, SHORTEST_TUPLE, LONGEST_TUPLE}
 use Rattle.aria_base.specs.declared.keys.Key.{Key}
 use Rattle.aria_base.specs.declared.keys.Part.{Part}
 use Rattle.aria_base.specs.declared.keys.Part.TheVariants as part
@@ -54,7 +55,7 @@ IsValue (value.Int number) = is_i64 number ≡ true
 IsValue (value.Text text) = IsText text
 
 abbrev pub IsTuple : List ℤ → Type 0
-IsTuple tuple = (1 ≤ length tuple) × (length tuple ≤ 5) × All (λ z. is_i64 z ≡ true) tuple
+IsTuple tuple = (SHORTEST_TUPLE ≤ length tuple) × (length tuple ≤ LONGEST_TUPLE) × All (λ z. is_i64 z ≡ true) tuple
 
 abbrev pub IsArg : Arg → Type 0
 IsArg (arg.Int number) = is_i64 number ≡ true
@@ -69,14 +70,14 @@ is_alike (arg.List tuples) = same_lengths tuples
 
 -- the parts of a key, the columns of a row, the arguments of a call
 pub record IsParts (parts : List Part) : Type 0 where
-  pub some : 1 ≤ length parts
-  pub few : length parts ≤ 5
+  pub some : FEWEST_PARTS ≤ length parts
+  pub few : length parts ≤ MOST_PARTS
   pub each : All IsPart parts
 
 pub record IsCells (row : Cells) : Type 0 where
-  pub few : length row ≤ 16
+  pub few : length row ≤ MOST_COLUMNS
   pub each : All IsValue row
 
 pub record IsArgs (args : List Arg) : Type 0 where
-  pub few : length args ≤ 16
+  pub few : length args ≤ MOST_ARGS
   pub each : All IsArg args

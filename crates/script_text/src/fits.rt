@@ -10,8 +10,8 @@ use aria_base::{Args, Call, Duplicate, Key, Parts, Row, Schema, Txt};
 use proc_lang::Catalog;
 use std::alloc::Global;
 
-/// The greatest percentage, which is more than all.
-const MOST_PERCENT: i64 = 101;
+/// The greatest percentage, which is more than all of a hundred.
+pub const MOST_PERCENT: u32 = 101;
 
 /// The row that the item is under the catalogue. `Name` comes exactly where no table has the name, else
 /// `Argument` exactly where the parts or the columns are not those of the table in number and kind. The
@@ -112,7 +112,7 @@ fn place_settings(name: &Txt, percent: i64, line: u64) -> Result<(u8, u32), Line
     let Some(rule) = rule_number(name.as_slice()) else {
         return Err(refused(line, Kind8::Name));
     };
-    if percent < 0 || MOST_PERCENT < percent {
+    if percent < 0 || i64::from(MOST_PERCENT) < percent {
         return Err(refused(line, Kind8::Argument));
     }
     Ok((rule, percent as u32))

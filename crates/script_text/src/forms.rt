@@ -12,7 +12,10 @@ use crate::items::Item;
 use crate::numbers::read_number;
 use crate::readers::{Reads, read_tokens};
 use crate::refusals::{Kind8, LinesRefused, Refusal};
-use aria_base::{Args, Bytes, Memory, Part, Parts, Row, Txt, is_word};
+use aria_base::{
+    Args, Bytes, FEWEST_PARTS, MOST_ARGS, MOST_COLUMNS, MOST_PARTS, Memory, Part, Parts, Row, Txt,
+    is_word,
+};
 use std::alloc::Global;
 
 /// What a line says, without its line feed and the carriage return before it. `Byte` comes exactly where
@@ -181,7 +184,7 @@ fn with_row(
     let Some(values) = read_tokens(alloc, rest)? else {
         return Ok(None);
     };
-    if parts.is_empty() || parts.len() > 5 || values.len() > 16 {
+    if parts.len() < FEWEST_PARTS || MOST_PARTS < parts.len() || MOST_COLUMNS < values.len() {
         return Ok(None);
     }
     let table = word(alloc, table)?;
@@ -205,7 +208,7 @@ fn read_tx(alloc: Global, rest: &[u8]) -> Result<Option<Item>, Memory>
     let Some(args) = read_tokens(alloc, rest)? else {
         return Ok(None);
     };
-    if args.len() > 16 {
+    if MOST_ARGS < args.len() {
         return Ok(None);
     }
     let proc = word(alloc, proc)?;

@@ -2,7 +2,7 @@
 ghost use Rattle.std.specs.Prelude.{◌≡◌, ◌≤◌, length};
 ghost use Rattle.script_text.specs.Numbers.{digits_after, natural_of, number_of};
 
-/// The most digits of a number.
+/// The most digits of a number of 64 bits with a sign.
 const MOST_DIGITS: usize = 19;
 
 /// The number of 64 bits with a sign that these bytes write.

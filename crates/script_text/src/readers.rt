@@ -7,7 +7,9 @@ ghost use Rattle.script_text.specs.Tokens.{all_of, before_last, tuple_of, same_l
 
 use crate::cuts::{cut_at, first_token};
 use crate::numbers::read_number;
-use aria_base::{Arg, Memory, Part, Tuple, Tuples, Txt, TxtRefused, Value};
+use aria_base::{
+    Arg, LONGEST_TUPLE, Memory, Part, SHORTEST_TUPLE, Tuple, Tuples, Txt, TxtRefused, Value,
+};
 use std::alloc::Global;
 
 /// What bytes stand for.
@@ -34,7 +36,7 @@ impl Reads for Tuple {
         let Some(numbers) = read_split::<i64>(alloc, bytes, b',')? else {
             return Ok(None);
         };
-        if numbers.is_empty() || numbers.len() > 5 {
+        if numbers.len() < SHORTEST_TUPLE || LONGEST_TUPLE < numbers.len() {
             return Ok(None);
         }
         Ok(Some(Tuple::from_vec(numbers)))
