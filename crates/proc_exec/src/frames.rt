@@ -14,8 +14,8 @@ use crate::evaluations::{eval, eval_all};
 use crate::scopes::Scope;
 use crate::stops::Fault;
 use crate::texts::kept;
-use aria_base::{Key, Kind, Kinded, Kinds, Memory, Part, Parts, Row, Value};
-use proc_lang::{Expr, Exprs, Gives, MOST_ACCESSES, MOST_COLUMNS, MOST_GIVEN, Regs, Trap};
+use aria_base::{Key, Kind, Kinded, Kinds, MOST_COLUMNS, Memory, Part, Parts, Row, Value};
+use proc_lang::{Expr, Exprs, Gives, MOST_ACCESSES, MOST_GIVEN, Regs, Trap};
 use std::alloc::Global;
 use std::marker::Model;
 
