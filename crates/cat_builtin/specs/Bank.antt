@@ -2,11 +2,11 @@
 use Rattle.std.specs.Prelude.{ℕ, List, [], ◌∷◌, codes}
 use Rattle.aria_base.specs.declared.schemas.Table.{Table}
 use Rattle.proc_lang.specs.declared.procs.Proc.{Proc}
-use Rattle.proc_lang.specs.Terms.{Term, Reg, Arg, Add}
-use Rattle.proc_lang.specs.Steps.{Step, Steps, Need, Put, Del, Give}
+use Rattle.proc_lang.specs.Terms.{Term}
+use Rattle.proc_lang.specs.Steps.{Step, Steps, Put, Del, Give}
 use Rattle.proc_lang.specs.Syntax.{in_turn}
 use Rattle.proc_lang.specs.Catalogs.{Plan}
-use Rattle.cat_builtin.specs.Words.{all_ints, int_args, table_of}
+use Rattle.cat_builtin.specs.Words.{Reg, Arg, Add, Need, all_ints, int_args, table_of}
 
 -- an account has a number, and holds an amount
 abbrev pub accounts : List Table

@@ -2,6 +2,7 @@ pub mod Bank
 pub mod Builtins
 pub mod NewOrders
 pub mod Payments
+pub mod Told
 pub mod Tpcc
 pub mod Warehouses
 pub mod Words

@@ -1,11 +1,12 @@
 -- `payment w d cw cd by id amount date`: a customer of district cd of warehouse cw pays the amount at district d of warehouse w. The
 -- customer is named by a number, or where `by` is not 0 by a last name, and is then the middle one of those of that name.
 use Rattle.std.specs.Prelude.{ℕ, List, [], ◌∷◌, codes}
+use Rattle.proc_lang.specs.declared.limits.TheConstants.{MOST_FRONT}
 use Rattle.proc_lang.specs.declared.procs.Proc.{Proc}
-use Rattle.proc_lang.specs.Terms.{Term, Text, Reg, Arg, Me, Sub, Div, Eq, Cat, Front, Show}
-use Rattle.proc_lang.specs.Steps.{Step, Let, Get, Need, Put, If, Give}
+use Rattle.proc_lang.specs.Terms.{Term, Text, Me, Front}
+use Rattle.proc_lang.specs.Steps.{Step, Let, Put, If, Give}
 use Rattle.proc_lang.specs.Syntax.{in_turn}
-use Rattle.cat_builtin.specs.Words.{all_ints, with_text, int_args, int, more}
+use Rattle.cat_builtin.specs.Words.{Reg, Arg, Sub, Div, Eq, Cat, Show, Get, Need, all_ints, with_text, int_args, int, more}
 use Rattle.cat_builtin.specs.Warehouses.{warehouses, districts, customers, payments, name_counts, name_places, warehouse, district, w_tax, w_ytd, d_tax, d_ytd, d_next_o_id, read_warehouse, read_district}
 
 -- ---- the further arguments
@@ -107,7 +108,7 @@ entry = Cat (Cat (Cat (Cat (Cat (printed (Reg customer)) (printed customer_distr
 -- with bad credit the payment is entered in front of what is known of the customer
 abbrev pub note_payment : Step
 note_payment = If (Eq (Reg c_credit) (int 1))
-    (in_turn (Let data_after (Front entry (Reg c_data) 500) ∷ []))
+    (in_turn (Let data_after (Front entry (Reg c_data) MOST_FRONT) ∷ []))
     (in_turn (Let data_after (Reg c_data) ∷ []))
 
 abbrev pub balance_after : Term

@@ -1,9 +1,9 @@
 -- The tables of the catalogue `tpcc`, and what its procedures share. Money is in cents, rates are in ten-thousandths.
 use Rattle.std.specs.Prelude.{ℕ, List, [], ◌∷◌, codes}
 use Rattle.aria_base.specs.declared.schemas.Table.{Table}
-use Rattle.proc_lang.specs.Terms.{Term, Arg}
-use Rattle.proc_lang.specs.Steps.{Step, Get}
-use Rattle.cat_builtin.specs.Words.{all_ints, with_text, table_of}
+use Rattle.proc_lang.specs.Terms.{Term}
+use Rattle.proc_lang.specs.Steps.{Step}
+use Rattle.cat_builtin.specs.Words.{Arg, Get, all_ints, with_text, table_of}
 
 -- ---- tables, by their numbers
 

@@ -3,11 +3,11 @@ use Rattle.std.specs.Prelude.{ℕ, List, [], ◌∷◌, map, replicate, codes}
 use Rattle.aria_base.specs.declared.schemas.Table.{Table}
 use Rattle.proc_lang.specs.declared.procs.ArgKind.TheVariants as kind
 use Rattle.proc_lang.specs.declared.procs.Proc.{Proc}
-use Rattle.proc_lang.specs.Terms.{Term, Reg, Arg, Item, Eq}
-use Rattle.proc_lang.specs.Steps.{Step, Need, Put, If, Each, Give}
+use Rattle.proc_lang.specs.Terms.{Term}
+use Rattle.proc_lang.specs.Steps.{Step, Put, If, Each, Give}
 use Rattle.proc_lang.specs.Syntax.{in_turn}
 use Rattle.proc_lang.specs.Catalogs.{Plan}
-use Rattle.cat_builtin.specs.Words.{all_ints, table_of, int, more}
+use Rattle.cat_builtin.specs.Words.{Reg, Arg, Item, Eq, Need, all_ints, table_of, int, more}
 
 -- a row has ten columns
 abbrev pub rows : List Table
