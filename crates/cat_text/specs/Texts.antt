@@ -9,9 +9,14 @@ use Rattle.serde_json.specs.Read.{read}
 use Rattle.cat_forms.specs.PlanWalks.{plan_of}
 use Rattle.cat_forms.specs.Shapes.{Shaped}
 use Rattle.cat_read.specs.Texts.{first_wrong}
+use Rattle.cat_read.specs.declared.refusals.CatRefused.{CatRefused}
+use Rattle.cat_read.specs.declared.refusals.CatRefused.TheVariants as cat
 use Rattle.script_text.specs.declared.refusals.Kind8.{Kind8}
 use Rattle.script_text.specs.declared.refusals.Kind8.TheVariants.{Catalog}
+use Rattle.script_text.specs.declared.refusals.CatFault.{CatFault}
 use Rattle.script_text.specs.declared.refusals.CatFault.TheVariants as fault
+use Rattle.script_text.specs.declared.refusals.LinesRefused.{LinesRefused}
+use Rattle.script_text.specs.declared.refusals.LinesRefused.TheVariants.{Memory, Line}
 
 -- by the first procedure that is not well typed
 abbrev pub typed_by : Plan → Option Wrong → Result Plan Kind8
@@ -31,3 +36,15 @@ read_by (Some d) = shaped_by (plan_of d)
 -- bytes that are no UTF-8 are no JSON
 abbrev pub catalog_of : List ℕ → Result Plan Kind8
 catalog_of text = if is_utf8 text then read_by (read text) else Err (Catalog fault.NotJson)
+
+-- ---- refusals
+
+abbrev pub refused_at : ℕ → CatFault → LinesRefused
+refused_at line fault = Line (record { line = line; kind = Catalog fault })
+
+-- what a script answers where the reader of catalogues refuses the text
+abbrev pub refusal_of : ℕ → CatRefused → LinesRefused
+refusal_of line cat.Memory = Memory
+refusal_of line cat.NotJson = refused_at line fault.NotJson
+refusal_of line (cat.Shape path) = refused_at line (fault.Shape path)
+refusal_of line (cat.Wrong wrong) = refused_at line (fault.Wrong wrong)
