@@ -1,5 +1,10 @@
-pub mod Entries
-pub mod Listing
+pub mod Beside
+pub mod Edited
+pub mod Grown
+pub mod Listed
 pub mod Owned
-pub mod Pooled
+pub mod Searched
+pub mod Slots
+pub mod Spread
 pub mod Together
+pub mod Trees

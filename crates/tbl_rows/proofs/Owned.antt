@@ -1,22 +1,13 @@
 -- The keys of a shard belong to it, whatever is put and deleted.
 use Rattle.std.proofs.Common.{◌≡◌, ℕ, Some, None, cond, true, false, refl, ap, subst, ◌∙◌}
 use Rattle.std.specs.Option.{IsSome}
-use Rattle.std.specs.Ordering.{eq_by_cmp, is_eq}
-use Rattle.std.specs.declared.cmp.Ordering.{Ordering}
-use Rattle.std.specs.declared.cmp.Ordering.TheVariants.{Less, Equal, Greater}
+use Rattle.std.specs.Ordering.{eq_by_cmp}
 use Rattle.std.specs.FinMap as fin
 use Rattle.aria_base.specs.Orders.{key_cmp, Cells}
 use Rattle.aria_base.specs.declared.keys.Key.{Key}
-use Rattle.aria_base.proofs.Orders.{key_cmp_total, key_cmp-IsAntisymmetric}
+use Rattle.aria_base.proofs.Orders.{key_cmp_total}
 use Rattle.tbl_rows.specs.Shards.{home, Piece, IsOwn, with_row, without_row, bare}
-
-equal : (r : Ordering) → is_eq r ≡ true → r ≡ Equal
-equal Less e = cc
-equal Equal e = refl
-equal Greater e = cc
-
-pub same_key : (q k : Key) → eq_by_cmp key_cmp q k ≡ true → q ≡ k
-same_key q k tied = key_cmp-IsAntisymmetric q k (equal _ tied)
+use Rattle.tbl_rows.proofs.Searched.{same_key}
 
 pub IsOwn-bare : (number : ℕ) → IsOwn (bare number)
 IsOwn-bare number q some = let there : IsSome {T = Cells} None = subst IsSome (fin.get-empty key_cmp q) some in cc

@@ -1,2 +1,4 @@
 pub mod Codes
+pub mod Hashes
+pub mod Pools
 pub mod Shards

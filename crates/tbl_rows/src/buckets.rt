@@ -1,31 +1,40 @@
-// One bucket of a shard: a few rows, in an ordered map.
-ghost use Rattle.std.specs.Prelude.{◌≡◌, ◌++◌, map, IfErr, OnOk, OnErr};
+// One bucket of a shard: a few rows, in any order.
+ghost use Rattle.std.specs.Prelude.{◌≡◌, ◌^◌, ◌<◌, ◌≤◌, map, not, position, IfOk, IfErr, OnOk, OnErr};
 ghost use Rattle.std.specs.Option.{option_copied};
+ghost use Rattle.std.specs.Ordering.{eq_by_cmp};
 ghost use Rattle.std.specs.Map.Iter.{deref_pair};
 ghost use Rattle.std.specs.FinMap as fin;
+ghost use Rattle.aria_base.specs.Orders.{key_cmp};
+ghost use Rattle.tbl_rows.specs.Hashes.{hash_of};
+ghost use Rattle.tbl_rows.specs.Pools.{is_moved, Adds};
+ghost use Rattle.tbl_rows.specs.declared.homes.TheConstants.{LAST_LEVEL};
 
+use crate::entries::Entry;
 use crate::refusals::Refused;
-use aria_base::{Key, Memory, Row};
+use aria_base::{Duplicate, Key, Memory, Row};
 use std::alloc::Global;
-use std::collections::BTreeMap;
 use std::marker::Model;
+use std::mem;
 
-/// A few rows. A contract sees the map of them.
+/// A few rows, which are searched from the front. A contract sees the map of them.
 #[derive(Drop)]
 pub(crate) struct Bucket {
-    rows: BTreeMap<Key, Row>,
+    entries: Vec<Entry>,
 }
 
 impl Model for Bucket {
     ghost use Rattle.std.specs.FinMap as fin;
     ghost use Rattle.aria_base.specs.Orders.{Database};
     ghost use Rattle.aria_base.specs.Codes.{database_code};
+    ghost use Rattle.tbl_rows.specs.Pools.{AllApart};
 
     ghost Value = { Database };
 
     ghost coded = { database_code };
 
-    ghost view = { λ a. fin.from_entries a.rows.entries };
+    ghost view = { λ a. fin.from_entries a.entries.items };
+
+    ghost invariant = { λ a. AllApart a.entries.items };
 }
 
 impl Bucket {
@@ -34,48 +43,118 @@ impl Bucket {
         ensures { result ≡ fin.empty }
     {
         Bucket {
-            rows: BTreeMap::new(alloc),
+            entries: Vec::new(alloc),
         }
     }
 
-    /// The row at a key.
-    pub(crate) fn get(&self, key: &Key) -> Option<&Row>
-        ensures { option_copied result ≡ fin.get self.now key.now }
+    /// How many rows it has.
+    pub(crate) fn len(&self) -> usize
+        ensures { result ≡ fin.len self.now }
     {
-        self.rows.get(key)
+        self.entries.len()
     }
 
-    /// Sets the row at a key, and tells whether there was none. `Refused` means want of memory.
-    pub(crate) fn put(&mut self, key: Key, row: Row) -> Result<bool, Refused>
+    /// The row at the key of this hash.
+    pub(crate) fn get(&self, hash: u64, key: &Key) -> Option<&Row>
+        requires { hash ≡ hash_of key.now }
+        ensures { option_copied result ≡ fin.get self.now key.now }
+    {
+        match place_of(&self.entries, hash, key) {
+            Some(place) => Some(self.entries[place].row()),
+            None => None,
+        }
+    }
+
+    /// Sets the row at the key of this hash, and tells whether there was none. `Refused` means want of
+    /// memory.
+    pub(crate) fn put(&mut self, hash: u64, key: Key, row: Row) -> Result<bool, Refused>
+        requires { hash ≡ hash_of key }
         ensures put { OnOk result (self.new ≡ fin.insert self.old key row) }
+        ensures added { IfOk result (λ added. added ≡ not (fin.contains_key self.old key)) }
         ensures refused { IfErr result (λ refused. (refused.key ≡ key) × (refused.row ≡ row)) }
         ensures kept { OnErr result (self.new ≡ self.old) }
     {
-        let before = self.rows.len();
-        match self.rows.insert(key, row) {
-            Ok(_) => Ok(self.rows.len() != before),
-            Err(failed) => {
-                let (key, row) = failed.value;
-                Err(Refused { key, row })
+        match place_of(&self.entries, hash, &key) {
+            Some(place) => {
+                let entry = &mut self.entries[place];
+                entry.set_row(row);
+                drop(key);
+                Ok(false)
+            }
+            None => {
+                if self.entries.reserve(1).is_err() {
+                    return Err(Refused { key, row });
+                }
+                self.entries.push_reserved(Entry::new(hash, key, row));
+                Ok(true)
             }
         }
     }
 
-    /// Removes the row at a key, and tells whether there was one.
-    pub(crate) fn delete(&mut self, key: &Key) -> bool
+    /// Removes the row at the key of this hash, and tells whether there was one.
+    pub(crate) fn delete(&mut self, hash: u64, key: &Key) -> bool
+        requires { hash ≡ hash_of key.now }
         ensures found { result ≡ fin.contains_key self.old key.now }
         ensures deleted { self.new ≡ fin.remove self.old key.now }
     {
-        self.rows.remove(key).is_some()
+        match place_of(&self.entries, hash, key) {
+            Some(place) => {
+                drop(self.entries.swap_remove(place));
+                true
+            }
+            None => false,
+        }
     }
 
-    /// Appends the rows in the order of their keys.
+    /// Adds the rows to a list, in any order.
     pub(crate) fn list<'a>(&'a self, out: &mut Vec<(&'a Key, &'a Row)>) -> Result<(), Memory>
-        ensures { OnOk result (map deref_pair out.new.items ≡ map deref_pair out.old.items ++ fin.entries self.now) }
+        ensures { OnOk result (Adds self.now (map deref_pair out.old.items) (map deref_pair out.new.items)) }
     {
-        for (key, row) in &self.rows {
-            out.push((key, row))?;
+        for entry in &self.entries {
+            out.push((entry.key(), entry.row()))?;
         }
         Ok(())
+    }
+
+    /// Takes out the rows that belong to the next of so many buckets, as that bucket. Both get room for
+    /// as many rows as there were, which is what they will have when they are split.
+    pub(crate) fn split(&mut self, level: u32, count: usize) -> Result<Bucket, Memory>
+        requires level { level ≤ LAST_LEVEL }
+        requires least { 2 ^ level ≤ count }
+        requires most { count < 2 ^ 32 }
+        ensures moved { IfOk result (λ moved. moved ≡ fin.retain_keys self.old (is_moved level count)) }
+        ensures stayed { OnOk result (self.new ≡ fin.retain_keys self.old (λ q. not (is_moved level count q))) }
+        ensures kept { OnErr result (self.new ≡ self.old) }
+    {
+        let alloc = *self.entries.allocator();
+        let mut stay = Vec::with_capacity(alloc, self.entries.len())?;
+        let mut moved = Vec::with_capacity(alloc, self.entries.len())?;
+        for entry in mem::replace(&mut self.entries, Vec::new(alloc)) {
+            if entry.is_moved(level, count) {
+                moved.push_reserved(entry);
+            } else {
+                stay.push_reserved(entry);
+            }
+        }
+        self.entries = stay;
+        Ok(Bucket { entries: moved })
+    }
+}
+
+/// The place of a key's row.
+fn place_of(entries: &Vec<Entry>, hash: u64, key: &Key) -> Option<usize>
+    requires { hash ≡ hash_of key.now }
+    ensures { result ≡ position (λ e. eq_by_cmp key_cmp key.now e.0) entries.now.items }
+{
+    entries.iter().position(|entry| entry.is_at(hash, key))
+}
+
+impl Duplicate for Bucket {
+    fn duplicate(&self, alloc: Global) -> Result<Self, Memory> {
+        let mut entries = Vec::with_capacity(alloc, self.entries.len())?;
+        for entry in &self.entries {
+            entries.push(entry.duplicate(alloc)?)?;
+        }
+        Ok(Bucket { entries })
     }
 }

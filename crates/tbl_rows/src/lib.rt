@@ -13,9 +13,13 @@
 #![tactic(auto)]
 
 mod buckets;
+mod entries;
+mod hashes;
 mod homes;
+mod overflows;
 mod pools;
 mod refusals;
+mod rows;
 mod shards;
 mod tables;
 

@@ -1,67 +1,185 @@
 // The buckets of a shard: as many as its rows want.
-ghost use Rattle.std.specs.Prelude.{◌≡◌, ◌<◌, length, map, IfOk, OnOk};
-ghost use Rattle.std.specs.List.{flat_map};
+ghost use Rattle.std.specs.Prelude.{◌≡◌, ◌^◌, ◌<◌, ◌≤◌, length, map, IfOk, IfErr, OnOk, OnErr};
+ghost use Rattle.std.specs.Option.{option_copied};
 ghost use Rattle.std.specs.Map.Iter.{deref_pair};
 ghost use Rattle.std.specs.FinMap as fin;
-ghost use Rattle.tbl_rows.specs.Shards.{pooled, slot, IsPool};
+ghost use Rattle.tbl_rows.specs.Hashes.{hash_of};
+ghost use Rattle.tbl_rows.specs.Pools.{slot, Adds};
+ghost use Rattle.tbl_rows.specs.declared.homes.TheConstants.{LAST_LEVEL};
 
 use crate::buckets::Bucket;
-use crate::homes::bucket_of;
-use aria_base::{Key, Memory, Row, copy_key, copy_row};
+use crate::homes::{LAST_LEVEL, bucket_at};
+use crate::refusals::Refused;
+use aria_base::{Duplicate, Key, Memory, Row};
 use std::alloc::Global;
+use std::marker::Model;
 
-/// So many buckets with no rows.
-pub(crate) fn bare_pool(alloc: Global, count: usize) -> Result<Vec<Bucket>, Memory>
-    requires { 0 < count }
-    ensures count { IfOk result (λ buckets. length buckets.items ≡ count) }
-    ensures pool { IfOk result (λ buckets. IsPool buckets.items) }
-    ensures bare { IfOk result (λ buckets. pooled buckets.items ≡ fin.empty) }
-{
-    let mut buckets = Vec::with_capacity(alloc, count)?;
-    for number in 0..count {
-        buckets.push(Bucket::new(alloc))?;
-    }
-    Ok(buckets)
+/// How many rows a bucket has on average at most, while there is memory for more buckets.
+const MEAN: usize = 8;
+
+/// From how many rows on a bucket is crowded. By chance none ever is.
+const CROWD: usize = 64;
+
+/// Rows in buckets. A contract sees the map of them. The buckets grow one by one, so that no call
+/// moves more than a bucket's rows. `len` counts the rows, and nothing but growth rests on it.
+#[derive(Drop)]
+pub(crate) struct Pool {
+    level: u32,
+    len: usize,
+    buckets: Vec<Bucket>,
 }
 
-/// The place of a key's bucket.
-pub(crate) fn place_of(buckets: &Vec<Bucket>, key: &Key) -> usize
-    requires { 0 < length buckets.now.items }
-    ensures slot { result ≡ slot (length buckets.now.items) key.now }
+impl Model for Pool {
+    ghost use Rattle.aria_base.specs.Orders.{Database};
+    ghost use Rattle.aria_base.specs.Codes.{database_code};
+    ghost use Rattle.tbl_rows.specs.Pools.{pooled, IsPool};
+
+    ghost Value = { Database };
+
+    ghost coded = { database_code };
+
+    ghost view = { λ a. pooled a.buckets.items };
+
+    ghost invariant = { λ a. IsPool a.level a.buckets.items };
+}
+
+impl Pool {
+    /// One bucket with no rows.
+    pub(crate) fn new(alloc: Global) -> Result<Pool, Memory>
+        ensures { IfOk result (λ pool. pool ≡ fin.empty) }
+    {
+        let mut buckets = Vec::new(alloc);
+        buckets.push(Bucket::new(alloc))?;
+        Ok(Pool {
+            level: 0,
+            len: 0,
+            buckets,
+        })
+    }
+
+    /// The row at the key of this hash.
+    pub(crate) fn get(&self, hash: u64, key: &Key) -> Option<&Row>
+        requires { hash ≡ hash_of key.now }
+        ensures { option_copied result ≡ fin.get self.now key.now }
+    {
+        let bucket = &self.buckets[place_of(self.level, &self.buckets, hash, key)];
+        bucket.get(hash, key)
+    }
+
+    /// Whether the bucket of the key of this hash has so many rows that no more belong there.
+    pub(crate) fn is_crowded(&self, hash: u64, key: &Key) -> bool
+        requires { hash ≡ hash_of key.now }
+    {
+        let bucket = &self.buckets[place_of(self.level, &self.buckets, hash, key)];
+        bucket.len() >= CROWD
+    }
+
+    /// Sets the row at the key of this hash. `Refused` means want of memory.
+    pub(crate) fn put(&mut self, hash: u64, key: Key, row: Row) -> Result<(), Refused>
+        requires { hash ≡ hash_of key }
+        ensures put { OnOk result (self.new ≡ fin.insert self.old key row) }
+        ensures refused { IfErr result (λ refused. (refused.key ≡ key) × (refused.row ≡ row)) }
+        ensures kept { OnErr result (self.new ≡ self.old) }
+    {
+        if self.len / MEAN >= self.buckets.len() {
+            self.grow();
+        }
+        self.put_here(hash, key, row)
+    }
+
+    /// The same, in the buckets that there are.
+    fn put_here(&mut self, hash: u64, key: Key, row: Row) -> Result<(), Refused>
+        requires { hash ≡ hash_of key }
+        ensures put { OnOk result (self.new ≡ fin.insert self.old key row) }
+        ensures refused { IfErr result (λ refused. (refused.key ≡ key) × (refused.row ≡ row)) }
+        ensures kept { OnErr result (self.new ≡ self.old) }
+    {
+        let place = place_of(self.level, &self.buckets, hash, &key);
+        let bucket = &mut self.buckets[place];
+        let added = bucket.put(hash, key, row)?;
+        self.len = self.len.saturating_add(usize::from(added));
+        Ok(())
+    }
+
+    /// Makes one bucket more, if there is memory.
+    fn grow(&mut self)
+        ensures { self.new ≡ self.old }
+    {
+        self.begin_round();
+        self.split_next();
+    }
+
+    /// Begins the next round, if every bucket is split in this one.
+    fn begin_round(&mut self)
+        ensures { self.new ≡ self.old }
+    {
+        if self.buckets.len() == 2 << self.level && self.level < LAST_LEVEL {
+            self.level += 1;
+        }
+    }
+
+    /// Splits the next bucket in turn, if one is left in this round and there is memory.
+    fn split_next(&mut self)
+        ensures { self.new ≡ self.old }
+    {
+        let count = self.buckets.as_slice().len();
+        if count == 2 << self.level || self.buckets.reserve(1).is_err() {
+            return;
+        }
+        let place = count - (1 << self.level);
+        let bucket = &mut self.buckets[place];
+        match bucket.split(self.level, count) {
+            Ok(moved) => self.buckets.push_reserved(moved),
+            Err(_) => {}
+        }
+    }
+
+    /// Removes the row at the key of this hash, and tells whether there was one.
+    pub(crate) fn delete(&mut self, hash: u64, key: &Key) -> bool
+        requires { hash ≡ hash_of key.now }
+        ensures found { result ≡ fin.contains_key self.old key.now }
+        ensures deleted { self.new ≡ fin.remove self.old key.now }
+    {
+        let place = place_of(self.level, &self.buckets, hash, key);
+        let bucket = &mut self.buckets[place];
+        let found = bucket.delete(hash, key);
+        self.len = self.len.saturating_sub(usize::from(found));
+        found
+    }
+
+    /// Adds the rows to a list, in any order.
+    pub(crate) fn list<'a>(&'a self, out: &mut Vec<(&'a Key, &'a Row)>) -> Result<(), Memory>
+        ensures { OnOk result (Adds self.now (map deref_pair out.old.items) (map deref_pair out.new.items)) }
+    {
+        for bucket in &self.buckets {
+            bucket.list(out)?;
+        }
+        Ok(())
+    }
+}
+
+/// The place of the bucket of a key, whose hash it is.
+#[tactic(auto, unfolding(crate::specs::Pools::slot))]
+fn place_of(level: u32, buckets: &Vec<Bucket>, hash: u64, key: &Key) -> usize
+    requires hash { hash ≡ hash_of key.now }
+    requires level { level ≤ LAST_LEVEL }
+    requires least { 2 ^ level ≤ length buckets.now.items }
+    ensures slot { result ≡ slot level (length buckets.now.items) key.now }
     ensures below { result < length buckets.now.items }
 {
-    bucket_of(key, buckets.as_slice().len())
+    bucket_at(level, buckets.as_slice().len(), hash)
 }
 
-/// The rows of all buckets with their keys, bucket after bucket.
-pub(crate) fn rows_of(alloc: Global, buckets: &Vec<Bucket>) -> Result<Vec<(&Key, &Row)>, Memory>
-    ensures { IfOk result (λ rows. map deref_pair rows.items ≡ flat_map fin.entries buckets.now.items) }
-{
-    let mut rows = Vec::new(alloc);
-    for bucket in buckets {
-        bucket.list(&mut rows)?;
+impl Duplicate for Pool {
+    fn duplicate(&self, alloc: Global) -> Result<Self, Memory> {
+        let mut buckets = Vec::with_capacity(alloc, self.buckets.len())?;
+        for bucket in &self.buckets {
+            buckets.push(bucket.duplicate(alloc)?)?;
+        }
+        Ok(Pool {
+            level: self.level,
+            len: self.len,
+            buckets,
+        })
     }
-    Ok(rows)
-}
-
-/// The same rows in so many buckets.
-pub(crate) fn spread(
-    alloc: Global,
-    buckets: &Vec<Bucket>,
-    count: usize,
-) -> Result<Vec<Bucket>, Memory>
-    requires some { 0 < count }
-    requires pool { IsPool buckets.now.items }
-    ensures pool { IfOk result (λ made. IsPool made.items) }
-    ensures same { IfOk result (λ made. pooled made.items ≡ pooled buckets.now.items) }
-{
-    let rows = rows_of(alloc, buckets)?;
-    let mut made = bare_pool(alloc, count)?;
-    for pair in &rows {
-        let (key, row) = *pair;
-        let place = place_of(&made, key);
-        let bucket = &mut made[place];
-        bucket.put(copy_key(alloc, key)?, copy_row(alloc, row)?)?;
-    }
-    Ok(made)
 }

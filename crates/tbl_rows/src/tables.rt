@@ -7,7 +7,8 @@ ghost use Rattle.aria_base.specs.declared.keys.Key.{Key as Name};
 ghost use Rattle.tbl_rows.specs.Shards.{IsWhole, AllNumbered, joined, at_home};
 ghost use Rattle.tbl_rows.specs.declared.homes.TheConstants.{SHARDS};
 
-use crate::homes::{SHARDS, shard_of};
+use crate::hashes::hash_of;
+use crate::homes::{SHARDS, shard_at};
 use crate::refusals::Refused;
 use crate::shards::Shard;
 use aria_base::{Duplicate, Key, Memory, Row};
@@ -51,8 +52,9 @@ impl Tables {
     pub fn get(&self, key: &Key) -> Option<&Row>
         ensures { option_copied result ≡ fin.get self.now key.now }
     {
-        let shard = &self.shards[usize::from(shard_of(key))];
-        shard.get(key)
+        let hash = hash_of(key);
+        let shard = &self.shards[usize::from(shard_at(hash, key))];
+        shard.get(hash, key)
     }
 
     /// Sets the row at a key. `Refused` means want of memory.
@@ -61,8 +63,9 @@ impl Tables {
         ensures refused { IfErr result (λ refused. (refused.key ≡ key) × (refused.row ≡ row)) }
         ensures kept { OnErr result (self.new ≡ self.old) }
     {
-        let shard = &mut self.shards[usize::from(shard_of(&key))];
-        shard.put(key, row)
+        let hash = hash_of(&key);
+        let shard = &mut self.shards[usize::from(shard_at(hash, &key))];
+        shard.put_at(hash, key, row)
     }
 
     /// Removes the row at a key, and tells whether there was one. No memory.
@@ -70,8 +73,9 @@ impl Tables {
         ensures found { result ≡ fin.contains_key self.old key.now }
         ensures deleted { self.new ≡ fin.remove self.old key.now }
     {
-        let shard = &mut self.shards[usize::from(shard_of(key))];
-        shard.delete(key)
+        let hash = hash_of(key);
+        let shard = &mut self.shards[usize::from(shard_at(hash, key))];
+        shard.delete_at(hash, key)
     }
 
     /// All rows with their keys, in the order of the keys.

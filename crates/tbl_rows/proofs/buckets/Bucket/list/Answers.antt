@@ -1,9 +1,10 @@
-use Rattle.std.proofs.Common.{◌++◌, ap, sym, ◌∙◌, map}
+use Rattle.std.proofs.Common.{◌≡◌, ◌++◌, [], map, sym, ap, ◌∙◌, drop}
 use Rattle.std.specs.Map.Iter.{deref_pair}
-use Rattle.tbl_rows.proofs.Entries.{entries-from_entries}
+use Rattle.std.proofs.lemmas.List.{drop_all, append-nil}
+use Rattle.tbl_rows.proofs.Listed.{adds-listed}
 use Rattle.tbl_rows.proofs.buckets.Bucket.list.Goals as goal
 
-pub loop-key-init : goal.loop-key-init
-loop-key-init c =
-    let given = c.into_iter-key-iterator.ensures.into_iter_gives in
-    rw (← c.self.view_is) (ap (λ es. map deref_pair c.args.out.now.items ++ es) (given.0 ∙ sym (entries-from_entries _ given.5)))
+pub returns : goal.returns
+returns c =
+    let all = sym (append-nil (map deref_pair c.loop-entry.out.items)) ∙ ap (λ es. map deref_pair c.loop-entry.out.items ++ es) (sym (drop_all c.loop-entry.entry-index c.deref-entry-items.result.now c.loop-entry-test.false)) ∙ c.loop-entry.invariant ∙ ap (λ es. map deref_pair c.args.out.now.items ++ es) c.deref-entry-items.ensures.value in
+    rw (← c.self.view_is, all) (adds-listed _ _ c.self.invariant)

@@ -1,7 +1,6 @@
-use Rattle.std.proofs.Common.{◌≡◌, ◌++◌, map}
+use Rattle.std.proofs.Common.{◌≡◌, ◌++◌, map, drop}
 use Rattle.std.specs.Map.Iter.{deref_pair}
-use Rattle.std.specs.FinMap as fin
 use Rattle.tbl_rows.proofs.buckets.Bucket.list.Given as goal
 
-abbrev pub invariant-loop-key : goal.invariant-loop-key
-invariant-loop-key l = map deref_pair l.out.items ++ l.key-iterator ≡ map deref_pair l.initial.out.items ++ fin.entries l.self
+abbrev pub invariant-loop-entry : goal.invariant-loop-entry
+invariant-loop-entry l = map deref_pair l.out.items ++ drop l.entry-index l.entry-items ≡ map deref_pair l.initial.out.items ++ l.entry-items

@@ -1,0 +1,6 @@
+use Rattle.std.proofs.Common.{sym, ◌∙◌}
+use Rattle.tbl_rows.proofs.Trees.{get-lookup}
+use Rattle.tbl_rows.proofs.overflows.Overflow.get.Goals as goal
+
+pub returns : goal.returns
+returns c = rw (← c.self.view_is) (c.get.ensures.value ∙ sym (get-lookup _ _))

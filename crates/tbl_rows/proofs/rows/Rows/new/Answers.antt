@@ -1,0 +1,8 @@
+use Rattle.tbl_rows.proofs.Beside.{IsApart-bare, beside-bare}
+use Rattle.tbl_rows.proofs.rows.Rows.new.Goals as goal
+
+pub invariant_of-result : goal.invariant_of-result
+invariant_of-result c = IsApart-bare _ _ c.in_ok-pool.ensures
+
+pub returns : goal.returns
+returns c = beside-bare _ _ c.in_ok-pool.ensures c.new-overflow.ensures

@@ -1,0 +1,97 @@
+// A row as a bucket holds it.
+ghost use Rattle.std.specs.Prelude.{◌≡◌, ◌^◌, ◌<◌, ◌≤◌};
+ghost use Rattle.std.specs.Ordering.{eq_by_cmp};
+ghost use Rattle.aria_base.specs.Orders.{key_cmp};
+ghost use Rattle.tbl_rows.specs.Hashes.{hash_of};
+ghost use Rattle.tbl_rows.specs.Pools.{is_moved};
+ghost use Rattle.tbl_rows.specs.declared.homes.TheConstants.{LAST_LEVEL};
+
+use crate::homes::bucket_at;
+use aria_base::{Duplicate, Key, Memory, Row, same_key};
+use std::alloc::Global;
+use std::marker::Model;
+
+/// A row with its key, and with the key's hash, so that a search compares keys only where the hashes
+/// are one. A contract sees the key and the row.
+#[derive(Drop)]
+pub(crate) struct Entry {
+    hash: u64,
+    key: Key,
+    row: Row,
+}
+
+impl Model for Entry {
+    ghost use Rattle.std.specs.Prelude.{◌≡◌};
+    ghost use Rattle.aria_base.specs.Orders.{Cells};
+    ghost use Rattle.aria_base.specs.declared.keys.Key.{Key as Name};
+    ghost use Rattle.tbl_rows.specs.Codes.{entry_code};
+    ghost use Rattle.tbl_rows.specs.Hashes.{hash_of};
+
+    ghost Value = { Name × Cells };
+
+    ghost coded = { entry_code };
+
+    ghost view = { λ a. (a.key, a.row) };
+
+    ghost invariant = { λ a. a.hash ≡ hash_of a.key };
+}
+
+impl Entry {
+    /// This row at this key, whose hash it is.
+    pub(crate) fn new(hash: u64, key: Key, row: Row) -> Entry
+        requires { hash ≡ hash_of key }
+        ensures { result ≡ (key, row) }
+    {
+        Entry { hash, key, row }
+    }
+
+    /// The key.
+    pub(crate) fn key(&self) -> &Key
+        ensures { result.now ≡ self.now.0 }
+    {
+        &self.key
+    }
+
+    /// The row.
+    pub(crate) fn row(&self) -> &Row
+        ensures { result.now ≡ self.now.1 }
+    {
+        &self.row
+    }
+
+    /// Whether it is the row of this key, whose hash it is.
+    pub(crate) fn is_at(&self, hash: u64, key: &Key) -> bool
+        requires { hash ≡ hash_of key.now }
+        ensures { result ≡ eq_by_cmp key_cmp key.now self.now.0 }
+    {
+        hash == self.hash && same_key(key, &self.key)
+    }
+
+    /// Whether it moves when the next of so many buckets is made.
+    #[tactic(auto, unfolding(crate::specs::Pools::slot))]
+    pub(crate) fn is_moved(&self, level: u32, count: usize) -> bool
+        requires level { level ≤ LAST_LEVEL }
+        requires least { 2 ^ level ≤ count }
+        requires most { count < 2 ^ 32 }
+        ensures { result ≡ is_moved level count self.now.0 }
+    {
+        bucket_at(level, count + 1, self.hash) == count
+    }
+
+    /// Sets the row.
+    pub(crate) fn set_row(&mut self, row: Row)
+        ensures { self.new ≡ (self.old.0, row) }
+    {
+        self.row = row;
+    }
+}
+
+impl Duplicate for Entry {
+    fn duplicate(&self, alloc: Global) -> Result<Self, Memory> {
+        Ok(Entry {
+            hash: self.hash,
+            key: self.key.duplicate(alloc)?,
+            row: self.row.duplicate(alloc)?,
+        })
+    }
+}
