@@ -1,9 +1,9 @@
-ghost use Rattle.std.specs.Prelude.{◌≡◌, ◌≤◌, ◌<◌, ◌-◌, ◌^◌, length, take, IfSome, is_some};
+ghost use Rattle.std.specs.Prelude.{◌≡◌, ◌≤◌, ◌<◌, ◌-◌, ◌^◌, length, take, IfSome};
 ghost use Rattle.std.specs.List.{slice_get};
 ghost use Rattle.std.specs.Ordering.{eq_by_cmp};
 ghost use Rattle.aria_base.specs.Orders.{key_cmp};
 ghost use Rattle.batch_rules.specs.Touches.{is_among};
-ghost use Rattle.batch_rules.specs.Verdicts.{meets, least, verdict, verdict_by, cause_of};
+ghost use Rattle.batch_rules.specs.Verdicts.{meets, least, verdict, verdict_by};
 ghost use Rattle.dep_rules.specs.Decisions.{reads_of, writes_of, side_of};
 
 use crate::sets::Sets;
@@ -40,7 +40,7 @@ pub fn decide_listed(sets: &[Sets], tid: u32, rule: Rule) -> Verdict
 
 /// The verdict by the least request of each dependency.
 fn decided(rule: Rule, waw: Option<u32>, raw: Option<u32>, war: Option<u32>) -> Verdict
-    ensures { result ≡ verdict_by (cause_of rule waw raw war) (is_some raw) }
+    ensures { result ≡ verdict_by rule waw raw war }
 {
     match (rule, waw, raw, war) {
         (_, Some(waw), _, _) => Verdict::Wait(Cause::Waw(waw)),
