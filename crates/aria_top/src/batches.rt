@@ -4,7 +4,7 @@ ghost use Rattle.batch_rules.specs.Touches.{keys_of};
 ghost use Rattle.batch_rules.specs.Batches.{placed, fate_after};
 ghost use Rattle.batch_core.specs.Steps.{numbered, number_at, wait_of, reply_of};
 ghost use Rattle.aria_top.specs.Engines.{sets_of, verdicts, decided_by, requests_of, carrier, line_after};
-ghost use Rattle.reorder.specs.declared.placements.TheConstants.{MOST_REQUESTS};
+ghost use Rattle.aria_base.specs.declared.limits.TheConstants.{MOST_REQUESTS};
 
 use aria_base::{Call, Changes, Duplicate, Items, Keys, Memory, Request};
 use batch_core::{Line, Order, Replies, Reply, Wait};

@@ -6,7 +6,7 @@ ghost use Rattle.batch_core.specs.Steps.{step, answer};
 ghost use Rattle.proc_lang.specs.Catalogs.{run_of};
 ghost use Rattle.aria_top.specs.Engines.{state_of, executed_at, rows_after, waiting_after};
 ghost use Rattle.aria_top.specs.Out.{handed};
-ghost use Rattle.reorder.specs.declared.placements.TheConstants.{MOST_REQUESTS};
+ghost use Rattle.aria_base.specs.declared.limits.TheConstants.{MOST_REQUESTS};
 
 use crate::batches::{Decided, decide_all, lines_of, number_calls, order_of};
 use aria_base::{Call, Changes, Memory, Request};
