@@ -6,12 +6,12 @@ use Rattle.std.proofs.lemmas.Slice.Eq.{bytes_eq-Decides}
 use Rattle.std.proofs.lemmas.Grind.{common_steps}
 use Rattle.aria_base.specs.declared.values.Kind.{Kind}
 use Rattle.aria_base.specs.declared.values.Kind.TheVariants as kind
+use Rattle.proc_lang.specs.declared.operators.Source.TheVariants as source
+use Rattle.proc_lang.specs.declared.operators.UnaryOp.TheVariants as unary
+use Rattle.proc_lang.specs.declared.operators.BinaryOp.TheVariants as binary
 use Rattle.proc_lang.specs.declared.procs.ArgKind.{ArgKind}
 use Rattle.proc_lang.specs.declared.procs.ArgKind.TheVariants as arg
 use Rattle.proc_lang.specs.Catalogs.{arg_kind_fits}
-use Rattle.cat_forms.specs.declared.names.Plain.TheVariants as plain
-use Rattle.cat_forms.specs.declared.names.Unary.TheVariants as unary
-use Rattle.cat_forms.specs.declared.names.Binary.TheVariants as binary
 use Rattle.cat_forms.specs.declared.names.Form.{Form}
 use Rattle.cat_forms.specs.declared.names.Form.TheVariants as form
 use Rattle.cat_forms.specs.declared.names.Verb.{Verb}
@@ -26,10 +26,10 @@ bytes_eq-sym xs ys =
 
 pub form_again : (f : Form) → form_named (form_name f) ≡ Some f
 form_again form.Me = refl
-form_again (form.Plain plain.Reg) = refl
-form_again (form.Plain plain.Arg) = refl
-form_again (form.Plain plain.Item) = refl
-form_again (form.Plain plain.Len) = refl
+form_again (form.Named source.Reg) = refl
+form_again (form.Named source.Arg) = refl
+form_again (form.Named source.Item) = refl
+form_again (form.Named source.Len) = refl
 form_again (form.Unary unary.Not) = refl
 form_again (form.Unary unary.Show) = refl
 form_again (form.Binary binary.Add) = refl

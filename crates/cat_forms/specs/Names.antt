@@ -3,35 +3,33 @@ use Rattle.std.specs.Prelude.{ℕ, ◌+◌, Bool, true, false, List, [], ◌∷�
 use Rattle.std.specs.Str.{bytes_eq}
 use Rattle.aria_base.specs.declared.values.Kind.{Kind}
 use Rattle.aria_base.specs.declared.values.Kind.TheVariants as kind
+use Rattle.proc_lang.specs.declared.operators.Source.{Source}
+use Rattle.proc_lang.specs.declared.operators.Source.TheVariants as source
+use Rattle.proc_lang.specs.declared.operators.UnaryOp.{UnaryOp}
+use Rattle.proc_lang.specs.declared.operators.UnaryOp.TheVariants as unary
+use Rattle.proc_lang.specs.declared.operators.BinaryOp.{BinaryOp}
+use Rattle.proc_lang.specs.declared.operators.BinaryOp.TheVariants as binary
 use Rattle.proc_lang.specs.declared.procs.ArgKind.{ArgKind}
 use Rattle.proc_lang.specs.declared.procs.ArgKind.TheVariants as arg
 use Rattle.proc_lang.specs.Catalogs.{is_between}
-use Rattle.proc_lang.specs.declared.limits.TheConstants.{MOST_KEY_PARTS}
-use Rattle.proc_lang.specs.Terms.{Term}
-use Rattle.proc_lang.specs.Terms as term
-use Rattle.cat_forms.specs.declared.names.Plain.{Plain}
-use Rattle.cat_forms.specs.declared.names.Plain.TheVariants as plain
-use Rattle.cat_forms.specs.declared.names.Unary.{Unary}
-use Rattle.cat_forms.specs.declared.names.Unary.TheVariants as unary
-use Rattle.cat_forms.specs.declared.names.Binary.{Binary}
-use Rattle.cat_forms.specs.declared.names.Binary.TheVariants as binary
+use Rattle.aria_base.specs.declared.limits.TheConstants.{LONGEST_TUPLE}
 use Rattle.cat_forms.specs.declared.names.Form.{Form}
 use Rattle.cat_forms.specs.declared.names.Form.TheVariants as form
 use Rattle.cat_forms.specs.declared.names.Verb.{Verb}
 use Rattle.cat_forms.specs.declared.names.Verb.TheVariants as verb
 use Rattle.cat_forms.specs.declared.names.TheConstants.{FORMS, VERBS, KINDS, ARG_KINDS}
 
-abbrev pub plain_name : Plain → List ℕ
-plain_name plain.Reg = codes "reg"
-plain_name plain.Arg = codes "arg"
-plain_name plain.Item = codes "item"
-plain_name plain.Len = codes "len"
+abbrev pub source_name : Source → List ℕ
+source_name source.Reg = codes "reg"
+source_name source.Arg = codes "arg"
+source_name source.Item = codes "item"
+source_name source.Len = codes "len"
 
-abbrev pub unary_name : Unary → List ℕ
+abbrev pub unary_name : UnaryOp → List ℕ
 unary_name unary.Not = codes "not"
 unary_name unary.Show = codes "show"
 
-abbrev pub binary_name : Binary → List ℕ
+abbrev pub binary_name : BinaryOp → List ℕ
 binary_name binary.Add = codes "add"
 binary_name binary.Sub = codes "sub"
 binary_name binary.Mul = codes "mul"
@@ -47,39 +45,15 @@ binary_name binary.Cat = codes "cat"
 
 abbrev pub form_name : Form → List ℕ
 form_name form.Me = codes "me"
-form_name (form.Plain p) = plain_name p
-form_name (form.Unary u) = unary_name u
-form_name (form.Binary b) = binary_name b
+form_name (form.Named from) = source_name from
+form_name (form.Unary o) = unary_name o
+form_name (form.Binary o) = binary_name o
 form_name form.MulDiv = codes "muldiv"
 form_name form.Front = codes "front"
 
 -- the form with this name
 abbrev pub form_named : List ℕ → Option Form
 form_named name = find (λ f. bytes_eq (form_name f) name) FORMS
-
-abbrev pub plain_term : Plain → ℕ → Term
-plain_term plain.Reg n = term.Reg n
-plain_term plain.Arg n = term.Arg n
-plain_term plain.Item n = term.Item n
-plain_term plain.Len n = term.Len n
-
-abbrev pub unary_term : Unary → Term → Term
-unary_term unary.Not a = term.Not a
-unary_term unary.Show a = term.Show a
-
-abbrev pub binary_term : Binary → Term → Term → Term
-binary_term binary.Add a b = term.Add a b
-binary_term binary.Sub a b = term.Sub a b
-binary_term binary.Mul a b = term.Mul a b
-binary_term binary.Div a b = term.Div a b
-binary_term binary.Mod a b = term.Mod a b
-binary_term binary.Eq a b = term.Eq a b
-binary_term binary.Ne a b = term.Ne a b
-binary_term binary.Lt a b = term.Lt a b
-binary_term binary.Le a b = term.Le a b
-binary_term binary.And a b = term.And a b
-binary_term binary.Or a b = term.Or a b
-binary_term binary.Cat a b = term.Cat a b
 
 -- ---- statements
 
@@ -122,7 +96,7 @@ kind_name kind.Text = codes "text"
 abbrev pub arg_kind_name : ArgKind → List ℕ
 arg_kind_name arg.Int = codes "int"
 arg_kind_name arg.Text = codes "text"
-arg_kind_name (arg.List width) = if is_between 1 MOST_KEY_PARTS width then codes "list" ++ (48 + width) ∷ [] else codes "list"
+arg_kind_name (arg.List width) = if is_between 1 LONGEST_TUPLE width then codes "list" ++ (48 + width) ∷ [] else codes "list"
 
 abbrev pub kind_named : List ℕ → Option Kind
 kind_named name = find (λ k. bytes_eq (kind_name k) name) KINDS

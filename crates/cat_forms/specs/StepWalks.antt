@@ -9,7 +9,7 @@ use Rattle.serde_json.specs.Find.{as_str, as_array}
 use Rattle.proc_lang.specs.declared.procs.PathPart.{PathPart}
 use Rattle.proc_lang.specs.declared.limits.TheConstants.{MOST_STATEMENTS, GREATEST_CODE}
 use Rattle.proc_lang.specs.Terms.{Term}
-use Rattle.proc_lang.specs.Steps.{Step, Steps, Let, Get, Need, Find, Put, Del, If, Each, Give, Fail}
+use Rattle.proc_lang.specs.Steps.{Step, Steps, Traps, Fails, Blanks, Let, Read, Put, Del, If, Each, Give, Fail}
 use Rattle.proc_lang.specs.Syntax.{in_turn}
 use Rattle.cat_forms.specs.declared.names.Verb.{Verb}
 use Rattle.cat_forms.specs.declared.names.Verb.TheVariants as verb
@@ -87,15 +87,15 @@ abbrev mutual
     Ok (Let n t, seen)
   verb_at tables body path seen (Some verb.Get) (item t (item ks (item rs no_items))) = do
     read ← read_at tables path t ks rs
-    Ok (Get read.0.0 read.0.1 read.1, seen)
+    Ok (Read Traps read.0.0 read.0.1 read.1, seen)
   verb_at tables body path seen (Some verb.Need) (item t (item ks (item rs (item c no_items)))) = do
     read ← read_at tables path t ks rs
     failure ← at_path path (code c)
-    Ok (Need read.0.0 read.0.1 read.1 failure, seen)
+    Ok (Read (Fails failure) read.0.0 read.0.1 read.1, seen)
   verb_at tables body path seen (Some verb.Find) (item t (item ks (item rs (item f no_items)))) = do
     read ← read_at tables path t ks rs
     flag ← at_path path (index f)
-    Ok (Find read.0.0 read.0.1 read.1 flag, seen)
+    Ok (Read (Blanks flag) read.0.0 read.0.1 read.1, seen)
   verb_at tables body path seen (Some verb.Put) (item t (item ks (item es no_items))) = do
     row ← row_at tables path t ks
     cols ← terms_at path 3 es

@@ -5,11 +5,11 @@ use Rattle.serde_json.specs.Data.{Data, null, boolean, number, string, array, ob
 use Rattle.serde_json.specs.Find.{as_str, as_i64}
 use Rattle.proc_lang.specs.declared.procs.PathPart.{PathPart}
 use Rattle.proc_lang.specs.declared.limits.TheConstants.{DEEPEST_EXPR, MOST_FRONT}
-use Rattle.proc_lang.specs.Terms.{Term, Num, Text, Me, MulDiv, Front}
+use Rattle.proc_lang.specs.Terms.{Term, Num, Text, Me, Named, Unary, Binary, MulDiv, Front}
 use Rattle.proc_lang.specs.Values.{both}
 use Rattle.cat_forms.specs.declared.names.Form.{Form}
 use Rattle.cat_forms.specs.declared.names.Form.TheVariants as form
-use Rattle.cat_forms.specs.Names.{form_named, plain_term, unary_term, binary_term}
+use Rattle.cat_forms.specs.Names.{form_named}
 use Rattle.cat_forms.specs.Places.{in_item}
 use Rattle.cat_forms.specs.Shapes.{Shaped, ◌>>=◌, at_path, index, number_between, text_of}
 
@@ -34,13 +34,13 @@ abbrev mutual
   -- the form has these operands, and no others
   pub form_at : List PathPart → ℕ → Option Form → Items → Shaped Term
   form_at path level (Some form.Me) no_items = Ok Me
-  form_at path level (Some (form.Plain p)) (item n no_items) = at_path path (option_map (plain_term p) (index n))
-  form_at path level (Some (form.Unary u)) (item x no_items) = do
+  form_at path level (Some (form.Named from)) (item n no_items) = at_path path (option_map (Named from) (index n))
+  form_at path level (Some (form.Unary o)) (item x no_items) = do
     a ← term_at (in_item path 1) (level + 1) x
-    Ok (unary_term u a)
+    Ok (Unary o a)
   form_at path level (Some (form.Binary o)) (item x (item y no_items)) = do
     ab ← both (term_at (in_item path 1) (level + 1) x) (term_at (in_item path 2) (level + 1) y)
-    Ok (binary_term o ab.0 ab.1)
+    Ok (Binary o ab.0 ab.1)
   form_at path level (Some form.MulDiv) (item x (item y (item z no_items))) = do
     abc ← both (both (term_at (in_item path 1) (level + 1) x) (term_at (in_item path 2) (level + 1) y)) (term_at (in_item path 3) (level + 1) z)
     Ok (MulDiv abc.0.0 abc.0.1 abc.1)

@@ -11,15 +11,9 @@ use Rattle.proc_lang.specs.declared.procs.ArgKind.{ArgKind}
 use Rattle.proc_lang.specs.declared.procs.Proc.{Proc}
 use Rattle.proc_lang.specs.Terms.{Term}
 use Rattle.proc_lang.specs.Terms as term
-use Rattle.proc_lang.specs.Steps.{Step, Steps, NoMore, More}
+use Rattle.proc_lang.specs.Steps.{Absence, Traps, Fails, Blanks, Step, Steps, NoMore, More}
 use Rattle.proc_lang.specs.Steps as step
 use Rattle.proc_lang.specs.Catalogs.{Plan}
-use Rattle.cat_forms.specs.declared.names.Plain.{Plain}
-use Rattle.cat_forms.specs.declared.names.Plain.TheVariants as plain
-use Rattle.cat_forms.specs.declared.names.Unary.{Unary}
-use Rattle.cat_forms.specs.declared.names.Unary.TheVariants as unary
-use Rattle.cat_forms.specs.declared.names.Binary.{Binary}
-use Rattle.cat_forms.specs.declared.names.Binary.TheVariants as binary
 use Rattle.cat_forms.specs.declared.names.Form.{Form}
 use Rattle.cat_forms.specs.declared.names.Form.TheVariants as form
 use Rattle.cat_forms.specs.declared.names.Verb.{Verb}
@@ -38,39 +32,15 @@ index_data n = number (unsigned n)
 abbrev pub form_data : Form → List Data → Data
 form_data f operands = named (form_name f) operands
 
-abbrev pub plain_data : Plain → ℕ → Data
-plain_data p n = form_data (form.Plain p) (index_data n ∷ [])
-
-abbrev pub unary_data : Unary → Data → Data
-unary_data u x = form_data (form.Unary u) (x ∷ [])
-
-abbrev pub binary_data : Binary → Data → Data → Data
-binary_data o x y = form_data (form.Binary o) (x ∷ y ∷ [])
-
 abbrev pub term_data : Term → Data
 term_data (term.Num z) = number (of_integer z)
 term_data (term.Text bytes) = string bytes
-term_data (term.Reg n) = plain_data plain.Reg n
-term_data (term.Arg n) = plain_data plain.Arg n
-term_data (term.Item n) = plain_data plain.Item n
-term_data (term.Len n) = plain_data plain.Len n
 term_data term.Me = form_data form.Me []
-term_data (term.Add a b) = binary_data binary.Add (term_data a) (term_data b)
-term_data (term.Sub a b) = binary_data binary.Sub (term_data a) (term_data b)
-term_data (term.Mul a b) = binary_data binary.Mul (term_data a) (term_data b)
-term_data (term.Div a b) = binary_data binary.Div (term_data a) (term_data b)
-term_data (term.Mod a b) = binary_data binary.Mod (term_data a) (term_data b)
+term_data (term.Named from n) = form_data (form.Named from) (index_data n ∷ [])
+term_data (term.Unary o a) = form_data (form.Unary o) (term_data a ∷ [])
+term_data (term.Binary o a b) = form_data (form.Binary o) (term_data a ∷ term_data b ∷ [])
 term_data (term.MulDiv a b c) = form_data form.MulDiv (term_data a ∷ term_data b ∷ term_data c ∷ [])
-term_data (term.Eq a b) = binary_data binary.Eq (term_data a) (term_data b)
-term_data (term.Ne a b) = binary_data binary.Ne (term_data a) (term_data b)
-term_data (term.Lt a b) = binary_data binary.Lt (term_data a) (term_data b)
-term_data (term.Le a b) = binary_data binary.Le (term_data a) (term_data b)
-term_data (term.And a b) = binary_data binary.And (term_data a) (term_data b)
-term_data (term.Or a b) = binary_data binary.Or (term_data a) (term_data b)
-term_data (term.Not a) = unary_data unary.Not (term_data a)
-term_data (term.Cat a b) = binary_data binary.Cat (term_data a) (term_data b)
 term_data (term.Front a b n) = form_data form.Front (term_data a ∷ term_data b ∷ index_data n ∷ [])
-term_data (term.Show a) = unary_data unary.Show (term_data a)
 
 -- ---- statements
 
@@ -93,12 +63,21 @@ table_ref tables t = string (table_name tables t)
 abbrev pub verb_data : Verb → List Data → Data
 verb_data v operands = named (verb_name v) operands
 
+-- a read by what it does where there is no row: its verb, and its last operand if it has one
+abbrev pub read_verb : Absence → Verb
+read_verb Traps = verb.Get
+read_verb (Fails code) = verb.Need
+read_verb (Blanks flag) = verb.Find
+
+abbrev pub read_last : Absence → List Data
+read_last Traps = []
+read_last (Fails code) = index_data code ∷ []
+read_last (Blanks flag) = index_data flag ∷ []
+
 abbrev mutual
   pub step_data : List Table → Step → Data
   step_data tables (step.Let r e) = verb_data verb.Let (index_data r ∷ term_data e ∷ [])
-  step_data tables (step.Get t ks rs) = verb_data verb.Get (table_ref tables t ∷ terms_data ks ∷ indexes_data rs ∷ [])
-  step_data tables (step.Need t ks rs code) = verb_data verb.Need (table_ref tables t ∷ terms_data ks ∷ indexes_data rs ∷ index_data code ∷ [])
-  step_data tables (step.Find t ks rs flag) = verb_data verb.Find (table_ref tables t ∷ terms_data ks ∷ indexes_data rs ∷ index_data flag ∷ [])
+  step_data tables (step.Read absence t ks rs) = verb_data (read_verb absence) (table_ref tables t ∷ terms_data ks ∷ indexes_data rs ∷ read_last absence)
   step_data tables (step.Put t ks es) = verb_data verb.Put (table_ref tables t ∷ terms_data ks ∷ terms_data es ∷ [])
   step_data tables (step.Del t ks) = verb_data verb.Del (table_ref tables t ∷ terms_data ks ∷ [])
   step_data tables (step.If e a b) = verb_data verb.If (term_data e ∷ list_data (steps_data tables a) ∷ list_data (steps_data tables b) ∷ [])

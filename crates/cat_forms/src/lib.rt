@@ -31,6 +31,6 @@ mod names;
 
 pub use members::Member;
 pub use names::{
-    Binary, Form, NO_TABLE, Plain, Unary, Verb, arg_kind_name, arg_kind_named, form_named,
-    kind_name, kind_named, verb_named,
+    Form, NO_TABLE, Verb, arg_kind_name, arg_kind_named, form_named, kind_name, kind_named,
+    verb_named,
 };

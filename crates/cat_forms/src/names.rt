@@ -1,51 +1,20 @@
 // What expressions, statements and kinds are called in JSON.
 ghost use Rattle.std.specs.Prelude.{◌≡◌};
-ghost use Rattle.proc_lang.specs.TermOf.{term_of};
-ghost use Rattle.cat_forms.specs.Names.{plain_name, unary_name, binary_name, form_name, form_named, plain_term, unary_term, binary_term, verb_name, verb_named, kind_name, kind_named, arg_kind_name, arg_kind_named};
+ghost use Rattle.cat_forms.specs.Names.{source_name, unary_name, binary_name, form_name, form_named, verb_name, verb_named, kind_name, kind_named, arg_kind_name, arg_kind_named};
 
 use aria_base::Kind;
-use proc_lang::{ArgKind, Expr, MOST_TABLES};
-
-/// The forms of one plain number.
-#[derive(Clone, Copy, Debug, PartialEq, Eq)]
-pub enum Plain {
-    Reg,
-    Arg,
-    Item,
-    Len,
-}
-
-/// The forms of one expression.
-#[derive(Clone, Copy, Debug, PartialEq, Eq)]
-pub enum Unary {
-    Not,
-    Show,
-}
-
-/// The forms of two expressions.
-#[derive(Clone, Copy, Debug, PartialEq, Eq)]
-pub enum Binary {
-    Add,
-    Sub,
-    Mul,
-    Div,
-    Mod,
-    Eq,
-    Ne,
-    Lt,
-    Le,
-    And,
-    Or,
-    Cat,
-}
+use proc_lang::{ArgKind, BinaryOp, MOST_TABLES, Source, UnaryOp};
 
 /// The forms of expressions that have a name.
 #[derive(Clone, Copy, Debug, PartialEq, Eq)]
 pub enum Form {
     Me,
-    Plain(Plain),
-    Unary(Unary),
-    Binary(Binary),
+    /// Of a plain number.
+    Named(Source),
+    /// Of one expression.
+    Unary(UnaryOp),
+    /// Of two expressions.
+    Binary(BinaryOp),
     MulDiv,
     Front,
 }
@@ -53,24 +22,24 @@ pub enum Form {
 /// All of them.
 pub const FORMS: [Form; 21] = [
     Form::Me,
-    Form::Plain(Plain::Reg),
-    Form::Plain(Plain::Arg),
-    Form::Plain(Plain::Item),
-    Form::Plain(Plain::Len),
-    Form::Unary(Unary::Not),
-    Form::Unary(Unary::Show),
-    Form::Binary(Binary::Add),
-    Form::Binary(Binary::Sub),
-    Form::Binary(Binary::Mul),
-    Form::Binary(Binary::Div),
-    Form::Binary(Binary::Mod),
-    Form::Binary(Binary::Eq),
-    Form::Binary(Binary::Ne),
-    Form::Binary(Binary::Lt),
-    Form::Binary(Binary::Le),
-    Form::Binary(Binary::And),
-    Form::Binary(Binary::Or),
-    Form::Binary(Binary::Cat),
+    Form::Named(Source::Reg),
+    Form::Named(Source::Arg),
+    Form::Named(Source::Item),
+    Form::Named(Source::Len),
+    Form::Unary(UnaryOp::Not),
+    Form::Unary(UnaryOp::Show),
+    Form::Binary(BinaryOp::Add),
+    Form::Binary(BinaryOp::Sub),
+    Form::Binary(BinaryOp::Mul),
+    Form::Binary(BinaryOp::Div),
+    Form::Binary(BinaryOp::Mod),
+    Form::Binary(BinaryOp::Eq),
+    Form::Binary(BinaryOp::Ne),
+    Form::Binary(BinaryOp::Lt),
+    Form::Binary(BinaryOp::Le),
+    Form::Binary(BinaryOp::And),
+    Form::Binary(BinaryOp::Or),
+    Form::Binary(BinaryOp::Cat),
     Form::MulDiv,
     Form::Front,
 ];
@@ -123,93 +92,45 @@ pub const NO_TABLE: u16 = 65535;
 
 const _: () = prove!(NO_TABLE as usize >= MOST_TABLES);
 
-impl Plain {
-    /// The expression of this form.
-    pub fn of(self, number: u32) -> Expr
-        ensures { term_of result ≡ plain_term self number }
-    {
-        match self {
-            Plain::Reg => Expr::Reg(number),
-            Plain::Arg => Expr::Arg(number),
-            Plain::Item => Expr::Item(number),
-            Plain::Len => Expr::Len(number),
-        }
-    }
-
-    /// What it is called.
-    pub fn name(self) -> &'static str
-        ensures { result.now ≡ plain_name self }
-    {
-        match self {
-            Plain::Reg => "reg",
-            Plain::Arg => "arg",
-            Plain::Item => "item",
-            Plain::Len => "len",
-        }
+/// What the form of a plain number is called.
+fn source_name(source: Source) -> &'static str
+    ensures { result.now ≡ source_name source }
+{
+    match source {
+        Source::Reg => "reg",
+        Source::Arg => "arg",
+        Source::Item => "item",
+        Source::Len => "len",
     }
 }
 
-impl Unary {
-    /// The expression of this form.
-    pub fn of(self, x: Box<Expr>) -> Expr
-        ensures { term_of result ≡ unary_term self (term_of x.value) }
-    {
-        match self {
-            Unary::Not => Expr::Not(x),
-            Unary::Show => Expr::Show(x),
-        }
-    }
-
-    /// What it is called.
-    pub fn name(self) -> &'static str
-        ensures { result.now ≡ unary_name self }
-    {
-        match self {
-            Unary::Not => "not",
-            Unary::Show => "show",
-        }
+/// What an operator of one expression is called.
+fn unary_name(operator: UnaryOp) -> &'static str
+    ensures { result.now ≡ unary_name operator }
+{
+    match operator {
+        UnaryOp::Not => "not",
+        UnaryOp::Show => "show",
     }
 }
 
-impl Binary {
-    /// The expression of this form.
-    pub fn of(self, x: Box<Expr>, y: Box<Expr>) -> Expr
-        ensures { term_of result ≡ binary_term self (term_of x.value) (term_of y.value) }
-    {
-        match self {
-            Binary::Add => Expr::Add(x, y),
-            Binary::Sub => Expr::Sub(x, y),
-            Binary::Mul => Expr::Mul(x, y),
-            Binary::Div => Expr::Div(x, y),
-            Binary::Mod => Expr::Mod(x, y),
-            Binary::Eq => Expr::Eq(x, y),
-            Binary::Ne => Expr::Ne(x, y),
-            Binary::Lt => Expr::Lt(x, y),
-            Binary::Le => Expr::Le(x, y),
-            Binary::And => Expr::And(x, y),
-            Binary::Or => Expr::Or(x, y),
-            Binary::Cat => Expr::Cat(x, y),
-        }
-    }
-
-    /// What it is called.
-    pub fn name(self) -> &'static str
-        ensures { result.now ≡ binary_name self }
-    {
-        match self {
-            Binary::Add => "add",
-            Binary::Sub => "sub",
-            Binary::Mul => "mul",
-            Binary::Div => "div",
-            Binary::Mod => "mod",
-            Binary::Eq => "eq",
-            Binary::Ne => "ne",
-            Binary::Lt => "lt",
-            Binary::Le => "le",
-            Binary::And => "and",
-            Binary::Or => "or",
-            Binary::Cat => "cat",
-        }
+/// What an operator of two expressions is called.
+fn binary_name(operator: BinaryOp) -> &'static str
+    ensures { result.now ≡ binary_name operator }
+{
+    match operator {
+        BinaryOp::Add => "add",
+        BinaryOp::Sub => "sub",
+        BinaryOp::Mul => "mul",
+        BinaryOp::Div => "div",
+        BinaryOp::Mod => "mod",
+        BinaryOp::Eq => "eq",
+        BinaryOp::Ne => "ne",
+        BinaryOp::Lt => "lt",
+        BinaryOp::Le => "le",
+        BinaryOp::And => "and",
+        BinaryOp::Or => "or",
+        BinaryOp::Cat => "cat",
     }
 }
 
@@ -220,9 +141,9 @@ impl Form {
     {
         match self {
             Form::Me => "me",
-            Form::Plain(plain) => plain.name(),
-            Form::Unary(unary) => unary.name(),
-            Form::Binary(binary) => binary.name(),
+            Form::Named(source) => source_name(source),
+            Form::Unary(operator) => unary_name(operator),
+            Form::Binary(operator) => binary_name(operator),
             Form::MulDiv => "muldiv",
             Form::Front => "front",
         }

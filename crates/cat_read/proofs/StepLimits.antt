@@ -10,7 +10,7 @@ use Rattle.serde_json.specs.Find.{as_str, as_array}
 use Rattle.proc_lang.specs.declared.procs.PathPart.{PathPart}
 use Rattle.proc_lang.specs.declared.limits.TheConstants.{MOST_STATEMENTS, GREATEST_CODE}
 use Rattle.proc_lang.specs.Terms.{Term}
-use Rattle.proc_lang.specs.Steps.{Step, Steps, NoMore, Let, Get, Need, Find, Put, Del, If, Each, Give, Fail}
+use Rattle.proc_lang.specs.Steps.{Traps, Fails, Blanks, Step, Steps, NoMore, Let, Read, Put, Del, If, Each, Give, Fail}
 use Rattle.proc_lang.specs.Syntax.{in_turn}
 use Rattle.proc_lang.specs.Catalogs.{term_fits, code_fits, step_fits, steps_fit, step_count, steps_count}
 use Rattle.cat_forms.specs.declared.names.Verb.{Verb}
@@ -99,15 +99,15 @@ mutual
       flat seen n (Let a.0 t.0) s t.2 few refl (term_limits (in_item path 2) e t.0 t.1)
   verb_counted tables body path seen (Some verb.Get) (item t (item ks (item rs no_items))) s n few h =
       let a = bind_ok (read_at tables path t ks rs) _ (s, n) h in
-      flat seen n (Get a.0.0.0 a.0.0.1 a.0.1) s a.2 few refl (read_ok tables path t ks rs a.0 a.1)
+      flat seen n (Read Traps a.0.0.0 a.0.0.1 a.0.1) s a.2 few refl (rw (read_ok tables path t ks rs a.0 a.1))
   verb_counted tables body path seen (Some verb.Need) (item t (item ks (item rs (item c no_items)))) s n few h =
       let a = bind_ok (read_at tables path t ks rs) _ (s, n) h in
       let f = bind_ok (at_path path (code c)) _ (s, n) a.2 in
-      flat seen n (Need a.0.0.0 a.0.0.1 a.0.1 f.0) s f.2 few refl (rw (read_ok tables path t ks rs a.0 a.1, code_ok c f.0 (at_path_ok path (code c) f.0 f.1)))
+      flat seen n (Read (Fails f.0) a.0.0.0 a.0.0.1 a.0.1) s f.2 few refl (rw (read_ok tables path t ks rs a.0 a.1, code_ok c f.0 (at_path_ok path (code c) f.0 f.1)))
   verb_counted tables body path seen (Some verb.Find) (item t (item ks (item rs (item f no_items)))) s n few h =
       let a = bind_ok (read_at tables path t ks rs) _ (s, n) h in
       let g = bind_ok (at_path path (index f)) _ (s, n) a.2 in
-      flat seen n (Find a.0.0.0 a.0.0.1 a.0.1 g.0) s g.2 few refl (read_ok tables path t ks rs a.0 a.1)
+      flat seen n (Read (Blanks g.0) a.0.0.0 a.0.0.1 a.0.1) s g.2 few refl (rw (read_ok tables path t ks rs a.0 a.1))
   verb_counted tables body path seen (Some verb.Put) (item t (item ks (item es no_items))) s n few h =
       let a = bind_ok (row_at tables path t ks) _ (s, n) h in
       let c = bind_ok (terms_at path 3 es) _ (s, n) a.2 in

@@ -9,20 +9,14 @@ use Rattle.serde_json.specs.Data.{Data, null, boolean, number, string, array, ob
 use Rattle.serde_json.specs.Find.{as_str, as_i64, as_number, as_u64}
 use Rattle.proc_lang.specs.declared.procs.PathPart.{PathPart}
 use Rattle.proc_lang.specs.declared.limits.TheConstants.{DEEPEST_EXPR, MOST_FRONT}
-use Rattle.proc_lang.specs.Terms.{Term, Num, Text, Me, MulDiv, Front}
+use Rattle.proc_lang.specs.Terms.{Term, Num, Text, Me, Named, Unary, Binary, MulDiv, Front}
 use Rattle.proc_lang.specs.Values.{both}
 use Rattle.proc_lang.specs.Catalogs.{depth, fronts_fit, term_fits}
-use Rattle.cat_forms.specs.declared.names.Plain.{Plain}
-use Rattle.cat_forms.specs.declared.names.Plain.TheVariants as plain
-use Rattle.cat_forms.specs.declared.names.Unary.{Unary}
-use Rattle.cat_forms.specs.declared.names.Unary.TheVariants as unary
-use Rattle.cat_forms.specs.declared.names.Binary.{Binary}
-use Rattle.cat_forms.specs.declared.names.Binary.TheVariants as binary
 use Rattle.cat_forms.specs.declared.names.Form.{Form}
 use Rattle.cat_forms.specs.declared.names.Form.TheVariants as form
-use Rattle.cat_forms.specs.Names.{form_named, plain_term, unary_term, binary_term}
+use Rattle.cat_forms.specs.Names.{form_named}
 use Rattle.cat_forms.specs.Places.{in_item}
-use Rattle.cat_forms.specs.Shapes.{index, number_between, number_within, text_of}
+use Rattle.cat_forms.specs.Shapes.{Shaped, index, number_between, number_within, text_of}
 use Rattle.cat_forms.specs.TermWalks.{term_at, node_at, form_at, terms_after}
 use Rattle.cat_read.proofs.Binds.{bind_ok, both_ok, at_path_ok, mapped_ok, chained_ok, at_level_ok, number_ok}
 
@@ -31,42 +25,16 @@ pub record Within (level : ℕ) (t : Term) : Type 0 where
   pub shallow : level + depth t ≤ 1 + DEEPEST_EXPR
   pub fronts : fronts_fit t ≡ true
 
-within_plain : (level : ℕ) (p : Plain) (n : ℕ) → level ≤ DEEPEST_EXPR → Within level (plain_term p n)
-within_plain level plain.Reg n h = record { shallow = omega arith; fronts = refl }
-within_plain level plain.Arg n h = record { shallow = omega arith; fronts = refl }
-within_plain level plain.Item n h = record { shallow = omega arith; fronts = refl }
-within_plain level plain.Len n h = record { shallow = omega arith; fronts = refl }
-
-within_unary : (level : ℕ) (u : Unary) (a : Term) → Within (level + 1) a → Within level (unary_term u a)
-within_unary level unary.Not a h = record { shallow = omega (arith, h.shallow); fronts = h.fronts }
-within_unary level unary.Show a h = record { shallow = omega (arith, h.shallow); fronts = h.fronts }
-
-within_binary : (level : ℕ) (o : Binary) (a b : Term) → Within (level + 1) a → Within (level + 1) b → Within level (binary_term o a b)
-within_binary level binary.Add a b h k = record { shallow = omega (arith, h.shallow, k.shallow); fronts = rw (h.fronts, k.fronts) }
-within_binary level binary.Sub a b h k = record { shallow = omega (arith, h.shallow, k.shallow); fronts = rw (h.fronts, k.fronts) }
-within_binary level binary.Mul a b h k = record { shallow = omega (arith, h.shallow, k.shallow); fronts = rw (h.fronts, k.fronts) }
-within_binary level binary.Div a b h k = record { shallow = omega (arith, h.shallow, k.shallow); fronts = rw (h.fronts, k.fronts) }
-within_binary level binary.Mod a b h k = record { shallow = omega (arith, h.shallow, k.shallow); fronts = rw (h.fronts, k.fronts) }
-within_binary level binary.Eq a b h k = record { shallow = omega (arith, h.shallow, k.shallow); fronts = rw (h.fronts, k.fronts) }
-within_binary level binary.Ne a b h k = record { shallow = omega (arith, h.shallow, k.shallow); fronts = rw (h.fronts, k.fronts) }
-within_binary level binary.Lt a b h k = record { shallow = omega (arith, h.shallow, k.shallow); fronts = rw (h.fronts, k.fronts) }
-within_binary level binary.Le a b h k = record { shallow = omega (arith, h.shallow, k.shallow); fronts = rw (h.fronts, k.fronts) }
-within_binary level binary.And a b h k = record { shallow = omega (arith, h.shallow, k.shallow); fronts = rw (h.fronts, k.fronts) }
-within_binary level binary.Or a b h k = record { shallow = omega (arith, h.shallow, k.shallow); fronts = rw (h.fronts, k.fronts) }
-within_binary level binary.Cat a b h k = record { shallow = omega (arith, h.shallow, k.shallow); fronts = rw (h.fronts, k.fronts) }
-
-within_three : (level : ℕ) (a b c : Term) → Within (level + 1) a → Within (level + 1) b → Within (level + 1) c → Within level (MulDiv a b c)
-within_three level a b c h k l = record { shallow = omega (arith, h.shallow, k.shallow, l.shallow); fronts = rw (h.fronts, k.fronts, l.fronts) }
-
-within_front : (level : ℕ) (a b : Term) (n : ℕ) → Within (level + 1) a → Within (level + 1) b → nat_le n MOST_FRONT ≡ true → Within level (Front a b n)
-within_front level a b n h k few = record { shallow = omega (arith, h.shallow, k.shallow); fronts = rw (few, h.fronts, k.fronts) }
-
 -- the number that data says is within its bounds
 pub number_bounds : (low high : ℕ) (d : Data) (n : ℕ) → number_between low high d ≡ Some n → (low ≤ n) × (n ≤ high)
 number_bounds low high d n h =
     let m = chained_ok (number_within low high) (option_and_then as_u64 (as_number d)) n h in
     let k = number_ok low high m.0 n m.2 in
     (grind (arith, common_steps, k.1), grind (arith, common_steps, k.1))
+
+-- of two operands, where it is so of each
+both_within : (level : ℕ) (x y : Shaped Term) (a b : Term) → ((t : Term) → x ≡ Ok t → Within level t) → ((t : Term) → y ≡ Ok t → Within level t) → both x y ≡ Ok (a, b) → Within level a × Within level b
+both_within level x y a b of_x of_y h = let ab = both_ok x y a b h in (of_x a ab.0, of_y b ab.1)
 
 mutual
   pub term_within : (path : List PathPart) (level : ℕ) (d : Data) (t : Term) → term_at path level d ≡ Ok t → Within level t
@@ -91,30 +59,32 @@ mutual
 
   form_within : (path : List PathPart) (level : ℕ) (f : Option Form) (ds : Items) (t : Term) → level ≤ DEEPEST_EXPR → form_at path level f ds ≡ Ok t → Within level t
   form_within path level (Some form.Me) no_items t l h = let e : Me ≡ t = cc h in subst (λ t. Within level t) e (record { shallow = omega (arith, l); fronts = refl })
-  form_within path level (Some (form.Plain p)) (item n no_items) t l h =
-      let m = mapped_ok (plain_term p) (index n) t (at_path_ok path _ t h) in
-      subst (λ t. Within level t) m.2 (within_plain level p m.0 l)
-  form_within path level (Some (form.Unary u)) (item x no_items) t l h =
+  form_within path level (Some (form.Named from)) (item n no_items) t l h =
+      let m = mapped_ok (Named from) (index n) t (at_path_ok path _ t h) in
+      subst (λ t. Within level t) m.2 (record { shallow = omega (arith, l); fronts = refl })
+  form_within path level (Some (form.Unary o)) (item x no_items) t l h =
       let a = bind_ok (term_at (in_item path 1) (level + 1) x) _ t h in
-      let e : unary_term u a.0 ≡ t = cc a.2 in
-      subst (λ t. Within level t) e (within_unary level u a.0 (term_within (in_item path 1) (level + 1) x a.0 a.1))
+      let e : Unary o a.0 ≡ t = cc a.2 in
+      let x_is = term_within (in_item path 1) (level + 1) x a.0 a.1 in
+      subst (λ t. Within level t) e (record { shallow = omega (arith, x_is.shallow); fronts = x_is.fronts })
   form_within path level (Some (form.Binary o)) (item x (item y no_items)) t l h =
       let p = bind_ok (both (term_at (in_item path 1) (level + 1) x) (term_at (in_item path 2) (level + 1) y)) _ t h in
-      let ab = both_ok (term_at (in_item path 1) (level + 1) x) (term_at (in_item path 2) (level + 1) y) p.0.0 p.0.1 p.1 in
-      let e : binary_term o p.0.0 p.0.1 ≡ t = cc p.2 in
-      subst (λ t. Within level t) e (within_binary level o p.0.0 p.0.1 (term_within (in_item path 1) (level + 1) x p.0.0 ab.0) (term_within (in_item path 2) (level + 1) y p.0.1 ab.1))
+      let ab = both_within (level + 1) _ _ p.0.0 p.0.1 (term_within (in_item path 1) (level + 1) x) (term_within (in_item path 2) (level + 1) y) p.1 in
+      let e : Binary o p.0.0 p.0.1 ≡ t = cc p.2 in
+      subst (λ t. Within level t) e (record { shallow = omega (arith, ab.0.shallow, ab.1.shallow); fronts = rw (ab.0.fronts, ab.1.fronts) })
   form_within path level (Some form.MulDiv) (item x (item y (item z no_items))) t l h =
       let p = bind_ok (both (both (term_at (in_item path 1) (level + 1) x) (term_at (in_item path 2) (level + 1) y)) (term_at (in_item path 3) (level + 1) z)) _ t h in
       let abc = both_ok (both (term_at (in_item path 1) (level + 1) x) (term_at (in_item path 2) (level + 1) y)) (term_at (in_item path 3) (level + 1) z) p.0.0 p.0.1 p.1 in
-      let ab = both_ok (term_at (in_item path 1) (level + 1) x) (term_at (in_item path 2) (level + 1) y) p.0.0.0 p.0.0.1 abc.0 in
+      let ab = both_within (level + 1) _ _ p.0.0.0 p.0.0.1 (term_within (in_item path 1) (level + 1) x) (term_within (in_item path 2) (level + 1) y) abc.0 in
+      let c = term_within (in_item path 3) (level + 1) z p.0.1 abc.1 in
       let e : MulDiv p.0.0.0 p.0.0.1 p.0.1 ≡ t = cc p.2 in
-      subst (λ t. Within level t) e (within_three level p.0.0.0 p.0.0.1 p.0.1 (term_within (in_item path 1) (level + 1) x p.0.0.0 ab.0) (term_within (in_item path 2) (level + 1) y p.0.0.1 ab.1) (term_within (in_item path 3) (level + 1) z p.0.1 abc.1))
+      subst (λ t. Within level t) e (record { shallow = omega (arith, ab.0.shallow, ab.1.shallow, c.shallow); fronts = rw (ab.0.fronts, ab.1.fronts, c.fronts) })
   form_within path level (Some form.Front) (item x (item y (item n no_items))) t l h =
       let p = bind_ok (both (term_at (in_item path 1) (level + 1) x) (term_at (in_item path 2) (level + 1) y)) _ t h in
-      let ab = both_ok (term_at (in_item path 1) (level + 1) x) (term_at (in_item path 2) (level + 1) y) p.0.0 p.0.1 p.1 in
+      let ab = both_within (level + 1) _ _ p.0.0 p.0.1 (term_within (in_item path 1) (level + 1) x) (term_within (in_item path 2) (level + 1) y) p.1 in
       let m = mapped_ok (Front p.0.0 p.0.1) (number_between 0 MOST_FRONT n) t (at_path_ok path _ t p.2) in
       let few : nat_le m.0 MOST_FRONT ≡ true = grind (arith, common_steps, (number_bounds 0 MOST_FRONT n m.0 m.1).1) in
-      subst (λ t. Within level t) m.2 (within_front level p.0.0 p.0.1 m.0 (term_within (in_item path 1) (level + 1) x p.0.0 ab.0) (term_within (in_item path 2) (level + 1) y p.0.1 ab.1) few)
+      subst (λ t. Within level t) m.2 (record { shallow = omega (arith, ab.0.shallow, ab.1.shallow); fronts = rw (few, ab.0.fronts, ab.1.fronts) })
   form_within path level other operands t l h = absurd (cc h)
 
 -- one that lies in no other

@@ -151,13 +151,13 @@ fn read_one(
         (form_at (path_of place.now) level (Some form) (item (view x.now) no_items)) }
 {
     match form {
-        Form::Plain(plain) => match index(x) {
-            Some(number) => Ok(plain.of(number)),
+        Form::Named(source) => match index(x) {
+            Some(number) => Ok(source.of(number)),
             None => Err(fault_at(alloc, place)),
         },
-        Form::Unary(unary) => {
+        Form::Unary(operator) => {
             let x = read_operand(alloc, place, level, 1, x)?;
-            Ok(unary.of(x))
+            Ok(operator.of(x))
         }
         _ => Err(fault_at(alloc, place)),
     }
@@ -178,9 +178,9 @@ fn read_two(
         (form_at (path_of place.now) level (Some form) (item (view x.now) (item (view y.now) no_items))) }
 {
     match form {
-        Form::Binary(binary) => {
+        Form::Binary(operator) => {
             let (x, y) = read_both(alloc, place, level, x, y)?;
-            Ok(binary.of(x, y))
+            Ok(operator.of(x, y))
         }
         _ => Err(fault_at(alloc, place)),
     }

@@ -7,8 +7,8 @@ use Rattle.serde_json.specs.Written.{has_float, items_have_float}
 use Rattle.serde_json.specs.View.{items_of}
 use Rattle.proc_lang.specs.declared.procs.ArgKind.{ArgKind}
 use Rattle.proc_lang.specs.declared.procs.Proc.{Proc}
-use Rattle.proc_lang.specs.Terms.{Term, Num, Text, Reg, Arg, Item, Len, Me, Add, Sub, Mul, Div, Mod, MulDiv, Eq, Ne, Lt, Le, And, Or, Not, Cat, Front, Show}
-use Rattle.proc_lang.specs.Steps.{Step, Steps, NoMore, More}
+use Rattle.proc_lang.specs.Terms.{Term, Num, Text, Me, Named, Unary, Binary, MulDiv, Front}
+use Rattle.proc_lang.specs.Steps.{Traps, Fails, Blanks, Step, Steps, NoMore, More}
 use Rattle.proc_lang.specs.Steps as step
 use Rattle.proc_lang.specs.Catalogs.{Plan}
 use Rattle.cat_forms.specs.Names.{kind_name, arg_kind_name}
@@ -25,27 +25,12 @@ term_plain : (t : Term) → has_float (term_data t) ≡ false
 term_plain (Num (pos n)) = refl
 term_plain (Num (negsuc n)) = refl
 term_plain (Text bytes) = refl
-term_plain (Reg n) = refl
-term_plain (Arg n) = refl
-term_plain (Item n) = refl
-term_plain (Len n) = refl
 term_plain Me = refl
-term_plain (Add a b) = rw (term_plain a, term_plain b)
-term_plain (Sub a b) = rw (term_plain a, term_plain b)
-term_plain (Mul a b) = rw (term_plain a, term_plain b)
-term_plain (Div a b) = rw (term_plain a, term_plain b)
-term_plain (Mod a b) = rw (term_plain a, term_plain b)
+term_plain (Named from n) = refl
+term_plain (Unary o a) = rw (term_plain a)
+term_plain (Binary o a b) = rw (term_plain a, term_plain b)
 term_plain (MulDiv a b c) = rw (term_plain a, term_plain b, term_plain c)
-term_plain (Eq a b) = rw (term_plain a, term_plain b)
-term_plain (Ne a b) = rw (term_plain a, term_plain b)
-term_plain (Lt a b) = rw (term_plain a, term_plain b)
-term_plain (Le a b) = rw (term_plain a, term_plain b)
-term_plain (And a b) = rw (term_plain a, term_plain b)
-term_plain (Or a b) = rw (term_plain a, term_plain b)
-term_plain (Not a) = rw (term_plain a)
-term_plain (Cat a b) = rw (term_plain a, term_plain b)
 term_plain (Front a b n) = rw (term_plain a, term_plain b)
-term_plain (Show a) = rw (term_plain a)
 
 -- what each of a list is written as
 all_plain : {A : Type 0} (f : A → Data) → ((x : A) → has_float (f x) ≡ false) → (xs : List A) → Plains (map f xs)
@@ -61,9 +46,9 @@ indexes_plain ns = all_plain index_data (λ n. refl) ns
 mutual
   step_plain : (tables : List Table) (s : Step) → has_float (step_data tables s) ≡ false
   step_plain tables (step.Let r e) = rw (term_plain e)
-  step_plain tables (step.Get t ks rs) = rw (terms_plain ks, indexes_plain rs)
-  step_plain tables (step.Need t ks rs code) = rw (terms_plain ks, indexes_plain rs)
-  step_plain tables (step.Find t ks rs flag) = rw (terms_plain ks, indexes_plain rs)
+  step_plain tables (step.Read Traps t ks rs) = rw (terms_plain ks, indexes_plain rs)
+  step_plain tables (step.Read (Fails code) t ks rs) = rw (terms_plain ks, indexes_plain rs)
+  step_plain tables (step.Read (Blanks flag) t ks rs) = rw (terms_plain ks, indexes_plain rs)
   step_plain tables (step.Put t ks es) = rw (terms_plain ks, terms_plain es)
   step_plain tables (step.Del t ks) = rw (terms_plain ks)
   step_plain tables (step.If e a b) = rw (term_plain e, steps_plain tables a, steps_plain tables b)

@@ -9,15 +9,15 @@ use Rattle.aria_base.specs.declared.schemas.Table.{Table}
 use Rattle.serde_json.specs.Data.{Data, string}
 use Rattle.serde_json.specs.Data as json
 use Rattle.serde_json.specs.View.{items_of}
-use Rattle.proc_lang.specs.Terms.{Term, Num, Text, Reg, Arg, Item, Len, Me, Add, Sub, Mul, Div, Mod, MulDiv, Eq, Ne, Lt, Le, And, Or, Not, Cat, Front, Show}
-use Rattle.proc_lang.specs.Steps.{Step, Steps, NoMore, More}
+use Rattle.proc_lang.specs.Terms.{Term, Num, Text, Me, Named, Unary, Binary, MulDiv, Front}
+use Rattle.proc_lang.specs.Steps.{Absence, Traps, Fails, Blanks, Step, Steps, NoMore, More}
 use Rattle.proc_lang.specs.Steps as step
 use Rattle.proc_lang.specs.declared.limits.TheConstants.{DEEPEST_EXPR, MOST_BLOCKS}
 use Rattle.proc_lang.specs.declared.flaws.TheConstants.{NESTING, UNKNOWN_TABLE}
 use Rattle.proc_lang.specs.Catalogs.{depth, term_fits, step_fits, steps_fit}
 use Rattle.proc_lang.specs.Values.{got}
-use Rattle.proc_lang.specs.Typing.{Typed, Scope, Set, Reached, found, wanted, at_place, passed, keyed, shaped, reads, writes, deletes, tests, goes_over, inside, inside_each, typed_step, typed_steps}
-use Rattle.cat_forms.specs.Written.{term_data, index_data, step_data, steps_data}
+use Rattle.proc_lang.specs.Typing.{Typed, Scope, Set, Reached, found, wanted, at_place, passed, keyed, shaped, reads, tells, writes, deletes, tests, goes_over, inside, inside_each, typed_step, typed_steps}
+use Rattle.cat_forms.specs.Written.{term_data, index_data, read_last, step_data, steps_data}
 
 -- ---- what follows where typing finds nothing
 
@@ -77,9 +77,7 @@ table_known tables t = is_some (slice_get tables t)
 abbrev mutual
   pub step_known : List Table → Step → Bool
   step_known tables (step.Let r e) = true
-  step_known tables (step.Get t ks rs) = table_known tables t
-  step_known tables (step.Need t ks rs code) = table_known tables t
-  step_known tables (step.Find t ks rs flag) = table_known tables t
+  step_known tables (step.Read absence t ks rs) = table_known tables t
   step_known tables (step.Put t ks es) = table_known tables t
   step_known tables (step.Del t ks) = table_known tables t
   step_known tables (step.If e a b) = steps_known tables a && steps_known tables b
@@ -96,29 +94,14 @@ abbrev mutual
 term_nests : (t : Term) → json.depth (term_data t) ≤ depth t
 term_nests (Num z) = omega arith
 term_nests (Text bytes) = omega arith
-term_nests (Reg n) = omega arith
-term_nests (Arg n) = omega arith
-term_nests (Item n) = omega arith
-term_nests (Len n) = omega arith
 term_nests Me = omega arith
-term_nests (Add a b) = omega (arith, term_nests a, term_nests b)
-term_nests (Sub a b) = omega (arith, term_nests a, term_nests b)
-term_nests (Mul a b) = omega (arith, term_nests a, term_nests b)
-term_nests (Div a b) = omega (arith, term_nests a, term_nests b)
-term_nests (Mod a b) = omega (arith, term_nests a, term_nests b)
+term_nests (Named from n) = omega arith
+term_nests (Unary o a) = omega (arith, term_nests a)
+term_nests (Binary o a b) = omega (arith, term_nests a, term_nests b)
 term_nests (MulDiv a b c) = omega (arith, term_nests a, term_nests b, term_nests c)
-term_nests (Eq a b) = omega (arith, term_nests a, term_nests b)
-term_nests (Ne a b) = omega (arith, term_nests a, term_nests b)
-term_nests (Lt a b) = omega (arith, term_nests a, term_nests b)
-term_nests (Le a b) = omega (arith, term_nests a, term_nests b)
-term_nests (And a b) = omega (arith, term_nests a, term_nests b)
-term_nests (Or a b) = omega (arith, term_nests a, term_nests b)
-term_nests (Not a) = omega (arith, term_nests a)
-term_nests (Cat a b) = omega (arith, term_nests a, term_nests b)
 term_nests (Front a b n) = omega (arith, term_nests a, term_nests b)
-term_nests (Show a) = omega (arith, term_nests a)
 
-fit_nests : (t : Term) → term_fits t ≡ true → json.depth (term_data t) ≤ 16
+fit_nests : (t : Term) → term_fits t ≡ true → json.depth (term_data t) ≤ DEEPEST_EXPR
 fit_nests t h =
     let few : depth t ≤ DEEPEST_EXPR = grind (arith, common_steps, h) in
     omega (arith, term_nests t, few)
@@ -128,11 +111,17 @@ pub all_nest : {A : Type 0} (f : A → Data) (n : ℕ) (xs : List A) → All (λ
 all_nest f n [] each = omega arith
 all_nest f n (x ∷ xs) each = omega (arith, each 0 x (omega arith), all_nest f n xs (λ k y below. each (suc k) y (omega (arith, below))))
 
-terms_nest : (ts : List Term) → list_all term_fits ts ≡ true → json.items_depth (items_of (map term_data ts)) ≤ 16
-terms_nest ts h = all_nest term_data 16 ts (λ k t below. fit_nests (get_or ts k t) (AllPass-from_list_all term_fits ts h k t below))
+terms_nest : (ts : List Term) → list_all term_fits ts ≡ true → json.items_depth (items_of (map term_data ts)) ≤ DEEPEST_EXPR
+terms_nest ts h = all_nest term_data DEEPEST_EXPR ts (λ k t below. fit_nests (get_or ts k t) (AllPass-from_list_all term_fits ts h k t below))
 
 indexes_nest : (ns : List ℕ) → json.items_depth (items_of (map index_data ns)) ≤ 0
 indexes_nest ns = all_nest index_data 0 ns (λ k n below. omega arith)
+
+-- what a read has last
+last_nests : (absence : Absence) → json.items_depth (items_of (read_last absence)) ≤ 0
+last_nests Traps = omega arith
+last_nests (Fails code) = omega arith
+last_nests (Blanks flag) = omega arith
 
 -- ---- statements
 
@@ -148,17 +137,11 @@ pub record AllSound (tables : List Table) (blocks : ℕ) (ss : Steps) : Type 0 w
 mutual
   step_sound : (s : Scope) (st : Step) (r next : Reached) → s.blocks ≤ MOST_BLOCKS → step_fits st ≡ true → typed_step s st r ≡ Ok next → Sound s.tables s.blocks st
   step_sound s (step.Let n e) r next b f h = record { known = refl; nests = omega (arith, fit_nests e f) }
-  step_sound s (step.Get t ks rs) r next b f h =
-      let p = passed_ok r (reads s t ks rs r.set) next h in
-      record { known = reads_ok s t ks rs r.set p.0 p.1; nests = omega (arith, terms_nest ks f, indexes_nest rs) }
-  step_sound s (step.Need t ks rs code) r next b f h =
-      let p = passed_ok r (reads s t ks rs r.set) next h in
-      let fit : list_all term_fits ks ≡ true = grind (arith, common_steps, f) in
-      record { known = reads_ok s t ks rs r.set p.0 p.1; nests = omega (arith, terms_nest ks fit, indexes_nest rs) }
-  step_sound s (step.Find t ks rs flag) r next b f h =
+  step_sound s (step.Read absence t ks rs) r next b f h =
       let p = passed_ok r _ next h in
-      let a = got_ok (reads s t ks rs r.set) _ p.0 p.1 in
-      record { known = reads_ok s t ks rs r.set a.0 a.1; nests = omega (arith, terms_nest ks f, indexes_nest rs) }
+      let a = got_ok (reads s t ks rs r.set) (tells s absence) p.0 p.1 in
+      let fit : list_all term_fits ks ≡ true = grind (arith, common_steps, f) in
+      record { known = reads_ok s t ks rs r.set a.0 a.1; nests = omega (arith, terms_nest ks fit, indexes_nest rs, last_nests absence) }
   step_sound s (step.Put t ks es) r next b f h =
       let p = passed_ok r (writes s t ks es r.set) next h in
       let fit : list_all term_fits ks ≡ true = grind (arith, common_steps, f) in

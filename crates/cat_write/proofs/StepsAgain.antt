@@ -15,7 +15,7 @@ use Rattle.serde_json.specs.View.{items_of}
 use Rattle.proc_lang.specs.declared.procs.PathPart.{PathPart}
 use Rattle.proc_lang.specs.declared.limits.TheConstants.{MOST_STATEMENTS, GREATEST_CODE}
 use Rattle.proc_lang.specs.Terms.{Term}
-use Rattle.proc_lang.specs.Steps.{Step, Steps, NoMore, More}
+use Rattle.proc_lang.specs.Steps.{Traps, Fails, Blanks, Step, Steps, NoMore, More}
 use Rattle.proc_lang.specs.Steps as step
 use Rattle.proc_lang.specs.Syntax.{in_turn}
 use Rattle.proc_lang.specs.Catalogs.{term_fits, code_fits, step_fits, steps_fit, step_count, steps_count, distinct}
@@ -89,9 +89,7 @@ exprs_again path at ts f h = terms_again (in_item path at) 0 [] ts f h
 
 counts : (s : Step) → 1 ≤ step_count s
 counts (step.Let n e) = omega arith
-counts (step.Get t ks rs) = omega arith
-counts (step.Need t ks rs c) = omega arith
-counts (step.Find t ks rs flag) = omega arith
+counts (step.Read absence t ks rs) = omega arith
 counts (step.Put t ks es) = omega arith
 counts (step.Del t ks) = omega arith
 counts (step.If e a b) = omega arith
@@ -145,17 +143,21 @@ module _ (tables : List Table) (d : distinct (map (λ t. t.name) tables) ≡ tru
         let en = index_again n held.0 in
         let ee = whole_again (in_item path 2) e f.fits held.1 in
         (seen, rw (en, ee), refl)
-    step_again path seen (step.Get t ks rs) f few =
-        let er = read_again path t ks rs f.known f.fits f.held in
+    step_again path seen (step.Read Traps t ks rs) f few =
+        let fits = and_parts (list_all term_fits ks) true f.fits in
+        let held = and_parts (list_all term_held ks && list_all is_u32 rs) true f.held in
+        let er = read_again path t ks rs f.known fits.0 held.0 in
         (seen, rw er, refl)
-    step_again path seen (step.Need t ks rs c) f few =
+    step_again path seen (step.Read (Fails c) t ks rs) f few =
         let fits = and_parts (list_all term_fits ks) (code_fits c) f.fits in
-        let er = read_again path t ks rs f.known fits.0 f.held in
+        let held = and_parts (list_all term_held ks && list_all is_u32 rs) true f.held in
+        let er = read_again path t ks rs f.known fits.0 held.0 in
         let ec = code_again c fits.1 in
         (seen, rw (er, ec), refl)
-    step_again path seen (step.Find t ks rs flag) f few =
+    step_again path seen (step.Read (Blanks flag) t ks rs) f few =
+        let fits = and_parts (list_all term_fits ks) true f.fits in
         let held = and_parts (list_all term_held ks && list_all is_u32 rs) (is_u32 flag) f.held in
-        let er = read_again path t ks rs f.known f.fits held.0 in
+        let er = read_again path t ks rs f.known fits.0 held.0 in
         let ef = index_again flag held.1 in
         (seen, rw (er, ef), refl)
     step_again path seen (step.Put t ks es) f few =

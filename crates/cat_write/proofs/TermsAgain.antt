@@ -11,22 +11,16 @@ use Rattle.serde_json.specs.View.{items_of}
 use Rattle.serde_json.specs.Find.{as_i64, of_integer}
 use Rattle.proc_lang.specs.declared.procs.PathPart.{PathPart}
 use Rattle.proc_lang.specs.declared.limits.TheConstants.{DEEPEST_EXPR, MOST_FRONT}
-use Rattle.proc_lang.specs.Terms.{Term, Num, Text, Reg, Arg, Item, Len, Me, Add, Sub, Mul, Div, Mod, MulDiv, Eq, Ne, Lt, Le, And, Or, Not, Cat, Front, Show}
+use Rattle.proc_lang.specs.Terms.{Term, Num, Text, Me, Named, Unary, Binary, MulDiv, Front}
 use Rattle.proc_lang.specs.Values.{both, is_i64}
 use Rattle.proc_lang.specs.Catalogs.{depth, fronts_fit, term_fits}
-use Rattle.cat_forms.specs.declared.names.Plain.{Plain}
-use Rattle.cat_forms.specs.declared.names.Plain.TheVariants as plain
-use Rattle.cat_forms.specs.declared.names.Unary.{Unary}
-use Rattle.cat_forms.specs.declared.names.Unary.TheVariants as unary
-use Rattle.cat_forms.specs.declared.names.Binary.{Binary}
-use Rattle.cat_forms.specs.declared.names.Binary.TheVariants as binary
 use Rattle.cat_forms.specs.declared.names.Form.{Form}
 use Rattle.cat_forms.specs.declared.names.Form.TheVariants as form
-use Rattle.cat_forms.specs.Names.{form_name, plain_term, unary_term, binary_term}
+use Rattle.cat_forms.specs.Names.{form_name}
 use Rattle.cat_forms.specs.Places.{in_item}
 use Rattle.cat_forms.specs.Shapes.{Shaped, at_path, index, number_between, text_of, is_text}
 use Rattle.cat_forms.specs.TermWalks.{at_level, term_at, node_at, form_at, terms_after}
-use Rattle.cat_forms.specs.Written.{index_data, plain_data, unary_data, binary_data, term_data}
+use Rattle.cat_forms.specs.Written.{index_data, term_data}
 use Rattle.cat_forms.proofs.NamesAgain.{form_again}
 use Rattle.cat_write.specs.Held.{is_u32, term_held}
 
@@ -62,14 +56,6 @@ text_again bytes h = rw h
 abbrev Again : ℕ → Term → Type 0
 Again level t = level + depth t ≤ 1 + DEEPEST_EXPR → fronts_fit t ≡ true → term_held t ≡ true → (path : List PathPart) → term_at path level (term_data t) ≡ Ok t
 
-plain_again : (level : ℕ) (p : Plain) (n : ℕ) → level + 1 ≤ 1 + DEEPEST_EXPR → is_u32 n ≡ true → (path : List PathPart) → term_at path level (plain_data p n) ≡ Ok (plain_term p n)
-plain_again level p n d h path = form_read path level (form.Plain p) (item (index_data n) no_items) (omega (arith, d)) ∙ ap (λ (o : Option ℕ). at_path path (option_map (plain_term p) o)) (index_again n h)
-
-unary_again : (level : ℕ) (u : Unary) (a : Term) → level + (1 + depth a) ≤ 1 + DEEPEST_EXPR → fronts_fit a ≡ true → term_held a ≡ true → Again (level + 1) a → (path : List PathPart) → term_at path level (unary_data u (term_data a)) ≡ Ok (unary_term u a)
-unary_again level u a d f h again path =
-    let e = again (omega (arith, d)) f h (in_item path 1) in
-    form_read path level (form.Unary u) (item (term_data a) no_items) (omega (arith, d)) ∙ rw e
-
 -- two operands, as the first of a form
 both_again : (level : ℕ) (a b : Term) → level + (1 + max (depth a) (depth b)) ≤ 1 + DEEPEST_EXPR → (fronts_fit a && fronts_fit b) ≡ true → (term_held a && term_held b) ≡ true → Again (level + 1) a → Again (level + 1) b → (path : List PathPart) → both (term_at (in_item path 1) (level + 1) (term_data a)) (term_at (in_item path 2) (level + 1) (term_data b)) ≡ Ok (a, b)
 both_again level a b d f h again_a again_b path =
@@ -79,45 +65,29 @@ both_again level a b d f h again_a again_b path =
     let eb = again_b (omega (arith, d)) fs.1 hs.1 (in_item path 2) in
     rw (ea, eb)
 
-binary_again : (level : ℕ) (o : Binary) (a b : Term) → level + (1 + max (depth a) (depth b)) ≤ 1 + DEEPEST_EXPR → (fronts_fit a && fronts_fit b) ≡ true → (term_held a && term_held b) ≡ true → Again (level + 1) a → Again (level + 1) b → (path : List PathPart) → term_at path level (binary_data o (term_data a) (term_data b)) ≡ Ok (binary_term o a b)
-binary_again level o a b d f h again_a again_b path =
-    let e = both_again level a b d f h again_a again_b path in
-    form_read path level (form.Binary o) (item (term_data a) (item (term_data b) no_items)) (omega (arith, d)) ∙ rw e
-
 term_again : (level : ℕ) (t : Term) → Again level t
 term_again level (Num z) d f h path = shallow path level (at_path path (option_map Num (as_i64 (of_integer z)))) (omega (arith, d)) ∙ ap (λ (o : Option ℤ). at_path path (option_map Num o)) (integer_again z h)
 term_again level (Text bytes) d f h path = shallow path level (at_path path (option_map Text (text_of bytes))) (omega (arith, d)) ∙ ap (λ (o : Option (List ℕ)). at_path path (option_map Text o)) (text_again bytes h)
-term_again level (Reg n) d f h path = plain_again level plain.Reg n d h path
-term_again level (Arg n) d f h path = plain_again level plain.Arg n d h path
-term_again level (Item n) d f h path = plain_again level plain.Item n d h path
-term_again level (Len n) d f h path = plain_again level plain.Len n d h path
 term_again level Me d f h path = form_read path level form.Me no_items (omega (arith, d))
-term_again level (Add a b) d f h path = binary_again level binary.Add a b d f h (term_again (level + 1) a) (term_again (level + 1) b) path
-term_again level (Sub a b) d f h path = binary_again level binary.Sub a b d f h (term_again (level + 1) a) (term_again (level + 1) b) path
-term_again level (Mul a b) d f h path = binary_again level binary.Mul a b d f h (term_again (level + 1) a) (term_again (level + 1) b) path
-term_again level (Div a b) d f h path = binary_again level binary.Div a b d f h (term_again (level + 1) a) (term_again (level + 1) b) path
-term_again level (Mod a b) d f h path = binary_again level binary.Mod a b d f h (term_again (level + 1) a) (term_again (level + 1) b) path
+term_again level (Named from n) d f h path = form_read path level (form.Named from) (item (index_data n) no_items) (omega (arith, d)) ∙ ap (λ (o : Option ℕ). at_path path (option_map (Named from) o)) (index_again n h)
+term_again level (Unary o a) d f h path =
+    let e = term_again (level + 1) a (omega (arith, d)) f h (in_item path 1) in
+    form_read path level (form.Unary o) (item (term_data a) no_items) (omega (arith, d)) ∙ rw e
+term_again level (Binary o a b) d f h path =
+    let e = both_again level a b d f h (term_again (level + 1) a) (term_again (level + 1) b) path in
+    form_read path level (form.Binary o) (item (term_data a) (item (term_data b) no_items)) (omega (arith, d)) ∙ rw e
 term_again level (MulDiv a b c) d f h path =
     let fs = and_parts (fronts_fit a && fronts_fit b) (fronts_fit c) f in
     let hs = and_parts (term_held a && term_held b) (term_held c) h in
     let e = both_again level a b (omega (arith, d)) fs.0 hs.0 (term_again (level + 1) a) (term_again (level + 1) b) path in
     let ec = term_again (level + 1) c (omega (arith, d)) fs.1 hs.1 (in_item path 3) in
     form_read path level form.MulDiv (item (term_data a) (item (term_data b) (item (term_data c) no_items))) (omega (arith, d)) ∙ rw (e, ec)
-term_again level (Eq a b) d f h path = binary_again level binary.Eq a b d f h (term_again (level + 1) a) (term_again (level + 1) b) path
-term_again level (Ne a b) d f h path = binary_again level binary.Ne a b d f h (term_again (level + 1) a) (term_again (level + 1) b) path
-term_again level (Lt a b) d f h path = binary_again level binary.Lt a b d f h (term_again (level + 1) a) (term_again (level + 1) b) path
-term_again level (Le a b) d f h path = binary_again level binary.Le a b d f h (term_again (level + 1) a) (term_again (level + 1) b) path
-term_again level (And a b) d f h path = binary_again level binary.And a b d f h (term_again (level + 1) a) (term_again (level + 1) b) path
-term_again level (Or a b) d f h path = binary_again level binary.Or a b d f h (term_again (level + 1) a) (term_again (level + 1) b) path
-term_again level (Not a) d f h path = unary_again level unary.Not a d f h (term_again (level + 1) a) path
-term_again level (Cat a b) d f h path = binary_again level binary.Cat a b d f h (term_again (level + 1) a) (term_again (level + 1) b) path
 term_again level (Front a b n) d f h path =
     let few : n ≤ MOST_FRONT = grind (arith, common_steps, f) in
     let fs : (fronts_fit a && fronts_fit b) ≡ true = grind (arith, common_steps, f) in
     let e = both_again level a b d fs h (term_again (level + 1) a) (term_again (level + 1) b) path in
     let en = between_again 0 MOST_FRONT n (omega arith) few in
     form_read path level form.Front (item (term_data a) (item (term_data b) (item (index_data n) no_items))) (omega (arith, d)) ∙ rw (e, en)
-term_again level (Show a) d f h path = unary_again level unary.Show a d f h (term_again (level + 1) a) path
 
 -- one that lies in no other
 pub whole_again : (path : List PathPart) (t : Term) → term_fits t ≡ true → term_held t ≡ true → term_at path 1 (term_data t) ≡ Ok t

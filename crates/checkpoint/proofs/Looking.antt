@@ -1,5 +1,5 @@
 -- What a look at a slot finds.
-use Rattle.std.proofs.Common.{◌≡◌, ◌≢◌, ℕ, ◌+◌, ◌-◌, ◌<◌, ◌≤◌, List, length, take, drop, Bool, true, false, refl, sym, ◌∙◌, ap, subst, arith, Option, None, Some, option_map}
+use Rattle.std.proofs.Common.{◌≡◌, ℕ, ◌-◌, ◌<◌, ◌≤◌, length, take, drop, Bool, true, false, sym, ◌∙◌, ap, arith, Option, None, Some}
 use Rattle.std.specs.Prelude.{IfSome, nat_lt, if◌then◌else◌}
 use Rattle.std.proofs.lemmas.Bool.Decides.{nat_tests}
 use Rattle.disk_model.specs.Files.{File}
@@ -7,7 +7,7 @@ use Rattle.checkpoint.specs.declared.heads.Head.{Head}
 use Rattle.checkpoint.specs.declared.heads.Fields.{Fields}
 use Rattle.checkpoint.specs.Heads.{fields_of, head_in}
 use Rattle.checkpoint.specs.Damage.{faults, first_fault}
-use Rattle.checkpoint.specs.Slots.{Slot, Shut, Shown, Bad, is_open, by_fault, behind_head, open_slot, slot_of, IsLooked}
+use Rattle.checkpoint.specs.Slots.{Shut, Shown, Bad, is_open, by_fault, behind_head, open_slot, slot_of, IsLooked}
 
 module _ (slot : ℕ) (told : Option File) where
   pub looks_shut : (gate : Bool) → gate ≡ false → IfSome told (λ f. gate ≡ is_open f.seen) → IfSome told (λ f. slot_of slot f.seen ≡ Shut)
@@ -68,6 +68,6 @@ module _ (slot : ℕ) (told : Option File) where
           go (Some f) i s r =
               let no : nat_lt (length f.seen - 40) fields.body ≡ false = grind (arith, nat_tests, s, fits) in (
                 behind f i s r ∙ ap (λ (o : Option ℕ). by_fault o (behind_head fields f.seen)) sound ∙ ap (λ (b : Bool). if b then Bad 32 else Shown (head_in fields) (take fields.body (drop 40 f.seen))) no
-                ∙ ap (λ (x : Head). Shown x (take fields.body (drop 40 f.seen))) (sym h_is) ∙ ap (λ (k : ℕ). Shown h (take k (drop 40 f.seen))) (sym n_is),
+                    ∙ ap (λ (x : Head). Shown x (take fields.body (drop 40 f.seen))) (sym h_is) ∙ ap (λ (k : ℕ). Shown h (take k (drop 40 f.seen))) (sym n_is),
                 omega (arith, s, fits, long, n_is),
               )

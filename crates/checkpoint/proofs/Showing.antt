@@ -1,19 +1,20 @@
 -- How a slot reads from bytes.
-use Rattle.std.proofs.Common.{◌≡◌, ◌≢◌, ◌⊎◌, ℕ, zero, suc, ◌+◌, ◌-◌, ◌*◌, ◌^◌, ◌<◌, ◌≤◌, List, [], ◌∷◌, ◌++◌, length, take, drop, get_or, Bool, true, false, refl, sym, ◌∙◌, subst, ap, arith, inl, inr, Option, None, Some, length-append, length-take, length-drop}
-use Rattle.std.specs.Prelude.{nat_le, nat_lt, ◌==◌, ◌%◌, ◌&&◌, ◌||◌, not, if◌then◌else◌}
+use Rattle.std.proofs.Common.{◌≡◌, ℕ, zero, suc, ◌+◌, ◌-◌, ◌^◌, ◌<◌, ◌≤◌, List, [], ◌∷◌, ◌++◌, length, take, drop, Bool, true, false, refl, sym, ◌∙◌, subst, ap, arith, inl, inr, Option, None, Some, length-append, length-drop}
+use Rattle.std.specs.Prelude.{nat_lt, ◌==◌, ◌%◌, ◌||◌, not, if◌then◌else◌}
 use Rattle.std.proofs.lemmas.Bool.{cases_eq}
 use Rattle.std.proofs.lemmas.Bool.Decides.{nat_tests}
-use Rattle.std.proofs.lemmas.List.{take-append-drop, take_at, drop_at, take-append-le, append_assoc}
+use Rattle.std.proofs.lemmas.List.{take-append-drop, take_at, take-append-le, append_assoc}
 use Rattle.byteorder.specs.Endian.{little_bytes, little_number}
 use Rattle.byteorder.specs.Numbers.{little_number-reads_back}
 use Rattle.batch_rules.specs.declared.verdicts.Rule.{Rule}
 use Rattle.batch_rules.specs.declared.verdicts.Rule.TheVariants.{Plain, Reorder}
+use Rattle.aria_base.specs.declared.limits.TheConstants.{GREATEST_NUMBER}
 use Rattle.disk_model.specs.Files.{put}
 use Rattle.checkpoint.specs.declared.heads.Head.{Head}
 use Rattle.checkpoint.specs.declared.heads.Fields.{Fields}
 use Rattle.checkpoint.specs.Heads.{magic, fields_of, rule_of, rule_byte, head_in, fields_for, head_bytes}
 use Rattle.checkpoint.specs.Damage.{wrong_generation, faults, first_fault, IsSound}
-use Rattle.checkpoint.specs.Slots.{Slot, Shut, Shown, Bad, is_open, by_fault, behind_head, open_slot, slot_of, opened, laid}
+use Rattle.checkpoint.specs.Slots.{Slot, Shut, Shown, Bad, is_open, by_fault, open_slot, slot_of, opened, laid}
 use Rattle.checkpoint.specs.Gates.{IsShut}
 
 pub record ShowsBy (o l r : Bool) (fault : Option ℕ) (s shown : Slot) : Type 0 where
@@ -143,8 +144,8 @@ record Clear (slot : ℕ) (f : Fields) : Type 0 where
   pub format : not (f.format == 1 || f.format == 2) ≡ false
   pub rule : nat_lt 1 f.rule ≡ false
   pub generation : wrong_generation slot f ≡ false
-  pub batches : nat_lt (2 ^ 62) f.batches ≡ false
-  pub requests : nat_lt (2 ^ 62) f.requests ≡ false
+  pub batches : nat_lt GREATEST_NUMBER f.batches ≡ false
+  pub requests : nat_lt GREATEST_NUMBER f.requests ≡ false
 
 clear : (slot : ℕ) (f : Fields) → first_fault (faults slot f) ≡ None → Clear slot f
 clear slot f none =
@@ -153,8 +154,8 @@ clear slot f none =
     let rule_row = no_fault (nat_lt 1 f.rule) 6 (drop 3 (faults slot f)) format_row.1 in
     let fallback_row = no_fault (nat_lt 101 f.fallback) 7 (drop 4 (faults slot f)) rule_row.1 in
     let generation_row = no_fault (wrong_generation slot f) 8 (drop 5 (faults slot f)) fallback_row.1 in
-    let batches_row = no_fault (nat_lt (2 ^ 62) f.batches) 16 (drop 6 (faults slot f)) generation_row.1 in
-    let requests_row = no_fault (nat_lt (2 ^ 62) f.requests) 24 [] batches_row.1 in
+    let batches_row = no_fault (nat_lt GREATEST_NUMBER f.batches) 16 (drop 6 (faults slot f)) generation_row.1 in
+    let requests_row = no_fault (nat_lt GREATEST_NUMBER f.requests) 24 [] batches_row.1 in
     record {
       behind_magic = magic_row.1;
       format = format_row.0;
@@ -170,8 +171,8 @@ ranges slot h sound =
     let format : h.format ≤ 2 = known_format h.format known.format in
     let above : nat_lt (h.batches + h.format) h.generation ≡ false = last_or (h.generation == 0) (not (h.generation % 2 == slot)) (nat_lt (h.batches + h.format) h.generation) known.generation in
     let generation : h.generation ≤ h.batches + h.format = grind (arith, nat_tests, above) in
-    let batches : h.batches ≤ 2 ^ 62 = grind (arith, nat_tests, known.batches) in
-    let requests : h.requests ≤ 2 ^ 62 = grind (arith, nat_tests, known.requests) in
+    let batches : h.batches ≤ GREATEST_NUMBER = grind (arith, nat_tests, known.batches) in
+    let requests : h.requests ≤ GREATEST_NUMBER = grind (arith, nat_tests, known.requests) in
     record { generation = omega (arith, generation, batches, format); batches = omega (arith, batches); requests = omega (arith, requests) }
 
 rule_back : (rule : Rule) → rule_of (rule_byte rule) ≡ rule

@@ -3,6 +3,7 @@ ghost use Rattle.std.specs.Prelude.{◌≡◌, ◌≤◌};
 ghost use Rattle.checkpoint.specs.Heads.{fields_of, head_in, head_bytes};
 ghost use Rattle.checkpoint.specs.Damage.{faults, first_fault, wrong_generation};
 
+use aria_base::GREATEST_NUMBER;
 use batch_rules::verdicts::Rule;
 use byteorder::{ByteOrder, LittleEndian};
 
@@ -11,9 +12,6 @@ pub const FRONT: usize = 40;
 
 /// 'ARIA' as a number, the first byte the lowest.
 const MAGIC: u32 = 0x4149_5241;
-
-/// The most batches and requests.
-const MOST: u64 = 1 << 62;
 
 /// The greatest fallback.
 const MOST_FALLBACK: u8 = 101;
@@ -99,10 +97,10 @@ impl Fields {
         if self.wrong_generation(slot) {
             return Some(8);
         }
-        if self.batches > MOST {
+        if self.batches > GREATEST_NUMBER {
             return Some(16);
         }
-        if self.requests > MOST {
+        if self.requests > GREATEST_NUMBER {
             return Some(24);
         }
         None

@@ -62,7 +62,10 @@ fn look<D: Disk>(disk: &mut D, slot: u8) -> Result<Option<(Head, usize)>, LogRef
         return Ok(None);
     }
     if len < FRONT as u64 {
-        return Err(LogRefused::Damaged { file: slot, at: len });
+        return Err(LogRefused::Damaged {
+            file: slot,
+            at: len,
+        });
     }
     let fields = read_fields(disk, slot)?;
     if let Some(at) = fields.first_fault(slot) {

@@ -20,7 +20,8 @@ const HEAD: Head = Head {
 const BODY: [u8; 5] = *b"rows\n";
 
 // The head and the body behind an open gate.
-const WRITTEN: [u8; 45] = *b"\x01ARIA\x02\x01\x65\x03\0\0\0\0\0\0\0\x07\0\0\0\0\0\0\0\x02\x01\0\0\0\0\0\0\x05\0\0\0\0\0\0\0rows\n";
+const WRITTEN: [u8; 45] =
+    *b"\x01ARIA\x02\x01\x65\x03\0\0\0\0\0\0\0\x07\0\0\0\0\0\0\0\x02\x01\0\0\0\0\0\0\x05\0\0\0\0\0\0\0rows\n";
 
 // Asserts that what was found in this case is what was worked out for it.
 fn same<T: PartialEq + Debug>(rt: &impl Abort, case: &impl Debug, found: &T, wanted: &T) {

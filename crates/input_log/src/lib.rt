@@ -4,6 +4,11 @@
 //! bytes, the payload, and the next gate. `append` leaves in every image the payloads from before
 //! the call, with the new one or without, and with it once it has answered Ok. `scan` reads the
 //! payloads up to the first closed gate and changes nothing.
+//!
+//! ```text
+//!     record              record              end
+//!     1 | len | payload | 1 | len | payload | 0 | anything
+//! ```
 #![tactic(auto)]
 
 mod logs;

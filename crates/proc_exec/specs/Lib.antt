@@ -3,4 +3,5 @@ pub mod Faults
 pub mod Lates
 pub mod Limits
 pub mod Outcomes
+pub mod Scopes
 pub mod Steppings

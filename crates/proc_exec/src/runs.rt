@@ -2,7 +2,8 @@
 ghost use Rattle.std.specs.Prelude.{IfOk};
 ghost use Rattle.proc_lang.specs.Steps as step;
 ghost use Rattle.proc_lang.specs.Syntax.{step_of};
-ghost use Rattle.proc_lang.specs.Meaning.{step_run, steps_run, script};
+ghost use Rattle.proc_lang.specs.Meaning.{script};
+ghost use Rattle.proc_exec.specs.Scopes.{step_in, steps_in};
 ghost use Rattle.proc_exec.specs.Steppings.{Performs, ComesTo};
 
 use crate::accesses::{delete, find, get, need, put};
@@ -49,7 +50,7 @@ fn run_block<L: Limits, A: Access>(
     state: &mut Running,
     access: &mut A,
 ) -> Result<(), Stop>
-    ensures { Performs result (L.declared setting.now.limits.now) (steps_run setting.now.scope.request.now block.now setting.now.scope.item.now) state.old state.new (A.seen access.old) (A.seen access.new) }
+    ensures { Performs result (L.declared setting.now.limits.now) (steps_in setting.now.scope block.now) state.old state.new (A.seen access.old) (A.seen access.new) }
 {
     for stmt in block.as_slice() {
         run_stmt(setting, stmt, state, access)?;
@@ -65,7 +66,7 @@ fn run_stmt<L: Limits, A: Access>(
     state: &mut Running,
     access: &mut A,
 ) -> Result<(), Stop>
-    ensures { Performs result (L.declared setting.now.limits.now) (step_run setting.now.scope.request.now (step_of stmt.now) setting.now.scope.item.now) state.old state.new (A.seen access.old) (A.seen access.new) }
+    ensures { Performs result (L.declared setting.now.limits.now) (step_in setting.now.scope (step_of stmt.now)) state.old state.new (A.seen access.old) (A.seen access.new) }
 {
     match stmt {
         Stmt::Let(register, expr) => Ok(state.assign(&setting.scope, *register, expr)?),
@@ -98,7 +99,7 @@ fn run_each<L: Limits, A: Access>(
     state: &mut Running,
     access: &mut A,
 ) -> Result<(), Stop>
-    ensures { Performs result (L.declared setting.now.limits.now) (step_run setting.now.scope.request.now (step.Each argument block.now) setting.now.scope.item.now) state.old state.new (A.seen access.old) (A.seen access.new) }
+    ensures { Performs result (L.declared setting.now.limits.now) (step_in setting.now.scope (step.Each argument block.now)) state.old state.new (A.seen access.old) (A.seen access.new) }
 {
     let scope = &setting.scope;
     for tuple in scope.tuples(argument) {

@@ -64,8 +64,8 @@ fn first_bytes(alloc: Global, first: &[u8], second: &[u8], most: usize) -> Resul
 
 /// The two joined; traps where that is no text.
 #[tactic(auto, using(crate::proofs::TextFacts::joined_whole))]
-pub fn join(alloc: Global, pair: (Value, Value)) -> Result<Value, Fault>
-    ensures { Computes result (joined (text_of pair.0) (text_of pair.1)) }
+pub fn join(alloc: Global, pair: &(Value, Value)) -> Result<Value, Fault>
+    ensures { Computes result (joined (text_of pair.now.0) (text_of pair.now.1)) }
 {
     let first = text(&pair.0);
     let second = text(&pair.1);
@@ -75,8 +75,9 @@ pub fn join(alloc: Global, pair: (Value, Value)) -> Result<Value, Fault>
     Ok(Value::Text(first_bytes(alloc, first, second, LONGEST_TEXT)?))
 }
 
-pub fn front_of(alloc: Global, pair: (Value, Value), most: u32) -> Result<Value, Fault>
-    ensures { Computes result (Ok (front (text_of pair.0) (text_of pair.1) most)) }
+/// The first bytes of the two joined, at most so many and no more than a text may have.
+pub fn front_of(alloc: Global, pair: &(Value, Value), most: u32) -> Result<Value, Memory>
+    ensures { IfOk result (λ made. made ≡ front (text_of pair.now.0) (text_of pair.now.1) most) }
 {
     let most = (most as usize).min(LONGEST_TEXT);
     Ok(Value::Text(first_bytes(alloc, text(&pair.0), text(&pair.1), most)?))

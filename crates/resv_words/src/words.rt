@@ -5,14 +5,11 @@ ghost use Rattle.aria_base.specs.Shares.{all_shares};
 ghost use Rattle.resv_words.specs.Seats.{most_keys, with_mark, closed_of, Tells};
 
 use crate::rules::{LeastNumbers, MarksRead, MarksWrite, OneShare, Origin, Together, View};
-use aria_base::Memory;
+use aria_base::{Memory, TAG_SPAN};
 use atomic_table::{Seat, Table};
 use std::alloc::Global;
 use std::marker::Model;
 use std::snapshot::Snapshot;
-
-// How many numbers a tag has: more than there are TIDs in a batch.
-const TAG_SPAN: u64 = 16_384;
 
 /// Two words for each key number, which any number of threads mark at once through a `&`, each with
 /// a seat of its own.

@@ -1,6 +1,7 @@
 use Rattle.std.proofs.Common.{◌≡◌, ◌≤◌, ◌++◌, length, true}
 use Rattle.std.specs.List.{All, list_all}
 use Rattle.std.specs.Vec.Iter.{into_iter_items}
+use Rattle.proc_lang.specs.declared.limits.TheConstants.{MOST_PROCS}
 use Rattle.proc_lang.specs.Catalogs.{proc_fits}
 use Rattle.proc_lang.specs.Typing.{IsWellTyped}
 use Rattle.cat_read.specs.Texts.{wrong_from}
@@ -16,4 +17,4 @@ invariant-loop-proc l =
     (list_all proc_fits (into_iter_items l.proc-iterator) ≡ true) ×
     All (IsWellTyped l.schema) l.done.items ×
     (wrong_from l.schema l.number (into_iter_items l.proc-iterator) ≡ wrong_from l.schema 0 l.fn.procs.items) ×
-    (length l.fn.procs.items ≤ 256)
+    (length l.fn.procs.items ≤ MOST_PROCS)

@@ -1,4 +1,4 @@
-use Rattle.std.proofs.Common.{rules, ◌≡◌, ℕ, ◌≤◌, ◌-◌, Bool, true, Option, None, Some, length, take, refl, subst, sym, ◌∙◌, arith}
+use Rattle.std.proofs.Common.{rules, ◌≡◌, ◌≤◌, ◌-◌, true, Option, None, Some, take, refl, subst, ◌∙◌}
 use Rattle.std.specs.Prelude.{IfSome}
 use Rattle.disk_model.specs.Files.{File}
 use Rattle.disk_model.specs.Histories.{current}

@@ -1,33 +1,35 @@
-use Rattle.std.proofs.Common.{◌≡◌, ℕ, List, length, ◌∙◌, ap, option_map, arith}
+use Rattle.std.proofs.Common.{ℕ, List, length, ◌∙◌, ap, option_map, arith}
 use Rattle.disk_model.specs.Files.{untouched, put}
 use Rattle.disk_model.specs.Histories.{current}
 use Rattle.disk_model.proofs.Spans.{stable_untouched}
-use Rattle.checkpoint.proofs.Torn.{lay_lost, lay_torn, lay_room, laid_both, head_size}
+use Rattle.checkpoint.proofs.Torn.{head_lost, head_room, lay_leaves, laid_both, head_size}
 use Rattle.checkpoint.proofs.slots.lay.Goals as goal
 
 pub returns-in_err-write_at-clause-images : goal.returns-in_err-write_at-clause-images
 returns-in_err-write_at-clause-images g c =
     let reads = g.met.D.Disk.reads c.args.disk.now (g.D.Disk.history c.args.disk.now).now c.args.slot in
     let size = ap (λ (l : List ℕ). length l) c.bytes-front.ensures ∙ head_size c.args.head.now (length c.args.body.now) in
-    lay_lost (g.D.Disk.history c.args.disk.now) (g.D.Disk.history c.write_at.new.self) c.args.slot reads c.requires.shut c.bytes-front.result size c.write_at.ensures.acts c.in_err-write_at.ensures.lost
+    head_lost _ (g.D.Disk.history c.write_at.new.self) _ reads c.requires.shut c.bytes-front.result size c.write_at.ensures.acts c.in_err-write_at.ensures.lost
 
 pub write_synced-requires-clause-within : goal.write_synced-requires-clause-within
 write_synced-requires-clause-within g c =
     let reads = g.met.D.Disk.reads c.args.disk.now (g.D.Disk.history c.args.disk.now).now c.args.slot in
     let size = ap (λ (l : List ℕ). length l) c.bytes-front.ensures ∙ head_size c.args.head.now (length c.args.body.now) in
-    lay_room (g.D.Disk.history c.args.disk.now) (g.D.Disk.history c.write_at.new.self) c.args.slot reads c.requires.shut c.bytes-front.result size c.in_ok-write_at.ensures.written
+    head_room _ (g.D.Disk.history c.write_at.new.self) _ reads c.requires.shut c.bytes-front.result size c.write_at.ensures.acts c.in_ok-write_at.ensures.written
 
 pub returns-in_err-write_synced-clause-images : goal.returns-in_err-write_synced-clause-images
 returns-in_err-write_synced-clause-images g c =
     let reads = g.met.D.Disk.reads c.args.disk.now (g.D.Disk.history c.args.disk.now).now c.args.slot in
     let size = ap (λ (l : List ℕ). length l) c.bytes-front.ensures ∙ head_size c.args.head.now (length c.args.body.now) in
-    lay_torn (g.D.Disk.history c.args.disk.now) (g.D.Disk.history c.write_at.new.self) c.args.slot reads c.requires.shut c.bytes-front.result size (g.D.Disk.history c.write_synced.new.disk) (length c.args.body.now) c.write_at.ensures.acts c.in_ok-write_at.ensures.written c.write_synced.ensures.images
+    let reads_next = g.met.D.Disk.reads c.write_at.new.self (g.D.Disk.history c.write_at.new.self).now c.args.slot in
+    lay_leaves _ _ _ reads c.requires.shut c.bytes-front.result size c.write_at.ensures.acts c.in_ok-write_at.ensures.written (g.D.Disk.history c.write_synced.new.disk) _ reads_next c.write_synced.ensures.images
 
 pub returns-clause-images : goal.returns-clause-images
 returns-clause-images g c =
     let reads = g.met.D.Disk.reads c.args.disk.now (g.D.Disk.history c.args.disk.now).now c.args.slot in
     let size = ap (λ (l : List ℕ). length l) c.bytes-front.ensures ∙ head_size c.args.head.now (length c.args.body.now) in
-    lay_torn (g.D.Disk.history c.args.disk.now) (g.D.Disk.history c.write_at.new.self) c.args.slot reads c.requires.shut c.bytes-front.result size (g.D.Disk.history c.write_synced.new.disk) (length c.args.body.now) c.write_at.ensures.acts c.in_ok-write_at.ensures.written c.write_synced.ensures.images
+    let reads_next = g.met.D.Disk.reads c.write_at.new.self (g.D.Disk.history c.write_at.new.self).now c.args.slot in
+    lay_leaves _ _ _ reads c.requires.shut c.bytes-front.result size c.write_at.ensures.acts c.in_ok-write_at.ensures.written (g.D.Disk.history c.write_synced.new.disk) _ reads_next c.write_synced.ensures.images
 
 pub returns-clause-bytes : goal.returns-clause-bytes
 returns-clause-bytes g c =

@@ -1,4 +1,4 @@
-use Rattle.std.proofs.Common.{drop, refl, ◌∙◌, arith}
+use Rattle.std.proofs.Common.{drop, ◌∙◌, arith}
 use Rattle.byteorder.specs.Numbers.{little_from-take}
 use Rattle.checkpoint.proofs.heads.Fields.of.Goals as goal
 
