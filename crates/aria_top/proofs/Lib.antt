@@ -1,3 +1,4 @@
 mod Counts
+mod Judging
 mod Refused
 mod Shapes

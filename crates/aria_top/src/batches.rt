@@ -1,18 +1,29 @@
 // What follows on the execution of a batch: the decisions, the answer, the rows and who waits.
 ghost use Rattle.std.specs.Prelude.{◌≡◌, ◌+◌, ◌<◌, ◌≤◌, ◌^◌, ◌++◌, [], length, map, IfOk};
 ghost use Rattle.batch_rules.specs.Touches.{keys_of};
-ghost use Rattle.batch_core.specs.Steps.{numbered, number_at, wait_of};
-ghost use Rattle.batch_core.specs.Outcomes.{sets_in, verdicts, reply_after, line_after, order_after};
-ghost use Rattle.batch_core.specs.Outcomes.{sets_of, decided_by, requests_of};
-ghost use Rattle.reorder.specs.declared.placements.TheConstants.{MOST_REQUESTS};
+ghost use Rattle.batch_rules.specs.Batches.{placed, fate_after};
+ghost use Rattle.batch_core.specs.Steps.{numbered, number_at, wait_of, reply_of};
+ghost use Rattle.aria_top.specs.Engines.{sets_of, verdicts, decided_by, requests_of, carrier, line_after};
+ghost use Rattle.aria_base.specs.declared.limits.TheConstants.{MOST_REQUESTS};
 
 use aria_base::{Call, Changes, Duplicate, Items, Keys, Memory, Request};
-use batch_core::{Decided, Line, Order, Replies, Reply, Wait};
+use batch_core::{Line, Order, Replies, Reply, Wait};
 use dep_rules::{Cause, Rule, Sets, Verdict, decide_listed};
 use proc_exec::Outcome;
 use proc_lang::End;
 use reorder::place;
 use std::alloc::Global;
+
+/// A request of a batch with its outcome on the batch's start and what the commit phase decided.
+#[derive(Drop)]
+pub struct Decided {
+    /// What was asked for.
+    pub request: Request,
+    /// What its run on the batch's start came to.
+    pub outcome: Outcome,
+    /// Whether it finishes.
+    pub verdict: Verdict,
+}
 
 /// The list of a batch: what waits, then the new calls with the next request numbers.
 pub fn number_calls(
@@ -91,15 +102,15 @@ pub fn lines_of(alloc: Global, decided: &Vec<Decided>) -> Result<Replies, Memory
     for one in decided {
         lines.push(Line {
             q: one.request.q,
-            reply: reply_of(alloc, decided, one)?,
+            reply: reply(alloc, decided, one)?,
         })?;
     }
     Ok(Items::from_vec(lines))
 }
 
 /// A request's reply.
-fn reply_of(alloc: Global, decided: &Vec<Decided>, one: &Decided) -> Result<Reply, Memory>
-    ensures { IfOk result (λ reply. reply ≡ reply_after (requests_of decided.now.items) one.now one.now.verdict) }
+fn reply(alloc: Global, decided: &Vec<Decided>, one: &Decided) -> Result<Reply, Memory>
+    ensures { IfOk result (λ reply. reply ≡ reply_of (requests_of decided.now.items) (fate_after carrier one.now one.now.verdict [])) }
 {
     match one.verdict {
         Verdict::Finish { raw: _ } => Ok(Reply::Ended(one.outcome.end.duplicate(alloc)?)),
@@ -131,7 +142,7 @@ fn number(decided: &Vec<Decided>, tid: u32) -> u64
 /// The printed order.
 pub fn order_of(alloc: Global, decided: &Vec<Decided>) -> Result<Order, Memory>
     requires { length decided.now.items ≤ MOST_REQUESTS }
-    ensures { IfOk result (λ order. order ≡ order_after decided.now.items) }
+    ensures { IfOk result (λ order. order ≡ map (λ d. d.request.q) (placed (λ d. d.verdict) decided.now.items)) }
 {
     let verdicts = verdicts_of(alloc, decided)?;
     let tids = place(alloc, &verdicts)?;

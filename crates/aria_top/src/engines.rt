@@ -3,15 +3,14 @@
 ghost use Rattle.std.specs.Prelude.{◌≡◌, ◌+◌, ◌<◌, ◌≤◌, ◌^◌, ◌++◌, [], List, length, map, IfOk, OnOk};
 ghost use Rattle.batch_rules.specs.Touches.{overwritten};
 ghost use Rattle.batch_core.specs.Steps.{step, answer};
-ghost use Rattle.batch_core.specs.Outcomes.{installed, waiting_after};
 ghost use Rattle.proc_lang.specs.Catalogs.{run_of};
-ghost use Rattle.aria_top.specs.Engines.{state_of, executed_at};
+ghost use Rattle.aria_top.specs.Engines.{state_of, executed_at, rows_after, waiting_after};
 ghost use Rattle.aria_top.specs.Out.{handed};
-ghost use Rattle.reorder.specs.declared.placements.TheConstants.{MOST_REQUESTS};
+ghost use Rattle.aria_base.specs.declared.limits.TheConstants.{MOST_REQUESTS};
 
-use crate::batches::{decide_all, lines_of, number_calls, order_of};
+use crate::batches::{Decided, decide_all, lines_of, number_calls, order_of};
 use aria_base::{Call, Changes, Memory, Request};
-use batch_core::{Answer, Decided};
+use batch_core::Answer;
 use dep_rules::{Rule, Verdict};
 use exec_phase::execute;
 use proc_exec::Outcome;
@@ -91,7 +90,7 @@ fn settle(
     tables: Tables,
     decided: Vec<Decided>,
 ) -> Result<(Tables, Vec<Request>), Memory>
-    ensures rows { IfOk result (λ r. r.0 ≡ installed tables decided.items) }
+    ensures rows { IfOk result (λ r. r.0 ≡ rows_after tables decided.items) }
     ensures waiting { IfOk result (λ r. r.1.items ≡ waiting_after decided.items) }
 {
     let mut tables = tables;

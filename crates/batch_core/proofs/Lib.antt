@@ -1,5 +1,5 @@
-pub mod Deciding
-pub mod Judging
+pub mod Carriers
+mod Consistency
 mod Numbers
 pub mod Progress
 pub mod Serial

@@ -68,24 +68,6 @@ module _ {X Y : Type 0} (look : ℕ → Option Y) (number : X → ℕ) (f : X �
       let rest = all_found xs (All-tail (λ x. look (number x) ≡ Some (f x)) x xs a) in
       (λ i. head i ∷ rest.0 i, λ i. cons_option (head i) (rest.1 i))
 
-pub All-left : {X : Type 0} (P : X → Type 0) (xs ys : List X) → All P (xs ++ ys) → All P xs
-All-left P [] ys a = All-nil P
-All-left P (x ∷ xs) ys a = All-cons P x xs (All-head P x (xs ++ ys) a) (All-left P xs ys (All-tail P x (xs ++ ys) a))
-
-pub map-map : {X Y Z : Type 0} (f : X → Y) (g : Y → Z) (xs : List X) → map g (map f xs) ≡ map (λ x. g (f x)) xs
-map-map f g [] = refl
-map-map f g (x ∷ xs) = ap (λ rest. g (f x) ∷ rest) (map-map f g xs)
-
--- two tests that agree on the items keep the same of them
-pub filter-map : {X Y : Type 0} (f : X → Y) (p : X → Bool) (q : Y → Bool) (xs : List X) → All (λ x. p x ≡ q (f x)) xs → map f (filter p xs) ≡ filter q (map f xs)
-filter-map f p q [] a = refl
-filter-map f p q (x ∷ xs) a =
-    let rest = filter-map f p q xs (All-tail (λ x. p x ≡ q (f x)) x xs a) in
-    elim (p x) as (λ b. map f (cond b (x ∷ filter p xs) (filter p xs)) ≡ cond b (f x ∷ filter q (map f xs)) (filter q (map f xs))) [
-      | true ↦ ap (λ ys. f x ∷ ys) rest
-      | false ↦ rest
-    ] ∙ ap (λ b. cond b (f x ∷ filter q (map f xs)) (filter q (map f xs))) (All-head (λ x. p x ≡ q (f x)) x xs a)
-
 -- each item's number is among the numbers
 all_among : {X : Type 0} (number : X → ℕ) (xs : List X) → All (λ x. list_any (λ q. q == number x) (map number xs) ≡ true) xs
 all_among number [] = All-nil (λ x. list_any (λ q. q == number x) [] ≡ true)

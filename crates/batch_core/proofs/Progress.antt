@@ -9,7 +9,7 @@ use Rattle.std.proofs.lemmas.List.Elements.{All-append, All-filter, All-head, Al
 use Rattle.std.proofs.lemmas.List.Folds.{Any-from_list_any, list_any_at}
 use Rattle.std.proofs.lemmas.List.FromFn.{get_or-enumerate_from, length-enumerate_from}
 use Rattle.std.proofs.lemmas.Option.{get_or_from_slice_get, slice_get-get_or, slice_get-map, slice_get_within}
-use Rattle.aria_base.specs.Orders.{Cells, Database}
+use Rattle.aria_base.specs.Orders.{key_cmp, Cells, Database}
 use Rattle.aria_base.specs.declared.keys.Key.{Key}
 use Rattle.aria_base.specs.declared.calls.Request.{Request}
 use Rattle.proc_lang.specs.declared.ends.End.{End}
@@ -17,7 +17,8 @@ use Rattle.proc_lang.specs.Meaning.{is_done}
 use Rattle.batch_rules.specs.declared.verdicts.Rule.{Rule}
 use Rattle.batch_rules.specs.declared.verdicts.Verdict.TheVariants.{Finish}
 use Rattle.batch_rules.specs.Trees.{Tree, end_of}
-use Rattle.batch_rules.specs.Batches.{Ended, Entry, batch, carried, is_carried}
+use Rattle.batch_rules.specs.Batches.{Ended, Entry, batch, carried, is_carried, on_start, touching}
+use Rattle.batch_rules.specs.Laws.{EachOnce, Progress as BatchProgress}
 use Rattle.batch_rules.proofs.Places.{each_once, progress as batch_progress}
 use Rattle.batch_core.specs.declared.answers.Reply.TheVariants as reply
 use Rattle.batch_core.specs.Progress.{HasEnded, MakesProgress, FinishesWithin}
@@ -40,15 +41,21 @@ module _ (tree : Request → Tree Key Cells End) (rule : Rule) (percent : ℕ) (
   abbrev left : List Request → List Request
   left list = map (λ e. e.judged.request) (carried (entries list))
 
-  first-is : (list : List Request) → slice_get (map (line_of list) (entries list)) 0 ≡ option_map (λ request. record { q = request.q; reply = reply.Ended (end_of (tree request) start) }) (slice_get list 0)
+  moves_on : (first : Request) (rest : List Request) → BatchProgress (first ∷ rest) (end_of (tree first) start) (entries (first ∷ rest))
+  moves_on first rest = batch_progress (on_start is_done tree start) (touching (on_start is_done tree start) key_cmp) rule first rest _
+
+  each : (list : List Request) → EachOnce list (entries list)
+  each list = each_once (on_start is_done tree start) (touching (on_start is_done tree start) key_cmp) rule list _
+
+  first-is : (list : List Request) → slice_get (map (line_of (λ request. request) list) (entries list)) 0 ≡ option_map (λ request. record { q = request.q; reply = reply.Ended (end_of (tree request) start) }) (slice_get list 0)
   first-is [] = refl
-  first-is (first ∷ rest) = ap (option_map (λ fate. record { q = first.q; reply = reply_of (first ∷ rest) fate })) (batch_progress is_done tree rule percent start first rest).ends
+  first-is (first ∷ rest) = ap (option_map (λ fate. record { q = first.q; reply = reply_of (first ∷ rest) fate })) (moves_on first rest).ends
 
   few : (list : List Request) → length (left list) ≤ length list - 1
   few [] = omega arith
   few (first ∷ rest) =
       let long = length-map (carried (entries (first ∷ rest))) (λ e. e.judged.request) in
-      let fewer = (batch_progress is_done tree rule percent start first rest).fewer in
+      let fewer = (moves_on first rest).fewer in
       omega (arith, long, fewer)
 
   placed : (list : List Request) → All (λ e. slice_get list (e.judged.tid - 1) ≡ Some e.judged.request) (entries list)
@@ -56,7 +63,7 @@ module _ (tree : Request → Tree Key Cells End) (rule : Rule) (percent : ℕ) (
       let es = entries list in
       let P : ℕ × Request → Type 0 = λ p. slice_get list (p.0 - 1) ≡ Some p.1 in
       let pair : Entry Key Request End → ℕ × Request = λ e. (e.judged.tid, e.judged.request) in
-      let all : All P (map pair es) = All-same P (map pair es) (enumerate_from 1 list) (each_once is_done tree rule percent start list).numbered (enumerated list) in
+      let all : All P (map pair es) = All-same P (map pair es) (enumerate_from 1 list) (each list).numbered (enumerated list) in
       subst P (get_or-map pair es k d (pair d) below) (all k (pair d) (subst (λ n. k < n) (sym (length-map es pair)) below))
 
   sooner-is : (list : List Request) → EachIndex (left list) (λ i. SomeIndex list (λ j. (i < j) × (slice_get (left list) i ≡ slice_get list j)))
@@ -69,7 +76,7 @@ module _ (tree : Request → Tree Key Cells End) (rule : Rule) (percent : ℕ) (
       let e = slice_index_or cs i d in
       let there : slice_get list (e.judged.tid - 1) ≡ Some e.judged.request = All-filter is_carried (λ e. slice_get list (e.judged.tid - 1) ≡ Some e.judged.request) (entries list) (placed list) i d within in
       let here : slice_get (left list) i ≡ Some e.judged.request = slice_get-map (λ e. e.judged.request) cs i ∙ ap (option_map (λ e. e.judged.request)) (slice_get-get_or cs i d within) in
-      let sooner = (batch_progress is_done tree rule percent start first rest).sooner i d within in
+      let sooner = (moves_on first rest).sooner i d within in
       (e.judged.tid - 1, slice_get_within list (e.judged.tid - 1) e.judged.request there, (omega (arith, sooner), here ∙ sym there))
 
 module _ (tree : Request → Tree Key Cells End) where

@@ -64,27 +64,29 @@ reply_of list (Ended end) = reply.Ended end
 reply_of list (Waits cause) = reply.Waits (wait_of list cause)
 reply_of list (Moved key) = reply.Waits (wait.Moved key)
 
-abbrev pub line_of : List Request → Entry Key Request End → Line
-line_of list entry = record { q = entry.judged.request.q; reply = reply_of list entry.fate }
+-- O is whatever carries a request with what its run on the batch's start came to
+module _ {O : Type 0} (request_of : O → Request) where
+  abbrev pub line_of : List Request → Entry Key O End → Line
+  line_of list entry = record { q = (request_of entry.judged.request).q; reply = reply_of list entry.fate }
 
--- the answer of the batch with this number
-abbrev pub answer_by : ℕ → List Request → List (Entry Key Request End) → Answer
-answer_by number list entries = record {
-  number = number;
-  lines = map (line_of list) entries;
-  order = map (λ entry. entry.judged.request.q) (ordered entries);
-}
+  -- the answer of the batch with this number
+  abbrev pub answer_by : ℕ → List Request → List (Entry Key O End) → Answer
+  answer_by number list entries = record {
+    number = number;
+    lines = map (line_of list) entries;
+    order = map (λ entry. (request_of entry.judged.request).q) (ordered entries);
+  }
 
--- the state that a batch leaves, by its outcome
-abbrev pub state_by : State → Handed → Batch key_cmp Cells Request End → State
-state_by state handed outcome = record {
-  rule = handed.rule;
-  percent = handed.percent;
-  rows = outcome.map;
-  waiting = map (λ entry. entry.judged.request) (carried outcome.entries);
-  batches = state.batches + 1;
-  requests = state.requests + length handed.calls;
-}
+  -- the state that a batch leaves, by its outcome
+  abbrev pub state_by : State → Handed → Batch key_cmp Cells O End → State
+  state_by state handed outcome = record {
+    rule = handed.rule;
+    percent = handed.percent;
+    rows = outcome.map;
+    waiting = map (λ entry. request_of entry.judged.request) (carried outcome.entries);
+    batches = state.batches + 1;
+    requests = state.requests + length handed.calls;
+  }
 
 module _ (tree : Request → Tree Key Cells End) where
   abbrev pub outcome : State → Handed → Batch key_cmp Cells Request End
@@ -92,11 +94,11 @@ module _ (tree : Request → Tree Key Cells End) where
 
   -- the state after one batch
   abbrev pub step : State → Handed → State
-  step state handed = state_by state handed (outcome state handed)
+  step state handed = state_by (λ request. request) state handed (outcome state handed)
 
   -- the answer of that batch
   abbrev pub answer : State → Handed → Answer
-  answer state handed = answer_by (state.batches + 1) (list_of state handed) (outcome state handed).entries
+  answer state handed = answer_by (λ request. request) (state.batches + 1) (list_of state handed) (outcome state handed).entries
 
   -- the state after batches one after the other
   abbrev pub run : State → List Handed → State

@@ -6,8 +6,12 @@ ghost use Rattle.std.specs.List.{All};
 ghost use Rattle.aria_base.specs.Orders.{Cells, Database};
 ghost use Rattle.aria_base.specs.declared.calls.Request.{Request};
 ghost use Rattle.aria_base.specs.declared.keys.Key.{Key};
+ghost use Rattle.aria_base.specs.declared.schemas.Table.{Table};
+ghost use Rattle.batch_rules.specs.Batches.{Carrier};
 ghost use Rattle.batch_rules.specs.Trees.{Tree};
 ghost use Rattle.batch_rules.specs.Laws.{Agreement};
+ghost use Rattle.batch_core.specs.Carriers.{StepsBy};
+ghost use Rattle.batch_core.specs.Consistency.{StaysConsistent};
 ghost use Rattle.batch_core.specs.Progress.{MakesProgress, FinishesWithin};
 ghost use Rattle.batch_core.specs.Serial.{IsNumbered, IsSerial, AllSerial};
 ghost use Rattle.batch_core.specs.Steps.{State, Handed, list_of, step, run};
@@ -18,6 +22,17 @@ ghost use Rattle.proc_lang.specs.Meaning.{is_done};
 /// the same end and has the same writes.
 pub fn agreement()
     ensures { (tree : Request → Tree Key Cells End) (request : Request) (first second : Database) → Agreement is_done (tree request) first second }
+{}
+
+/// A batch by whatever carries its requests with what their runs on the start came to leaves the state after the batch, and has its
+/// answer: the one definition of what is installed, settled, ordered and carried serves requests and outcomes alike.
+pub fn steps_by<O>()
+    ensures { (tree : Request → Tree Key Cells End) (request_of : O → Request) (by : Carrier Key Cells End O) (of : Request → O) (state : State) (handed : Handed) → StepsBy tree request_of by of state handed }
+{}
+
+/// Where each run leaves consistent rows, on whatever consistent rows it is made, a batch does.
+pub fn stays_consistent()
+    ensures { (schema : List Table) (tree : Request → Tree Key Cells End) (state : State) (handed : Handed) → StaysConsistent schema tree state handed }
 {}
 
 /// Where nothing waits, the numbers are in order.

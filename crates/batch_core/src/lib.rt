@@ -6,18 +6,17 @@
 //!
 //! ```text
 //!     Steps       states, lists of batches, answers, and runs
-//!     Outcomes    a batch without a late fold, by the outcomes of its requests
+//!     Carriers    the same by whatever carries requests with their outcomes
 //!     Serial      what an answer's order promises
 //!     Progress    how far each batch gets with what waits
+//!     Consistency which rows a batch leaves
+//!     Codes       a state as a value of a model
 //! ```
 //!
-//! The definitions stand in specs/. The types of `answers` are those of the code, and `decided` is what it has in its hands between
-//! the decisions and the answer.
+//! The definitions stand in specs/, and there is no code but the types of `answers`.
 #![tactic(auto)]
 
 pub mod answers;
-pub mod decided;
 pub mod laws;
 
 pub use answers::{Answer, Line, Order, Replies, Reply, Wait};
-pub use decided::Decided;

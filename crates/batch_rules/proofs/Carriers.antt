@@ -1,7 +1,8 @@
 -- The same requests, carried in another way, have the same batch.
-use Rattle.std.proofs.Common.{◌≡◌, ℕ, ◌+◌, ◌*◌, List, [], ◌∷◌, ◌++◌, map, length, Bool, refl, sym, ap, ◌∙◌, Ordering}
+use Rattle.std.proofs.Common.{◌≡◌, ℕ, ◌+◌, ◌*◌, List, [], ◌∷◌, ◌++◌, map, reverse, length, Bool, refl, sym, ap, ◌∙◌, Ordering}
 use Rattle.std.specs.Prelude.{if◌then◌else◌, ◌&&◌, nat_lt, nat_le}
 use Rattle.std.specs.FinMap.{FinMap}
+use Rattle.std.specs.List.{filter}
 use Rattle.std.proofs.lemmas.List.{map-append, length-map}
 use Rattle.std.proofs.lemmas.Simd.{map-map}
 use Rattle.batch_rules.specs.declared.verdicts.Rule.{Rule}
@@ -9,11 +10,11 @@ use Rattle.batch_rules.specs.declared.verdicts.Verdict.{Verdict}
 use Rattle.batch_rules.specs.declared.verdicts.Verdict.TheVariants.{Finish, Wait}
 use Rattle.batch_rules.specs.Trees.{Tree}
 use Rattle.batch_rules.specs.Touches.{Declared, installed}
-use Rattle.batch_rules.specs.Verdicts.{Dependencies, through, finishes, waits, verdict_on}
-use Rattle.batch_rules.specs.Batches.{Carrier, Judged, Fate, judged, finishing, waiting, late_runs, late_fate, late_map, late_fates, late_left, declared, touching, fate_after, lates_behind, settled, after_commit, late_results, late_rest, answered, read_through, judged_through, entry_through}
+use Rattle.batch_rules.specs.Verdicts.{Dependencies, through, finishes, waits, goes_ahead, keeps_turn, verdict_on}
+use Rattle.batch_rules.specs.Batches.{Carrier, Judged, Fate, Entry, placed, ordered, carried, is_late, is_carried, judged, finishing, waiting, late_runs, late_fate, late_map, late_fates, late_left, declared, touching, fate_after, lates_behind, settled, after_commit, late_results, late_rest, answered, read_through, judged_through, entry_through}
 use Rattle.batch_rules.specs.Laws.{SameBatch}
 use Rattle.batch_rules.proofs.Installs.{installed-map}
-use Rattle.batch_rules.proofs.Lists.{filter-map}
+use Rattle.batch_rules.proofs.Lists.{filter-map, map-reverse}
 use Rattle.batch_rules.proofs.Numberings.{same_verdict}
 
 -- the late fold over images
@@ -69,6 +70,23 @@ module _ {K V A O P : Type 0} (of : O → P) (by : Carrier K V A P) where
       let fate = fate-through d.request d.verdict lates in
       let rest = settled-through ds (lates_behind d.verdict lates) in
       λ i. record { judged = judged_through of d; fate = fate i } ∷ rest i
+
+-- what is read off the entries
+pub placed-map : {X Y : Type 0} (f : X → Y) (verdict_of : Y → Verdict) (xs : List X) → placed verdict_of (map f xs) ≡ map f (placed (λ x. verdict_of (f x)) xs)
+placed-map f verdict_of xs =
+    let ahead = filter-map f (λ x. goes_ahead (verdict_of (f x))) (λ y. goes_ahead (verdict_of y)) xs (λ k d below. refl) in
+    let turn = filter-map f (λ x. keeps_turn (verdict_of (f x))) (λ y. keeps_turn (verdict_of y)) xs (λ k d below. refl) in
+    let firsts = filter (λ x. goes_ahead (verdict_of (f x))) xs in
+    sym (map-append f (reverse firsts) (filter (λ x. keeps_turn (verdict_of (f x))) xs) ∙ (λ i. (map-reverse f firsts ∙ ap reverse ahead) i ++ turn i))
+
+module _ {K A O P : Type 0} (of : O → P) (es : List (Entry K O A)) where
+  pub ordered-through : ordered (map (entry_through of) es) ≡ map (entry_through of) (ordered es)
+  ordered-through =
+      let late = filter-map (entry_through of) is_late is_late es (λ k d below. refl) in
+      (λ i. placed-map (entry_through of) (λ e. e.judged.verdict) es i ++ sym late i) ∙ sym (map-append (entry_through of) (placed (λ e. e.judged.verdict) es) (filter is_late es))
+
+  pub carried-through : carried (map (entry_through of) es) ≡ map (entry_through of) (carried es)
+  carried-through = sym (filter-map (entry_through of) is_carried is_carried es (λ k d below. refl))
 
 -- the databases
 module _ {K V A O P : Type 0} {R : K → K → Ordering} (of : O → P) (by : Carrier K V A P) (is_done : A → Bool) (tree : P → Tree K V A) where

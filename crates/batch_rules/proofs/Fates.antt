@@ -63,8 +63,19 @@ module _ {K V A O : Type 0} (by : Carrier K V A O) where
       (elim d.verdict as (λ v. finishes v ≡ true → fate_after by d.request v lates ≡ Ended (by.end d.request)) [ Finish raw ↦ λ e. refl | Wait cause ↦ λ e. cc ])
       (commit_fates ds (lates_behind d.verdict lates))
 
-  -- where the late fold does not run, nothing ends late
-  none_late : (ds : List (Judged O)) → filter is_late (settled by ds []) ≡ []
+  -- where the late fold does not run, each entry follows from its judged request alone
+  abbrev pub alone : Judged O → Entry K O A
+  alone d = record { judged = d; fate = fate_after by d.request d.verdict [] }
+
+  pub settled-alone : (ds : List (Judged O)) → settled by ds [] ≡ map alone ds
+  settled-alone [] = refl
+  settled-alone (d ∷ ds) = elim d.verdict as (λ v. alone d ∷ settled by ds (lates_behind v []) ≡ alone d ∷ map alone ds) [
+    | Finish raw ↦ ap (λ rest. alone d ∷ rest) (settled-alone ds)
+    | Wait cause ↦ ap (λ rest. alone d ∷ rest) (settled-alone ds)
+  ]
+
+  -- and nothing ends late
+  pub none_late : (ds : List (Judged O)) → filter is_late (settled by ds []) ≡ []
   none_late [] = refl
   none_late (d ∷ ds) = elim d.verdict as (λ v. let rest = filter is_late (settled by ds (lates_behind v [])) in cond (waits v && has_ended (fate_after by d.request v [])) (record { judged = d; fate = fate_after by d.request v [] } ∷ rest) rest ≡ []) [
     | Finish raw ↦ none_late ds

@@ -1,5 +1,6 @@
 -- Lists that no lemma of the library speaks of.
-use Rattle.std.proofs.Common.{◌≡◌, ◌+◌, ℕ, List, [], ◌∷◌, ◌++◌, map, Bool, true, false, cond, Some, refl, ap, ◌∙◌}
+use Rattle.std.proofs.Common.{◌≡◌, ◌+◌, ℕ, List, [], ◌∷◌, ◌++◌, map, reverse, Bool, true, false, cond, Some, refl, ap, ◌∙◌}
+use mathlib.Core.List.{reverse_aux}
 use Rattle.std.specs.List.{All, filter, position_from}
 use Rattle.std.proofs.lemmas.List.Elements.{All-nil, All-cons, All-head, All-tail}
 
@@ -42,3 +43,10 @@ filter-map f p q (x ∷ xs) a =
 pub All-left : {X : Type 0} (P : X → Type 0) (xs ys : List X) → All P (xs ++ ys) → All P xs
 All-left P [] ys a = All-nil P
 All-left P (x ∷ xs) ys a = All-cons P x xs (All-head P x (xs ++ ys) a) (All-left P xs ys (All-tail P x (xs ++ ys) a))
+
+map-reverse_aux : {X Y : Type 0} (f : X → Y) (xs ys : List X) → map f (reverse_aux xs ys) ≡ reverse_aux (map f xs) (map f ys)
+map-reverse_aux f [] ys = refl
+map-reverse_aux f (x ∷ xs) ys = map-reverse_aux f xs (x ∷ ys)
+
+pub map-reverse : {X Y : Type 0} (f : X → Y) (xs : List X) → map f (reverse xs) ≡ reverse (map f xs)
+map-reverse f xs = map-reverse_aux f xs []

@@ -1,1 +1,4 @@
 pub mod Decisions
+pub mod Numberings
+pub mod Sheets
+pub mod Words

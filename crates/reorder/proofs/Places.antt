@@ -1,18 +1,14 @@
 -- The TIDs of an order, and the items that they name.
 use Rattle.std.proofs.Common.{◌≡◌, refl, sym, ap, ◌∙◌, ℕ, ◌+◌, ◌-◌, List, [], ◌∷◌, ◌++◌, map, reverse, length, Bool, true, false, cond, ◌&&◌, Option, Some, arith, append_assoc, length-append}
-use mathlib.Core.List.{reverse_aux}
 use Rattle.std.specs.List.{filter, slice_get, enumerate_from}
 use Rattle.std.proofs.lemmas.List.{map-append}
 use Rattle.std.proofs.lemmas.Simd.{map-map}
 use Rattle.batch_rules.specs.declared.verdicts.Verdict.{Verdict}
 use Rattle.batch_rules.specs.Verdicts.{goes_ahead, keeps_turn, waits}
 use Rattle.batch_rules.specs.Batches.{Entry, has_ended, is_late, placed, ordered}
+use Rattle.batch_rules.proofs.Lists.{map-reverse}
 use Rattle.reorder.specs.Orders.{bare, bare_from, placed_tids, ordered_tids}
 use Rattle.reorder.specs.Laws.{PlacedNames, OrderedNames}
-
-map-reverse_aux : {A B : Type 0} (f : A → B) (xs ys : List A) → map f (reverse_aux xs ys) ≡ reverse_aux (map f xs) (map f ys)
-map-reverse_aux f [] ys = refl
-map-reverse_aux f (x ∷ xs) ys = map-reverse_aux f xs (x ∷ ys)
 
 -- what is read off the placed items, in the two parts of their order
 pub map-placed : {X C : Type 0} (f : X → C) (verdict_of : X → Verdict) (xs : List X)
@@ -20,7 +16,7 @@ pub map-placed : {X C : Type 0} (f : X → C) (verdict_of : X → Verdict) (xs :
 map-placed f verdict_of xs =
     let firsts = filter (λ x. goes_ahead (verdict_of x)) xs in
     let seconds = filter (λ x. keeps_turn (verdict_of x)) xs in
-    map-append f (reverse firsts) seconds ∙ ap (λ l. l ++ map f seconds) (map-reverse_aux f firsts [])
+    map-append f (reverse firsts) seconds ∙ ap (λ l. l ++ map f seconds) (map-reverse f firsts)
 
 -- what a filter keeps of two lists that it treats alike
 kept : {A B C : Type 0} (f : A → C) (g : B → C) (b : Bool) (x : A) (y : B) (xs : List A) (ys : List B) → f x ≡ g y → map f xs ≡ map g ys

@@ -20,4 +20,4 @@ pub mod placements;
 #[cfg(test)]
 mod tests;
 
-pub use placements::{MOST_REQUESTS, order, place};
+pub use placements::{order, place};

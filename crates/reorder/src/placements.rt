@@ -1,14 +1,12 @@
 ghost use Rattle.std.specs.Prelude.{◌≡◌, ◌≤◌, ◌<◌, ◌^◌, ◌++◌, length, map, IfOk, OnOk};
 ghost use Rattle.std.specs.List.{filter, enumerate_from};
+ghost use Rattle.aria_base.specs.declared.limits.TheConstants.{MOST_REQUESTS};
 ghost use Rattle.batch_rules.specs.Batches.{is_late};
 ghost use Rattle.reorder.specs.Orders.{finishes_with, bare, bare_from, placed_tids, ordered_tids};
 
 use aria_base::Memory;
 use dep_rules::Verdict;
 use std::alloc::Global;
-
-/// The most requests of a batch.
-pub const MOST_REQUESTS: usize = 10_000;
 
 /// The TIDs, which are places in the batch's list from 1, of the requests that finish in the commit
 /// phase, as they count as run: first those that read what an earlier request writes, the greatest

@@ -1,5 +1,5 @@
 use Rattle.std.proofs.Common.{◌≡◌, take}
-use Rattle.batch_core.specs.Outcomes.{sets_of}
+use Rattle.aria_top.specs.Engines.{sets_of}
 use Rattle.aria_top.proofs.batches.copy_sets.Given as goal
 
 abbrev pub invariant-loop-pair : goal.invariant-loop-pair

@@ -9,9 +9,8 @@ use Rattle.dep_rules.specs.Decisions.{reads_of, writes_of}
 use Rattle.batch_rules.specs.declared.verdicts.Rule.{Rule}
 use Rattle.batch_rules.specs.declared.verdicts.Verdict.{Verdict}
 use Rattle.batch_rules.specs.Verdicts.{verdict}
-use Rattle.batch_core.specs.Outcomes.{verdicts}
-use Rattle.batch_core.specs.declared.decided.Decided.{Decided}
-use Rattle.batch_core.specs.Outcomes.{decided_by}
+use Rattle.aria_top.specs.declared.batches.Decided.{Decided}
+use Rattle.aria_top.specs.Engines.{verdicts, decided_by}
 use Rattle.aria_top.proofs.batches.decide_all.Goals as goal
 
 -- the verdict of the next request, and then those of the rest

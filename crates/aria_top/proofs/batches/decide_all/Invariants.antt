@@ -1,7 +1,6 @@
 use Rattle.std.proofs.Common.{◌≡◌, ◌+◌, ◌++◌, length, take, drop, []}
 use Rattle.std.specs.Vec.Iter.{into_iter_items}
-use Rattle.batch_core.specs.Outcomes.{verdicts}
-use Rattle.batch_core.specs.Outcomes.{decided_by}
+use Rattle.aria_top.specs.Engines.{verdicts, decided_by}
 use Rattle.aria_top.proofs.batches.decide_all.Given as goal
 
 abbrev pub invariant-loop-request : goal.invariant-loop-request

@@ -1,6 +1,5 @@
 use Rattle.std.proofs.Common.{◌≡◌, map, take}
-use Rattle.batch_core.specs.Outcomes.{line_after}
-use Rattle.batch_core.specs.Outcomes.{requests_of}
+use Rattle.aria_top.specs.Engines.{line_after, requests_of}
 use Rattle.aria_top.proofs.batches.lines_of.Given as goal
 
 abbrev pub invariant-loop-one : goal.invariant-loop-one

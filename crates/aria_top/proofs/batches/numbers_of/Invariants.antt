@@ -1,6 +1,6 @@
 use Rattle.std.proofs.Common.{◌≡◌, map, take}
 use Rattle.batch_core.specs.Steps.{number_at}
-use Rattle.batch_core.specs.Outcomes.{requests_of}
+use Rattle.aria_top.specs.Engines.{requests_of}
 use Rattle.aria_top.proofs.batches.numbers_of.Given as goal
 
 abbrev pub invariant-loop-tid : goal.invariant-loop-tid

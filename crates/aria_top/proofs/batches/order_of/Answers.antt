@@ -3,11 +3,11 @@ use Rattle.std.specs.List.{slice_get}
 use Rattle.std.proofs.lemmas.Option.{slice_get-map}
 use Rattle.std.proofs.lemmas.Simd.{map-map}
 use Rattle.batch_rules.specs.Batches.{placed}
-use Rattle.batch_core.specs.declared.decided.Decided.{Decided}
 use Rattle.batch_core.specs.Steps.{number_at, number_or}
-use Rattle.batch_core.specs.Outcomes.{requests_of, order_after}
 use Rattle.reorder.specs.Orders.{placed_tids}
-use Rattle.reorder.proofs.Places.{map-placed, placed_names}
+use Rattle.reorder.proofs.Places.{placed_names}
+use Rattle.aria_top.specs.declared.batches.Decided.{Decided}
+use Rattle.aria_top.specs.Engines.{requests_of}
 use Rattle.aria_top.proofs.batches.order_of.Goals as goal
 
 number_in : Option Decided → ℕ
@@ -19,13 +19,12 @@ unfolding number_in
 numbers-read ds [] = refl
 numbers-read ds (tid ∷ tids) = λ i. number_or (slice_get-map (λ d. d.request) ds (tid - 1) i) ∷ numbers-read ds tids i
 
-numbers-placed : (ds : List Decided) → map (number_at (requests_of ds)) (placed_tids (map (λ d. d.verdict) ds)) ≡ order_after ds
+numbers-placed : (ds : List Decided) → map (number_at (requests_of ds)) (placed_tids (map (λ d. d.verdict) ds)) ≡ map (λ d. d.request.q) (placed (λ d. d.verdict) ds)
 unfolding number_in
 numbers-placed ds =
     numbers-read ds (placed_tids (map (λ d. d.verdict) ds))
     ∙ ap (map number_in) (placed_names (λ d. d.verdict) ds).each
     ∙ map-map number_in Some (placed (λ d. d.verdict) ds)
-    ∙ map-placed (λ d. d.request.q) (λ d. d.verdict) ds
 
 pub returns : goal.returns
 returns c =

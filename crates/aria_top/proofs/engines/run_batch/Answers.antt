@@ -4,14 +4,13 @@ use Rattle.aria_base.specs.declared.calls.Call.{Call}
 use Rattle.aria_base.specs.declared.calls.Request.{Request}
 use Rattle.proc_exec.specs.declared.outcomes.Outcome.{Outcome}
 use Rattle.batch_rules.specs.declared.verdicts.Rule.TheVariants.{Plain}
-use Rattle.batch_core.specs.declared.decided.Decided.{Decided}
+use Rattle.batch_rules.specs.Batches.{placed}
 use Rattle.batch_core.specs.Steps.{State, numbered, list_of}
-use Rattle.batch_core.specs.Outcomes.{decided_by, sets_of, verdicts, requests_of, installed, waiting_after, line_after, order_after}
-use Rattle.batch_core.proofs.Judging.{decided_in, step-plain}
-use Rattle.batch_core.proofs.Deciding.{decided-is, requests-decided, few_wait}
 use Rattle.proc_lang.specs.Catalogs.{Plan, run_of}
-use Rattle.aria_top.specs.Engines.{state_of, executed_at}
+use Rattle.aria_top.specs.declared.batches.Decided.{Decided}
+use Rattle.aria_top.specs.Engines.{state_of, executed_at, decided_by, sets_of, verdicts, requests_of, rows_after, waiting_after, line_after}
 use Rattle.aria_top.specs.Out.{never, handed}
+use Rattle.aria_top.proofs.Judging.{decided_in, decided-is, requests-decided, few_wait, step-plain}
 use Rattle.aria_top.proofs.engines.run_batch.Goals as goal
 
 length-numbered : (n : ℕ) (calls : List Call) → length (numbered n calls) ≡ length calls
@@ -53,7 +52,7 @@ returns-clause-state c =
     let ds = decided_in (run_of c.args.catalog.now) Plain state (list_of state (handed calls)) in
     let same : c.in_ok-decided.decided.items ≡ ds =
     decided c.args.catalog.now state calls c.in_ok-list.list.items c.in_ok-executed.executed.items c.in_ok-decided.decided.items c.in_ok-list.ensures c.in_ok-executed.ensures c.in_ok-decided.ensures in
-    let rows : c.in_ok-tables.tables ≡ installed state.rows ds = c.in_ok-tables.ensures.rows ∙ ap (installed state.rows) same in
+    let rows : c.in_ok-tables.tables ≡ rows_after state.rows ds = c.in_ok-tables.ensures.rows ∙ ap (rows_after state.rows) same in
     let waiting : c.in_ok-tables.waiting.items ≡ waiting_after ds = c.in_ok-tables.ensures.waiting ∙ ap waiting_after same in
     let count : c.len.result ≡ length calls = search rules in
     (λ i. record { rule = Plain; percent = never; rows = rows i; waiting = waiting i; batches = state.batches + 1; requests = state.requests + count i }) ∙ sym (step-plain (run_of c.args.catalog.now) Plain state calls).0
@@ -68,7 +67,7 @@ returns-clause-answer c =
     decided c.args.catalog.now state calls c.in_ok-list.list.items c.in_ok-executed.executed.items c.in_ok-decided.decided.items c.in_ok-list.ensures c.in_ok-executed.ensures c.in_ok-decided.ensures in
     let lines : c.in_ok-lines_of.field-0 ≡ map (line_after list) ds =
     c.in_ok-lines_of.ensures ∙ ap (λ l. map (line_after (requests_of l)) l) same ∙ ap (λ l. map (line_after l) ds) (requests-decided (run_of c.args.catalog.now) Plain state list) in
-    let order : c.in_ok-order_of.field-0 ≡ order_after ds = c.in_ok-order_of.ensures ∙ ap order_after same in
+    let order : c.in_ok-order_of.field-0 ≡ map (λ d. d.request.q) (placed (λ d. d.verdict) ds) = c.in_ok-order_of.ensures ∙ ap (λ ds. map (λ d. d.request.q) (placed (λ d. d.verdict) ds)) same in
     (λ i. record { number = state.batches + 1; lines = lines i; order = order i }) ∙ sym (step-plain (run_of c.args.catalog.now) Plain state calls).1
 
 pub returns-clause-room : goal.returns-clause-room

@@ -1,0 +1,5 @@
+mod Laying
+mod Leasts
+mod Lists
+mod Marks
+mod Sheets
