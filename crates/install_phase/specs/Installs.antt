@@ -1,0 +1,11 @@
+-- Tables after a batch's commit phase.
+use Rattle.std.specs.Prelude.{ℕ, List}
+use Rattle.aria_base.specs.Orders.{Database}
+use Rattle.batch_rules.specs.declared.verdicts.Verdict.{Verdict}
+use Rattle.batch_rules.specs.Touches.{installed}
+use Rattle.batch_rules.specs.Batches.{decided, finishing}
+use Rattle.proc_exec.specs.declared.outcomes.Outcome.{Outcome}
+
+-- the rows with the writes of all that finish, one request after the other; their numbers in the batch begin at `tid`
+abbrev pub after_finishing : ℕ → Database → List Outcome → List Verdict → Database
+after_finishing tid rows outcomes verdicts = installed (λ one. one.request.writes) rows (finishing (decided tid outcomes verdicts))

@@ -1,0 +1,4 @@
+pub mod Codes
+pub mod Jobs
+pub mod Deals
+pub mod Installs
