@@ -1,4 +1,4 @@
-use Rattle.std.proofs.Common.{rules, ◌≡◌, refl, sym, ap, subst, ◌∙◌, [], ◌∷◌, ◌+◌}
+use Rattle.std.proofs.Common.{rules, ◌≡◌, refl, sym, ap, subst, ◌∙◌, ◌∷◌, ◌+◌}
 use Rattle.std.specs.Prelude.{if◌then◌else◌}
 use Rattle.std.proofs.lemmas.List.{nil_from_length}
 use Rattle.std.specs.Vec.Iter.{into_iter_items}
@@ -6,7 +6,7 @@ use Rattle.batch_rules.specs.Touches.{overwritten}
 use Rattle.batch_rules.specs.Verdicts.{finishes}
 use Rattle.install_phase.specs.Deals.{Make}
 use Rattle.install_phase.specs.Installs.{after_finishing}
-use Rattle.install_phase.proofs.Dealing.{first_dealt, none_finishes}
+use Rattle.install_phase.proofs.Dealing.{first_dealt}
 use Rattle.install_phase.proofs.deals.deal_all.Goals as goal
 
 pub loop-outcome-init : goal.loop-outcome-init

@@ -11,4 +11,4 @@ invariant-loop-outcome l =
     (goal.iterator-loop-outcome).is_finite l.outcome-iterator ×
     AreAll l.jobs.items ×
     ((rows : Database) → Make l.initial.jobs.items rows → (tid : ℕ) × (then : Database) × Make l.jobs.items then
-        × (after_finishing tid then (into_iter_items l.outcome-iterator) l.rest ≡ after_finishing 1 rows (into_iter_items l.initial.outcome-iterator) l.initial.rest))
+    × (after_finishing tid then (into_iter_items l.outcome-iterator) l.rest ≡ after_finishing 1 rows (into_iter_items l.initial.outcome-iterator) l.initial.rest))
