@@ -125,7 +125,7 @@ module _ (lists : List (List ℕ)) (tid : ℕ) (first : 1 ≤ tid) where
   least_told f keys a =
       let e : tid ≡ 1 + (tid - 1) = omega arith in
       least_meets f (take (tid - 1) lists) None keys (λ k d below. a k d below
-          ∙ ap (λ t. earlier_only t (least (λ list. is_among nat_cmp list (get_or keys k d)) lists)) e ∙ earlier_first (λ list. is_among nat_cmp list (get_or keys k d)) 1 (tid - 1) lists)
+      ∙ ap (λ t. earlier_only t (least (λ list. is_among nat_cmp list (get_or keys k d)) lists)) e ∙ earlier_first (λ list. is_among nat_cmp list (get_or keys k d)) 1 (tid - 1) lists)
       ∙ by_tids keys
 
 module _ (sheet : Sheet) (tag : ℕ) (words : List ℕ) (tell : Tell sheet tag words) (tid : ℕ) (is_tid : IsTid sheet tid) where

@@ -66,7 +66,7 @@ module _ (sheet : Sheet) (is : IsSheet sheet) (marks : List Mark) (are : AreMark
       let last = is_tid.1 in
       let within : t - 1 < length (lists_on s sheet) = omega (arith, many, first, last) in
       let among : Contains (slice_index_or (lists_on s sheet) (t - 1) []) key = subst (λ t. Contains (slice_index_or (lists_on s sheet) (t - 1) []) key) tid (subst (Contains (slice_index_or (lists_on s sheet) (m.tid - 1) [])) on.0
-          (subst (λ l. Contains l m.key) (ap (λ b. cond b (writes_at sheet m.tid) (reads_at sheet m.tid)) on.1 ∙ side_is s sheet m.tid) of.1)) in
+      (subst (λ l. Contains l m.key) (ap (λ b. cond b (writes_at sheet m.tid) (reads_at sheet m.tid)) on.1 ∙ side_is s sheet m.tid) of.1)) in
       (first, omega (arith, within), subst (λ o. IsSomeAnd o (λ list. is_among nat_cmp list key ≡ true)) (sym (slice_get-get_or (lists_on s sheet) (t - 1) [] within)) (list_any-from_Contains (eq_by_cmp_equiv nat_cmp_total) key _ among))
 
   one : (r q : Option ℕ) → IsLeast (place_on s key) marks r → IsLeastOf (λ list. is_among nat_cmp list key) (lists_on s sheet) q → r ≡ q

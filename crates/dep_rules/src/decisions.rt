@@ -98,7 +98,9 @@ fn least_meeting(keys: &Keys, earlier: &[Sets], side: Side) -> Option<u32>
 fn meet(keys: &Keys, others: &Keys) -> bool
     ensures { result ≡ meets key_cmp keys.now others.now }
 {
-    keys.as_slice().iter().any(|key| contains_key(others.as_slice(), key))
+    keys.as_slice()
+        .iter()
+        .any(|key| contains_key(others.as_slice(), key))
 }
 
 /// The least TID below `tid` that the words of these keys stand for on this side.

@@ -184,12 +184,29 @@ fn ring_of_copies(rt: HostRuntime) -> Result<(), Fail> {
     let writes = all_below(alloc, &[&[2], &[3], &[1]])?;
     let ring = sets_of(alloc, &reads, &writes)?;
     for (tid, plain, reorder) in [
-        (1, Verdict::Finish { raw: false }, Verdict::Finish { raw: false }),
-        (2, Verdict::Wait(Cause::Raw(1)), Verdict::Finish { raw: true }),
-        (3, Verdict::Wait(Cause::Raw(2)), Verdict::Wait(Cause::Both(2, 1))),
+        (
+            1,
+            Verdict::Finish { raw: false },
+            Verdict::Finish { raw: false },
+        ),
+        (
+            2,
+            Verdict::Wait(Cause::Raw(1)),
+            Verdict::Finish { raw: true },
+        ),
+        (
+            3,
+            Verdict::Wait(Cause::Raw(2)),
+            Verdict::Wait(Cause::Both(2, 1)),
+        ),
     ] {
         same(&rt, &tid, &decide_listed(&ring, tid, Rule::Plain), &plain);
-        same(&rt, &tid, &decide_listed(&ring, tid, Rule::Reorder), &reorder);
+        same(
+            &rt,
+            &tid,
+            &decide_listed(&ring, tid, Rule::Reorder),
+            &reorder,
+        );
     }
     Ok(alike(&rt, alloc, reads, writes)?)
 }
@@ -201,7 +218,12 @@ fn least_writer_is_named_before_all(rt: HostRuntime) -> Result<(), Fail> {
     let writes = all_below(alloc, &[&[5], &[6], &[6], &[7, 6]])?;
     let sets = sets_of(alloc, &reads, &writes)?;
     for rule in [Rule::Plain, Rule::Reorder] {
-        same(&rt, &rule, &decide_listed(&sets, 4, rule), &Verdict::Wait(Cause::Waw(2)));
+        same(
+            &rt,
+            &rule,
+            &decide_listed(&sets, 4, rule),
+            &Verdict::Wait(Cause::Waw(2)),
+        );
     }
     same(&rt, &"a copy", &sets[3].duplicate(alloc)?, &sets[3]);
     Ok(alike(&rt, alloc, reads, writes)?)

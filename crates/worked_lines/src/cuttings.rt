@@ -5,8 +5,11 @@ use std::alloc::Global;
 use std::test::Fail;
 
 /// A text, and its lines, each with a bar behind it.
-const TEXT: &str = "catalog bank\r\n\n\r\nrow acct 1 = 10\r\r\n# a remark that is long enough to lie in more than one piece of a hundred bytes\ntx add 1 2\n   \nend 1\r\nlast \r";
-const BARRED: &str = "catalog bank|||row acct 1 = 10\r|# a remark that is long enough to lie in more than one piece of a hundred bytes|tx add 1 2|   |end 1|last |";
+const TEXT: &str =
+    "catalog bank\r\n\n\r\nrow acct 1 = 10\r\r\n# a remark that is long enough to lie in more than one piece of a hundred bytes\ntx add 1 2\n   \nend 1\r\nlast \r";
+
+const BARRED: &str =
+    "catalog bank|||row acct 1 = 10\r|# a remark that is long enough to lie in more than one piece of a hundred bytes|tx add 1 2|   |end 1|last |";
 
 fn bar(out: &mut Vec<u8>, lines: &[Bytes]) -> Result<(), LinesRefused> {
     for line in lines {
@@ -17,7 +20,12 @@ fn bar(out: &mut Vec<u8>, lines: &[Bytes]) -> Result<(), LinesRefused> {
 }
 
 /// Feeds the text in pieces of this size, and bars its lines.
-fn feed_all(lines: &mut Lines, text: &[u8], size: usize, out: &mut Vec<u8>) -> Result<(), LinesRefused>
+fn feed_all(
+    lines: &mut Lines,
+    text: &[u8],
+    size: usize,
+    out: &mut Vec<u8>,
+) -> Result<(), LinesRefused>
     requires { 0 < size }
 {
     for piece in text.chunks(size) {
@@ -28,7 +36,13 @@ fn feed_all(lines: &mut Lines, text: &[u8], size: usize, out: &mut Vec<u8>) -> R
 }
 
 /// The barred lines of the text; at a refusal those before it, its word and its line.
-fn barred(alloc: Global, limit: u64, longest: u32, text: &[u8], size: usize) -> Result<Vec<u8>, Fail>
+fn barred(
+    alloc: Global,
+    limit: u64,
+    longest: u32,
+    text: &[u8],
+    size: usize,
+) -> Result<Vec<u8>, Fail>
     requires { 0 < size }
 {
     let mut out = Vec::new(alloc);
@@ -75,7 +89,12 @@ const BOUNDED: [(u64, u32, &str, &str); 14] = [
     (20, 10, "0123456789a", "long 1"),
     (20, 10, "01234567\r\n012345678", "01234567|012345678|"),
     (20, 10, "0123456789\r\n", "long 1"),
-    (20, 10, "01234\n01234\n01234\n01\n", "01234|01234|01234|size 4"),
+    (
+        20,
+        10,
+        "01234\n01234\n01234\n01\n",
+        "01234|01234|01234|size 4",
+    ),
     (21, 10, "0123456789\n0123456789\n", "0123456789|size 2"),
     (21, 10, "0123456789\n0123456789ab", "0123456789|long 2"),
     (10, 10, "0123456789a", "long 1"),

@@ -45,7 +45,10 @@ const TAKEN: [(&str, &str); 48] = [
     ("tx pay [] 1", "tx pay [] 1"),
     ("tx pay [1,2] 3", "tx pay [1,2] 3"),
     ("tx pay [1,2;-3,4;0,0] 5", "tx pay [1,2;-3,4;0,0] 5"),
-    ("tx five [1,2,3,4,5;6,7,8,9,10]", "tx five [1,2,3,4,5;6,7,8,9,10]"),
+    (
+        "tx five [1,2,3,4,5;6,7,8,9,10]",
+        "tx five [1,2,3,4,5;6,7,8,9,10]",
+    ),
     (
         "tx sixteen_letters_ 1 2 3 4 5 6 7 8 9 10 11 12 13 14 15 16",
         "tx sixteen_letters_ 1 2 3 4 5 6 7 8 9 10 11 12 13 14 15 16",
@@ -125,7 +128,10 @@ const REFUSED: [(&str, &str); 66] = [
     ("row acct = 1", "word"),
     ("row acct 1 = 2 = 3", "word"),
     ("row acct 1 2 3 4 5 6 = 1", "word"),
-    ("row acct 1 = 1 2 3 4 5 6 7 8 9 10 11 12 13 14 15 16 17", "word"),
+    (
+        "row acct 1 = 1 2 3 4 5 6 7 8 9 10 11 12 13 14 15 16 17",
+        "word",
+    ),
     ("row Acct 1 = 2", "word"),
     ("row 1 1 = 2", "word"),
     ("tx", "word"),
