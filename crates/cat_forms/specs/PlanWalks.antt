@@ -10,7 +10,8 @@ use Rattle.serde_json.specs.Events.{items_len, members_len}
 use Rattle.serde_json.specs.Find.{as_str, as_array, get}
 use Rattle.proc_lang.specs.declared.procs.PathPart.{PathPart}
 use Rattle.proc_lang.specs.declared.procs.Proc.{Proc}
-use Rattle.proc_lang.specs.declared.limits.TheConstants.{MOST_TABLES, MOST_PROCS, MOST_KEY_PARTS, MOST_COLUMNS, MOST_ARGS, MOST_REGS}
+use Rattle.aria_base.specs.declared.limits.TheConstants.{MOST_PARTS, MOST_COLUMNS, MOST_ARGS}
+use Rattle.proc_lang.specs.declared.limits.TheConstants.{MOST_TABLES, MOST_PROCS, MOST_REGS}
 use Rattle.proc_lang.specs.Catalogs.{Plan, is_between}
 use Rattle.cat_forms.specs.declared.members.Member.{Member}
 use Rattle.cat_forms.specs.declared.members.Member.TheVariants.{Tables, Procs, Name, Key, Cols, Args, Regs, Body}
@@ -71,7 +72,7 @@ abbrev pub table_at : List PathPart → List (List ℕ) → Data → Shaped Tabl
 table_at path earlier d = do
   ms ← at_path path (three_members Name Key Cols d)
   name ← name_at (in_member path Name) earlier ms.0
-  key ← named_at kind_named (in_member path Key) 1 MOST_KEY_PARTS ms.1
+  key ← named_at kind_named (in_member path Key) 1 MOST_PARTS ms.1
   cols ← named_at kind_named (in_member path Cols) 0 MOST_COLUMNS ms.2
   Ok (record { name = name; key = key; cols = cols })
 

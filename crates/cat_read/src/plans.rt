@@ -11,12 +11,10 @@ use crate::objects::{
 };
 use crate::places::{Place, fault_at};
 use crate::walks::read_body;
-use aria_base::{Kinds, Table};
+use aria_base::{Kinds, MOST_ARGS, MOST_COLUMNS, MOST_PARTS, Table};
 use cat_forms::Member;
 use cat_forms::Member::{Args, Body, Name, Regs};
-use proc_lang::{
-    ArgKinds, MOST_ARGS, MOST_COLUMNS, MOST_KEY_PARTS, MOST_PROCS, MOST_REGS, MOST_TABLES, Proc,
-};
+use proc_lang::{ArgKinds, MOST_PROCS, MOST_REGS, MOST_TABLES, Proc};
 use serde_json::Value;
 use std::alloc::Global;
 
@@ -39,7 +37,7 @@ fn read_table(
         alloc,
         &Place::Member(place, Member::Key),
         1,
-        MOST_KEY_PARTS,
+        MOST_PARTS,
         key,
     )?;
     let cols: Kinds = read_named(

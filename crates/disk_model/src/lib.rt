@@ -5,15 +5,24 @@
 //! sync, and all that lies behind the end that it then had, may be anything in an image; every other
 //! byte stays, and after a sync the one image is what a read gives. `MemDisk` is such a disk in
 //! memory, for tests: it fails where it is told to and can be stopped after any call.
+//!
+//! ```text
+//!     moment   0      1          2
+//!     call            write X    sync
+//!     read     abcd   aXcd       aXcd
+//!     images   abcd   a?cd       aXcd      '?' is any byte
+//! ```
 #![tactic(auto)]
 
 mod contents;
 mod disks;
 mod mem_disks;
+mod refusals;
 mod tapes;
 
 pub use disks::{Disk, write_synced};
 pub use mem_disks::MemDisk;
+pub use refusals::LogRefused;
 
 #[cfg(test)]
 mod tests;

@@ -4,13 +4,17 @@
 //! bytes, the payload, and the next gate. `append` leaves in every image the payloads from before
 //! the call, with the new one or without, and with it once it has answered Ok. `scan` reads the
 //! payloads up to the first closed gate and changes nothing.
+//!
+//! ```text
+//!     record              record              end
+//!     1 | len | payload | 1 | len | payload | 0 | anything
+//! ```
 #![tactic(auto)]
 
 mod logs;
-mod refusals;
 
+pub use disk_model::LogRefused;
 pub use logs::{LogEnd, Payload, append, fresh, scan};
-pub use refusals::LogRefused;
 
 #[cfg(test)]
 mod tests;

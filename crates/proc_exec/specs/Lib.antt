@@ -1,7 +1,7 @@
 pub mod Endings
 pub mod Faults
-pub mod KeyParts
 pub mod Lates
 pub mod Limits
 pub mod Outcomes
+pub mod Scopes
 pub mod Steppings

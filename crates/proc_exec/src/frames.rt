@@ -5,19 +5,17 @@ ghost use Rattle.aria_base.specs.declared.values.Value.TheVariants as value;
 ghost use Rattle.proc_lang.specs.Steps as step;
 ghost use Rattle.proc_lang.specs.TermOf.{term_of};
 ghost use Rattle.proc_lang.specs.Values.{blank, got};
-ghost use Rattle.proc_lang.specs.Meaning.{Next, step_run, begun, set_to, set_all, blank_all, blank_one, value_of, values_of, key_from, row_from, part_of, parts_of};
+ghost use Rattle.proc_lang.specs.Meaning.{Next, begun, set_to, set_all, blank_all, blank_one, key_from, row_from, part_of, parts_of};
 ghost use Rattle.proc_exec.specs.Faults.{Computes};
-ghost use Rattle.proc_exec.specs.KeyParts.{key_parts};
+ghost use Rattle.proc_exec.specs.Scopes.{value_in, values_in, step_in};
 ghost use Rattle.proc_exec.specs.Steppings.{Counts, Goes};
 
 use crate::evaluations::{eval, eval_all};
 use crate::scopes::Scope;
 use crate::stops::Fault;
 use crate::texts::kept;
-use aria_base::{Key, Kind, Kinded, Kinds, Memory, Part, Parts, Row, Value};
-use proc_lang::{
-    Expr, Exprs, Gives, MOST_ACCESSES, MOST_COLUMNS, MOST_GIVEN, MOST_KEY_PARTS, Regs, Trap,
-};
+use aria_base::{Key, Kind, Kinded, Kinds, MOST_COLUMNS, Memory, Part, Parts, Row, Value};
+use proc_lang::{Expr, Exprs, Gives, MOST_ACCESSES, MOST_GIVEN, Regs, Trap};
 use std::alloc::Global;
 use std::marker::Model;
 
@@ -55,7 +53,7 @@ impl Running {
 
     /// The value of an expression.
     pub fn value(&self, scope: &Scope, expr: &Expr) -> Result<Value, Fault>
-        ensures { Computes result (value_of scope.now.request.now scope.now.item.now self.now.regs (term_of expr.now)) }
+        ensures { Computes result (value_in scope.now self.now.regs (term_of expr.now)) }
     {
         eval(scope, &self.registers, expr)
     }
@@ -70,50 +68,35 @@ impl Running {
 
     /// The parts of a key with the values of these expressions.
     fn parts(&self, scope: &Scope, exprs: &Exprs) -> Result<Parts, Fault>
-        ensures { Computes result (got (values_of scope.now.request.now scope.now.item.now self.now.regs exprs.now) (λ vs. Ok (parts_of vs))) }
+        ensures { Computes result (got (values_in scope.now self.now.regs exprs.now) (λ vs. Ok (parts_of vs))) }
     {
         match exprs.as_slice() {
-            [a] => Ok(Parts::one(self.part(scope, a)?)),
-            [a, b] => Ok(Parts::two(self.part(scope, a)?, self.part(scope, b)?)),
+            [a] => Ok(Parts::one(part(self.value(scope, a)?))),
+            [a, b] => Ok(Parts::two(part(self.value(scope, a)?), part(self.value(scope, b)?))),
             [a, b, c] => Ok(Parts::three(
-                self.part(scope, a)?,
-                self.part(scope, b)?,
-                self.part(scope, c)?,
+                part(self.value(scope, a)?),
+                part(self.value(scope, b)?),
+                part(self.value(scope, c)?),
             )),
             [a, b, c, d] => Ok(Parts::four(
-                self.part(scope, a)?,
-                self.part(scope, b)?,
-                self.part(scope, c)?,
-                self.part(scope, d)?,
+                part(self.value(scope, a)?),
+                part(self.value(scope, b)?),
+                part(self.value(scope, c)?),
+                part(self.value(scope, d)?),
             )),
             [a, b, c, d, e] => Ok(Parts::five(
-                self.part(scope, a)?,
-                self.part(scope, b)?,
-                self.part(scope, c)?,
-                self.part(scope, d)?,
-                self.part(scope, e)?,
+                part(self.value(scope, a)?),
+                part(self.value(scope, b)?),
+                part(self.value(scope, c)?),
+                part(self.value(scope, d)?),
+                part(self.value(scope, e)?),
             )),
-            _ => self.many_parts(scope, exprs),
+            // no key: all are evaluated, since one may trap, and the single 0 stands for the parts
+            _ => {
+                eval_all(scope, &self.registers, exprs)?;
+                Ok(Parts::one(Part::Int(0)))
+            }
         }
-    }
-
-    /// The same, of any number of expressions.
-    #[tactic(auto, using(crate::proofs::KeyParts::one_more))]
-    fn many_parts(&self, scope: &Scope, exprs: &Exprs) -> Result<Parts, Fault>
-        ensures { Computes result (got (values_of scope.now.request.now scope.now.item.now self.now.regs exprs.now) (λ vs. Ok (parts_of vs))) }
-    {
-        let mut parts = Vec::with_capacity(scope.alloc, exprs.as_slice().len())?;
-        for expr in exprs.as_slice() {
-            parts.push(part(eval(scope, &self.registers, expr)?))?;
-        }
-        Ok(key_parts(scope.alloc, parts)?)
-    }
-
-    /// The value of an expression as a part of a key.
-    fn part(&self, scope: &Scope, expr: &Expr) -> Result<Part, Fault>
-        ensures { Computes result (got (value_of scope.now.request.now scope.now.item.now self.now.regs (term_of expr.now)) (λ v. Ok (part_of v))) }
-    {
-        Ok(part(self.value(scope, expr)?))
     }
 
     /// The row with the values of these expressions.
@@ -127,7 +110,7 @@ impl Running {
 
     /// Sets a register to the value of an expression.
     pub fn assign(&mut self, scope: &Scope, register: u32, expr: &Expr) -> Result<(), Fault>
-        ensures { (next : Next) → Goes result next self.new (step_run scope.now.request.now (step.Let register (term_of expr.now)) scope.now.item.now next self.old) }
+        ensures { (next : Next) → Goes result next self.new (step_in scope.now (step.Let register (term_of expr.now)) next self.old) }
     {
         let value = self.value(scope, expr)?;
         self.set(register, value);
@@ -203,7 +186,7 @@ impl Running {
 
     /// Adds the value of an expression to the reply; traps where it would be one too many.
     pub fn give(&mut self, scope: &Scope, expr: &Expr) -> Result<(), Fault>
-        ensures { (next : Next) → Goes result next self.new (step_run scope.now.request.now (step.Give (term_of expr.now)) scope.now.item.now next self.old) }
+        ensures { (next : Next) → Goes result next self.new (step_in scope.now (step.Give (term_of expr.now)) next self.old) }
     {
         let value = self.value(scope, expr)?;
         if MOST_GIVEN <= self.given.len() {
@@ -250,16 +233,4 @@ fn part(value: Value) -> Part
         Value::Int(number) => Part::Int(number),
         Value::Text(text) => Part::Text(text),
     }
-}
-
-/// The parts as those of a key: where they are too few or too many, the single 0.
-fn key_parts(alloc: Global, parts: Vec<Part>) -> Result<Parts, Memory>
-    ensures { IfOk result (λ made. made ≡ key_parts parts.items) }
-{
-    if parts.is_empty() || MOST_KEY_PARTS < parts.len() {
-        let mut zero = Vec::with_capacity(alloc, 1)?;
-        zero.push(Part::Int(0))?;
-        return Ok(Parts::from_vec(zero));
-    }
-    Ok(Parts::from_vec(parts))
 }

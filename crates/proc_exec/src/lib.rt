@@ -4,6 +4,20 @@
 //! notes is what that tree touches. One interpreter serves both a run without limits and a run again
 //! within declared keys, which stops before its first access outside them.
 //!
+//! ```text
+//! interpretations     a request of a catalogue
+//!        |
+//!      runs           a procedure's blocks and statements, over a frame (frames) in a scope (scopes)
+//!      |   \
+//! accesses  evaluations ─ operands         what expressions name, read where it stands
+//!      |             \─── operators        what is made of it: numbers, texts
+//!   limits            what the run may touch
+//!      |
+//!   Access            the window
+//! ```
+//!
+//! `stops` says why a run goes no further, and `outcomes` what whole runs come to.
+//!
 //! In `specs/`: `Endings` says what a run through a window comes to, `Outcomes` what one on a snapshot
 //! does, and `Lates` what the late fold of a batch is over the types here.
 #![tactic(auto)]
@@ -14,10 +28,11 @@ mod frames;
 mod interpretations;
 mod limits;
 mod numbers;
+mod operands;
+mod operators;
 mod outcomes;
 mod runs;
 mod scopes;
-mod settings;
 mod stops;
 mod texts;
 

@@ -2,12 +2,12 @@
 ghost use Rattle.std.specs.Prelude.{◌≡◌, Option, Some, None};
 ghost use Rattle.aria_base.specs.Orders.{key_cmp};
 ghost use Rattle.aria_base.specs.declared.keys.Key.{Key};
-ghost use Rattle.batch_rules.specs.Touches.{Declared as Touchable, is_among};
+ghost use Rattle.batch_rules.specs.Touches.{Declared as Touchable};
 ghost use Rattle.batch_rules.specs.Plays.{allows_read, allows_write};
 ghost use Rattle.proc_exec.specs.Limits.{touchable};
 
 use crate::outcomes::Declared;
-use aria_base::{Key, Keys, same_key};
+use aria_base::{Key, contains_key};
 
 /// What a run may touch: everything, or declared keys.
 pub trait Limits {
@@ -43,22 +43,10 @@ impl Limits for Declared {
     ghost declared = { λ d. Some (touchable d) };
 
     fn allows_read(&self, key: &Key) -> bool {
-        stands_in(&self.reads, key) || stands_in(&self.writes, key)
+        contains_key(self.reads.as_slice(), key) || contains_key(self.writes.as_slice(), key)
     }
 
     fn allows_write(&self, key: &Key) -> bool {
-        stands_in(&self.writes, key)
+        contains_key(self.writes.as_slice(), key)
     }
-}
-
-/// Whether the key is one of these.
-fn stands_in(keys: &Keys, key: &Key) -> bool
-    ensures { result ≡ is_among key_cmp keys.now key.now }
-{
-    for other in keys.as_slice() {
-        if same_key(key, other) {
-            return true;
-        }
-    }
-    false
 }

@@ -1,5 +1,5 @@
 // Operations on the numbers of values.
-ghost use Rattle.std.specs.Prelude.{◌≡◌, ◌≢◌, ◌*ℤ◌, ◌+ℤ◌, ◌-ℤ◌, ◌≤◌, ◌^◌, pos, unsigned_abs, neg_ℤ};
+ghost use Rattle.std.specs.Prelude.{◌≡◌, ◌≢◌, ◌&&◌, ◌||◌, int_lt, int_le, ◌*ℤ◌, ◌+ℤ◌, ◌-ℤ◌, ◌≤◌, ◌^◌, pos, unsigned_abs, neg_ℤ};
 ghost use Rattle.proc_lang.specs.Values.{int_of, is_true, truth, number, quotient, divided, remainder};
 ghost use Rattle.proc_exec.specs.Faults.{Computes};
 
@@ -38,6 +38,34 @@ pub fn holds(value: &Value) -> bool
     int(value) != 0
 }
 
+/// Whether the first number is less.
+pub fn less(pair: &(Value, Value)) -> bool
+    ensures { result ≡ int_lt (int_of pair.now.0) (int_of pair.now.1) }
+{
+    int(&pair.0) < int(&pair.1)
+}
+
+/// Whether the first number is at most the second.
+pub fn at_most(pair: &(Value, Value)) -> bool
+    ensures { result ≡ int_le (int_of pair.now.0) (int_of pair.now.1) }
+{
+    int(&pair.0) <= int(&pair.1)
+}
+
+/// Whether both numbers are not 0.
+pub fn all_hold(pair: &(Value, Value)) -> bool
+    ensures { result ≡ (is_true pair.now.0 && is_true pair.now.1) }
+{
+    holds(&pair.0) && holds(&pair.1)
+}
+
+/// Whether one of the numbers is not 0.
+pub fn one_holds(pair: &(Value, Value)) -> bool
+    ensures { result ≡ (is_true pair.now.0 || is_true pair.now.1) }
+{
+    holds(&pair.0) || holds(&pair.1)
+}
+
 /// The number as a value, where it is within the 64-bit numbers.
 fn whole(exact: i128) -> Result<Value, Fault>
     ensures { Computes result (number exact) }
@@ -48,32 +76,32 @@ fn whole(exact: i128) -> Result<Value, Fault>
     }
 }
 
-pub fn sum(pair: (Value, Value)) -> Result<Value, Fault>
-    ensures { Computes result (number (int_of pair.0 +ℤ int_of pair.1)) }
+pub fn sum(pair: &(Value, Value)) -> Result<Value, Fault>
+    ensures { Computes result (number (int_of pair.now.0 +ℤ int_of pair.now.1)) }
 {
-    let (x, y) = ints(&pair);
+    let (x, y) = ints(pair);
     whole(i128::from(x) + i128::from(y))
 }
 
-pub fn difference(pair: (Value, Value)) -> Result<Value, Fault>
-    ensures { Computes result (number (int_of pair.0 -ℤ int_of pair.1)) }
+pub fn difference(pair: &(Value, Value)) -> Result<Value, Fault>
+    ensures { Computes result (number (int_of pair.now.0 -ℤ int_of pair.now.1)) }
 {
-    let (x, y) = ints(&pair);
+    let (x, y) = ints(pair);
     whole(i128::from(x) - i128::from(y))
 }
 
-pub fn product(pair: (Value, Value)) -> Result<Value, Fault>
-    ensures { Computes result (number (int_of pair.0 *ℤ int_of pair.1)) }
+pub fn product(pair: &(Value, Value)) -> Result<Value, Fault>
+    ensures { Computes result (number (int_of pair.now.0 *ℤ int_of pair.now.1)) }
 {
-    let (x, y) = ints(&pair);
-    whole(times(x, y))
+    whole(exact_product(pair))
 }
 
 /// The exact product.
-fn times(x: i64, y: i64) -> i128
-    ensures product { result ≡ x *ℤ y }
+fn exact_product(pair: &(Value, Value)) -> i128
+    ensures product { result ≡ int_of pair.now.0 *ℤ int_of pair.now.1 }
     ensures small { unsigned_abs result ≤ 2 ^ 126 }
 {
+    let (x, y) = ints(pair);
     i128::from(x) * i128::from(y)
 }
 
@@ -101,24 +129,23 @@ fn divide(x: i128, y: i64) -> Result<Value, Fault>
     whole(rounded_down(x, y))
 }
 
-pub fn divided_by(pair: (Value, Value)) -> Result<Value, Fault>
-    ensures { Computes result (divided (int_of pair.0) (int_of pair.1)) }
+pub fn divided_by(pair: &(Value, Value)) -> Result<Value, Fault>
+    ensures { Computes result (divided (int_of pair.now.0) (int_of pair.now.1)) }
 {
-    let (x, y) = ints(&pair);
+    let (x, y) = ints(pair);
     divide(i128::from(x), y)
 }
 
-pub fn product_divided_by(pair: (Value, Value), third: Value) -> Result<Value, Fault>
-    ensures { Computes result (divided (int_of pair.0 *ℤ int_of pair.1) (int_of third)) }
+pub fn product_divided_by(pair: &(Value, Value), divisor: &Value) -> Result<Value, Fault>
+    ensures { Computes result (divided (int_of pair.now.0 *ℤ int_of pair.now.1) (int_of divisor.now)) }
 {
-    let (x, y) = ints(&pair);
-    divide(times(x, y), int(&third))
+    divide(exact_product(pair), int(divisor))
 }
 
-pub fn remainder_by(pair: (Value, Value)) -> Result<Value, Fault>
-    ensures { Computes result (remainder (int_of pair.0) (int_of pair.1)) }
+pub fn remainder_by(pair: &(Value, Value)) -> Result<Value, Fault>
+    ensures { Computes result (remainder (int_of pair.now.0) (int_of pair.now.1)) }
 {
-    let (x, y) = ints(&pair);
+    let (x, y) = ints(pair);
     if y == 0 {
         return Err(Fault::Trap(Trap::Zero));
     }
@@ -139,9 +166,8 @@ fn rest(x: i64, y: i64) -> i64
     ensures { result ≡ x -ℤ y *ℤ quotient x y }
 {
     if 0 < y {
-        i128::from(x).rem_euclid(i128::from(y)) as i64
-    } else {
-        let left = negated(x).rem_euclid(negated(y));
-        (-left) as i64
+        return x.rem_euclid(y);
     }
+    let left = negated(x).rem_euclid(negated(y));
+    (-left) as i64
 }

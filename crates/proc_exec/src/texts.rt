@@ -3,7 +3,7 @@ ghost use Rattle.std.specs.Prelude.{◌≡◌, ◌++◌, ◌≤◌, length, take
 ghost use Rattle.std.specs.declared.result.Result.TheVariants.{Ok};
 ghost use Rattle.std.specs.Fmt.{signed_decimal};
 ghost use Rattle.aria_base.specs.Texts.{IsText};
-ghost use Rattle.aria_base.specs.declared.texts.TheConstants.{LONGEST_TEXT};
+ghost use Rattle.aria_base.specs.declared.limits.TheConstants.{LONGEST_TEXT};
 ghost use Rattle.proc_lang.specs.Values.{text_of, same_value, joined, front};
 ghost use Rattle.proc_exec.specs.Faults.{Computes};
 
@@ -64,8 +64,8 @@ fn first_bytes(alloc: Global, first: &[u8], second: &[u8], most: usize) -> Resul
 
 /// The two joined; traps where that is no text.
 #[tactic(auto, using(crate::proofs::TextFacts::joined_whole))]
-pub fn join(alloc: Global, pair: (Value, Value)) -> Result<Value, Fault>
-    ensures { Computes result (joined (text_of pair.0) (text_of pair.1)) }
+pub fn join(alloc: Global, pair: &(Value, Value)) -> Result<Value, Fault>
+    ensures { Computes result (joined (text_of pair.now.0) (text_of pair.now.1)) }
 {
     let first = text(&pair.0);
     let second = text(&pair.1);
@@ -75,8 +75,9 @@ pub fn join(alloc: Global, pair: (Value, Value)) -> Result<Value, Fault>
     Ok(Value::Text(first_bytes(alloc, first, second, LONGEST_TEXT)?))
 }
 
-pub fn front_of(alloc: Global, pair: (Value, Value), most: u32) -> Result<Value, Fault>
-    ensures { Computes result (Ok (front (text_of pair.0) (text_of pair.1) most)) }
+/// The first bytes of the two joined, at most so many and no more than a text may have.
+pub fn front_of(alloc: Global, pair: &(Value, Value), most: u32) -> Result<Value, Memory>
+    ensures { IfOk result (λ made. made ≡ front (text_of pair.now.0) (text_of pair.now.1) most) }
 {
     let most = (most as usize).min(LONGEST_TEXT);
     Ok(Value::Text(first_bytes(alloc, text(&pair.0), text(&pair.1), most)?))

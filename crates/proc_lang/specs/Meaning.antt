@@ -16,7 +16,8 @@ use Rattle.batch_rules.specs.Trees.{Tree, Ends, Reads, Writes}
 use Rattle.proc_lang.specs.declared.ends.End.{End}
 use Rattle.proc_lang.specs.declared.ends.End.TheVariants as end
 use Rattle.proc_lang.specs.declared.ends.Trap.TheVariants.{Absent, Many}
-use Rattle.proc_lang.specs.declared.limits.TheConstants.{MOST_KEY_PARTS, MOST_COLUMNS, MOST_ACCESSES, MOST_GIVEN}
+use Rattle.aria_base.specs.declared.limits.TheConstants.{MOST_PARTS, MOST_COLUMNS}
+use Rattle.proc_lang.specs.declared.limits.TheConstants.{MOST_ACCESSES, MOST_GIVEN}
 use Rattle.proc_lang.specs.declared.operators.Source.{Source}
 use Rattle.proc_lang.specs.declared.operators.Source.TheVariants as source
 use Rattle.proc_lang.specs.declared.operators.UnaryOp.{UnaryOp}
@@ -81,7 +82,7 @@ part_of (value.Text bytes) = part.Text bytes
 
 -- the parts of a key; of a list that is no key's the single 0
 abbrev pub parts_of : List Value → List Part
-parts_of vs = if nat_lt 0 (length vs) && nat_le (length vs) MOST_KEY_PARTS then map part_of vs else part.Int (pos 0) ∷ []
+parts_of vs = if nat_lt 0 (length vs) && nat_le (length vs) MOST_PARTS then map part_of vs else part.Int (pos 0) ∷ []
 
 abbrev pub key_from : Request → List ℤ → List Value → ℕ → List Term → Got Key
 key_from r item regs table ks = got (values_of r item regs ks) (λ vs. Ok (record { table = table; parts = parts_of vs }))

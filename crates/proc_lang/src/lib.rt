@@ -23,8 +23,8 @@ pub use ends::{End, Gives, Trap};
 pub use expressions::{Expr, Exprs, copy_expr};
 pub use flaws::{ARGUMENT, COLUMNS, KEY_LENGTH, KIND, NESTING, REGISTER, UNKNOWN_TABLE, Wrong};
 pub use limits::{
-    DEEPEST_EXPR, GREATEST_CODE, MOST_ACCESSES, MOST_ARGS, MOST_BLOCKS, MOST_COLUMNS, MOST_FRONT,
-    MOST_GIVEN, MOST_KEY_PARTS, MOST_PROCS, MOST_REGS, MOST_STATEMENTS, MOST_TABLES,
+    DEEPEST_EXPR, GREATEST_CODE, MOST_ACCESSES, MOST_BLOCKS, MOST_FRONT, MOST_GIVEN, MOST_PROCS,
+    MOST_REGS, MOST_STATEMENTS, MOST_TABLES,
 };
 pub use operators::{BinaryOp, Shape, Source, UnaryOp};
 pub use procs::{ArgKind, ArgKinds, Path, PathPart, Proc};

@@ -1,4 +1,4 @@
-// The limits of catalogues, procedures and runs. Those of values, rows, keys and calls stand with them.
+// The limits of catalogues, procedures and runs. Those of values, rows, keys, tuples and calls stand with them.
 use aria_base::LONGEST_TEXT;
 
 /// The most tables of a catalogue.
@@ -6,15 +6,6 @@ pub const MOST_TABLES: usize = 256;
 
 /// The most procedures of a catalogue.
 pub const MOST_PROCS: usize = 256;
-
-/// The most parts of a key, and the most numbers of a tuple.
-pub const MOST_KEY_PARTS: usize = 5;
-
-/// The most columns of a table.
-pub const MOST_COLUMNS: usize = 16;
-
-/// The most arguments of a procedure.
-pub const MOST_ARGS: usize = 16;
 
 /// The most registers of a procedure.
 pub const MOST_REGS: usize = 64;

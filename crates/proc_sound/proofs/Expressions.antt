@@ -8,7 +8,7 @@ use Rattle.std.proofs.lemmas.List.{map-append}
 use Rattle.std.proofs.lemmas.Option.{slice_get-get_or, get_or_from_slice_get}
 use Rattle.std.proofs.lemmas.Result.{IfOk-weaker}
 use Rattle.aria_base.specs.Kinds.{value_kind}
-use Rattle.aria_base.specs.declared.texts.TheConstants.{LONGEST_TEXT}
+use Rattle.aria_base.specs.declared.limits.TheConstants.{LONGEST_TEXT}
 use Rattle.aria_base.specs.declared.calls.Arg.{Arg}
 use Rattle.aria_base.specs.declared.calls.Arg.TheVariants as arg
 use Rattle.aria_base.specs.declared.calls.Request.{Request}

@@ -1,0 +1,13 @@
+pub mod FitsDecided
+pub mod LinesRead
+pub mod NamesFound
+pub mod NumbersAgain
+pub mod Places
+pub mod Runs
+pub mod Scans
+pub mod Splits
+pub mod TextsRead
+pub mod TokensAgain
+pub mod TokensCut
+pub mod TokensRead
+pub mod WrittenAgain

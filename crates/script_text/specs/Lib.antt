@@ -1,0 +1,10 @@
+pub mod Answers
+pub mod Cuts
+pub mod Fits
+pub mod Forms
+pub mod Laws
+pub mod Lines
+pub mod Numbers
+pub mod Runs
+pub mod Tokens
+pub mod Written
