@@ -1,3 +1,4 @@
 pub mod Orders
 pub mod Reserved
 pub mod Shares
+pub mod Words

@@ -8,8 +8,9 @@ use Rattle.std.proofs.lemmas.Grind.{get_or_default_zero}
 use Rattle.std.proofs.lemmas.List.Elements.{All-contains}
 use Rattle.std.specs.Option.{option_map_or}
 use Rattle.std.specs.Prelude.{Option, None, Some, All}
+use Rattle.aria_base.specs.declared.limits.TheConstants.{TAG_SPAN, TAGS}
 use Rattle.aria_base.specs.declared.marks.Mark.{Mark}
-use Rattle.aria_base.specs.Reserved.{tag_span, number_under, tid_under, place_of, least_with, least_tid, start_of, word_of, AreWords, StandFor, AreAbove, HasTid, SameMarks, IsMarked, IsLeast}
+use Rattle.aria_base.specs.Reserved.{number_under, tid_under, place_of, least_with, least_tid, start_of, word_of, AreWords, StandFor, AreAbove, HasTid, SameMarks, IsMarked, IsLeast}
 
 -- a mark of a longer list is its first one or one of the others
 marked_cases : (place : ℕ) (m : Mark) (ms : List Mark) (t : ℕ) → IsMarked place (m ∷ ms) t → ((place_of m ≡ place) × (m.tid ≡ t)) ⊎ IsMarked place ms t
@@ -66,31 +67,31 @@ IsLeast-one place ms ns (Some t) (Some u) same least least' =
     let e : t ≡ u = omega arith in ap (λ (n : ℕ). Some n) e
 
 -- where each start value is above the tag, a word stands under the tag for the least TID at its place
-pub start_above : (old : List ℕ) (tag place : ℕ) → tag < 2 ^ 49 → AreAbove tag old → (tag + 1) * tag_span ≤ start_of old place
+pub start_above : (old : List ℕ) (tag place : ℕ) → tag < TAGS → AreAbove tag old → (tag + 1) * TAG_SPAN ≤ start_of old place
 start_above old tag place small above =
     ⊎_elim
     (λ lt. above place (2 ^ 64 - 1) lt)
     (λ ge. rw (get_or_past old place (2 ^ 64 - 1) ge) (omega arith))
     (cases_lt place (length old))
 
-stands : (tag start place : ℕ) (marks : List Mark) (r : Option ℕ) → (tag + 1) * tag_span ≤ start → All HasTid marks → IsLeast place marks r → tid_under tag (option_map_or (number_under tag) r start) ≡ r
+stands : (tag start place : ℕ) (marks : List Mark) (r : Option ℕ) → (tag + 1) * TAG_SPAN ≤ start → All HasTid marks → IsLeast place marks r → tid_under tag (option_map_or (number_under tag) r start) ≡ r
 stands tag start place marks None above tids least =
-    let more : tag + 1 ≤ start / tag_span = le-div (tag + 1) start tag_span (omega arith) above in
-    ap (λ b. cond b (Some (start % tag_span)) None) (ne_eqb (start / tag_span) tag (λ e. omega arith))
+    let more : tag + 1 ≤ start / TAG_SPAN = le-div (tag + 1) start TAG_SPAN (omega arith) above in
+    ap (λ b. cond b (Some (start % TAG_SPAN)) None) (ne_eqb (start / TAG_SPAN) tag (λ e. omega arith))
 stands tag start place marks (Some t) above tids ((m, stands_there, at, is), least) =
     let bound : HasTid m = All-contains HasTid marks m tids stands_there in
-    let within : t < tag_span = omega arith in
-    ap (λ b. cond b (Some (number_under tag t % tag_span)) None) (eq-eqb (number_under tag t / tag_span) tag (div-mul-add tag tag_span t within))
-    ∙ ap (λ (n : ℕ). Some n) (mul-add-mod_self_right tag tag_span t ∙ mod-eq_of_lt within)
+    let within : t < TAG_SPAN = omega arith in
+    ap (λ b. cond b (Some (number_under tag t % TAG_SPAN)) None) (eq-eqb (number_under tag t / TAG_SPAN) tag (div-mul-add tag TAG_SPAN t within))
+    ∙ ap (λ (n : ℕ). Some n) (mul-add-mod_self_right tag TAG_SPAN t ∙ mod-eq_of_lt within)
 
-pub StandFor-AreWords : (old : List ℕ) (tag keys : ℕ) (marks : List Mark) (words : List ℕ) → tag < 2 ^ 49 → AreAbove tag old → All HasTid marks → AreWords old tag keys marks words → StandFor tag keys marks words
+pub StandFor-AreWords : (old : List ℕ) (tag keys : ℕ) (marks : List Mark) (words : List ℕ) → tag < TAGS → AreAbove tag old → All HasTid marks → AreWords old tag keys marks words → StandFor tag keys marks words
 StandFor-AreWords old tag keys marks words small above tids are = record {
   two_a_key = are.two_a_key;
   each = λ place lt. ap (tid_under tag) (are.each place lt) ∙ stands tag (start_of old place) place marks _ (start_above old tag place small above) tids (IsLeast-least_tid place marks);
 }
 
 -- The least of the start value and of the numbers of all marks at a place is the word there
-least_word : (tag start word place : ℕ) (marks : List Mark) (r : Option ℕ) → (tag + 1) * tag_span ≤ start → All HasTid marks → IsLeast place marks r
+least_word : (tag start word place : ℕ) (marks : List Mark) (r : Option ℕ) → (tag + 1) * TAG_SPAN ≤ start → All HasTid marks → IsLeast place marks r
     → ((t : ℕ) → IsMarked place marks t → word ≤ number_under tag t) → (word ≡ start) ⊎ ((t : ℕ) × IsMarked place marks t × (word ≡ number_under tag t)) → word ≡ option_map_or (number_under tag) r start
 least_word tag start word place marks None above tids none lower (inl is) = is
 least_word tag start word place marks None above tids none lower (inr (t, marked, is)) = absurd (none t marked)
@@ -101,20 +102,20 @@ least_word tag start word place marks (Some t) above tids ((m, stands_there, at,
 least_word tag start word place marks (Some t) above tids least lower (inr (u, marked, is)) =
     let le = least.1 u marked in let ge = lower t least.0 in omega arith
 
-pub word_of-least : (old : List ℕ) (tag place : ℕ) (marks : List Mark) (word : ℕ) → tag < 2 ^ 49 → AreAbove tag old → All HasTid marks
+pub word_of-least : (old : List ℕ) (tag place : ℕ) (marks : List Mark) (word : ℕ) → tag < TAGS → AreAbove tag old → All HasTid marks
     → ((t : ℕ) → IsMarked place marks t → word ≤ number_under tag t) → (word ≡ start_of old place) ⊎ ((t : ℕ) × IsMarked place marks t × (word ≡ number_under tag t)) → word ≡ word_of old tag marks place
 word_of-least old tag place marks word small above tids = least_word tag (start_of old place) word place marks (least_tid place marks) (start_above old tag place small above) tids (IsLeast-least_tid place marks)
 
 -- a word is at least the first number of its tag, so words can be the old numbers under any lesser tag
-least_at_least : (tag start : ℕ) (r : Option ℕ) → (tag + 1) * tag_span ≤ start → tag * tag_span ≤ option_map_or (number_under tag) r start
+least_at_least : (tag start : ℕ) (r : Option ℕ) → (tag + 1) * TAG_SPAN ≤ start → tag * TAG_SPAN ≤ option_map_or (number_under tag) r start
 least_at_least tag start None above = omega arith
 least_at_least tag start (Some t) above = omega arith
 
-pub AreAbove-words : (old : List ℕ) (tag keys : ℕ) (marks : List Mark) (words : List ℕ) → tag < 2 ^ 49 → AreAbove tag old → AreWords old tag keys marks words → (lesser : ℕ) → lesser < tag → AreAbove lesser words
+pub AreAbove-words : (old : List ℕ) (tag keys : ℕ) (marks : List Mark) (words : List ℕ) → tag < TAGS → AreAbove tag old → AreWords old tag keys marks words → (lesser : ℕ) → lesser < tag → AreAbove lesser words
 AreAbove-words old tag keys marks words small above are lesser lt place d within =
     let in_words : place < 2 * keys = omega (arith, are.two_a_key) in
     let is : get_or words place d ≡ word_of old tag marks place = get_or_default_zero words place d within ∙ are.each place in_words in
-    let le : tag * tag_span ≤ word_of old tag marks place = least_at_least tag (start_of old place) (least_tid place marks) (start_above old tag place small above) in
+    let le : tag * TAG_SPAN ≤ word_of old tag marks place = least_at_least tag (start_of old place) (least_tid place marks) (start_above old tag place small above) in
     omega arith
 
 pub least_tid-same : (place : ℕ) (ms ns : List Mark) → SameMarks ms ns → least_tid place ms ≡ least_tid place ns

@@ -1,8 +1,8 @@
 -- The parts of a key where they lie.
 use Rattle.std.specs.Prelude.{◌≡◌, List, length}
 use Rattle.aria_base.specs.declared.keys.Part.{Part}
-use Rattle.aria_base.specs.declared.keys.Held.{Held}
-use Rattle.aria_base.specs.declared.keys.Held.TheVariants as held
+use Rattle.aria_base.specs.declared.parts.Held.{Held}
+use Rattle.aria_base.specs.declared.parts.Held.TheVariants as held
 
 abbrev pub held_parts : Held → List Part
 held_parts (held.One xs) = xs

@@ -1,4 +1,5 @@
 pub mod Codes
+pub mod Draws
 pub mod Faults
 pub mod Held
 pub mod Kinds

@@ -1,7 +1,7 @@
 -- Why bytes are no text.
 use Rattle.std.specs.Prelude.{◌≡◌, ℕ, ◌<◌, ◌≤◌, List, ◌++◌, length, position, Some, not, codes, decimal}
 use Rattle.aria_base.specs.Texts.{may_hold}
-use Rattle.aria_base.specs.declared.texts.TheConstants.{LONGEST_TEXT}
+use Rattle.aria_base.specs.declared.limits.TheConstants.{LONGEST_TEXT}
 use Rattle.aria_base.specs.declared.texts.TxtRefused.{TxtRefused}
 use Rattle.aria_base.specs.declared.texts.TxtRefused.TheVariants.{Memory, TooLong, BadByte}
 

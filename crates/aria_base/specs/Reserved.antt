@@ -2,23 +2,16 @@
 -- A word says which TID is the least that is marked at its place. It says so under a tag, so that words of another tag say nothing.
 use Rattle.std.specs.Prelude.{◌≡◌, ℕ, ◌+◌, ◌-◌, ◌*◌, ◌/◌, ◌%◌, ◌^◌, ◌<◌, ◌≤◌, ◌↔◌, ◌==◌, if◌then◌else◌, min, List, [], ◌∷◌, length, slice_index, slice_index_or, All, Contains, Option, None, Some}
 use Rattle.std.specs.Option.{option_map_or}
+use Rattle.aria_base.specs.declared.limits.TheConstants.{MOST_REQUESTS, TAG_SPAN}
 use Rattle.aria_base.specs.declared.marks.Mark.{Mark}
-
--- the greatest TID of a batch
-abbrev pub greatest_tid : ℕ
-greatest_tid = 10000
-
--- how many numbers a tag has: more than there are TIDs
-abbrev pub tag_span : ℕ
-tag_span = 2 ^ 14
 
 -- the number that stands for a TID under a tag
 abbrev pub number_under : ℕ → ℕ → ℕ
-number_under tag tid = tag * tag_span + tid
+number_under tag tid = tag * TAG_SPAN + tid
 
 -- the TID that a word stands for under a tag, where it stands for one
 abbrev pub tid_under : ℕ → ℕ → Option ℕ
-tid_under tag word = if word / tag_span == tag then Some (word % tag_span) else None
+tid_under tag word = if word / TAG_SPAN == tag then Some (word % TAG_SPAN) else None
 
 -- the place that a mark is on
 abbrev pub place_of : Mark → ℕ
@@ -54,11 +47,11 @@ pub record StandFor (tag keys : ℕ) (marks : List Mark) (words : List ℕ) : Ty
 
 -- each old number stands for no TID under this tag or a lesser one
 abbrev pub AreAbove : ℕ → List ℕ → Type 0
-AreAbove tag old = All (λ number. (tag + 1) * tag_span ≤ number) old
+AreAbove tag old = All (λ number. (tag + 1) * TAG_SPAN ≤ number) old
 
 -- the TID is one of a batch
 abbrev pub HasTid : Mark → Type 0
-HasTid m = (1 ≤ m.tid) × (m.tid ≤ greatest_tid)
+HasTid m = (1 ≤ m.tid) × (m.tid ≤ MOST_REQUESTS)
 
 -- the same marks, in any order and however often each stands there
 abbrev pub SameMarks : List Mark → List Mark → Type 0

@@ -2,7 +2,7 @@
 use Rattle.std.specs.Prelude.{◌≡◌, ℕ, Bool, ◌≤◌, List, length, Option, Some, None, All, ◌&&◌, ◌||◌, ◌==◌, not, true, false}
 use Rattle.std.specs.List.{list_all, slice_get}
 use Rattle.std.specs.Bool.{nat_le}
-use Rattle.aria_base.specs.declared.texts.TheConstants.{LONGEST_TEXT, LONGEST_WORD}
+use Rattle.aria_base.specs.declared.limits.TheConstants.{LONGEST_TEXT, LONGEST_WORD}
 
 -- a byte of a text: printable ASCII, and neither the quote (34) nor the backslash (92)
 abbrev pub may_hold : ℕ → Bool

@@ -1,13 +1,14 @@
 ghost use Rattle.std.specs.Prelude.{◌≡◌, IfOk};
 
 use crate::copies::Duplicate;
+use crate::limits::{LONGEST_TUPLE, MOST_ARGS, SHORTEST_TUPLE};
 use crate::lists::{Few, Items};
 use crate::memory::Memory;
 use crate::texts::Txt;
 use std::alloc::Global;
 
 /// One to five whole numbers of 64 bits with a sign.
-pub type Tuple = Few<i64, 1, 5>;
+pub type Tuple = Few<i64, SHORTEST_TUPLE, LONGEST_TUPLE>;
 
 /// A list of tuples.
 pub type Tuples = Items<Tuple>;
@@ -23,8 +24,8 @@ pub enum Arg {
     List(Tuples),
 }
 
-/// The arguments of a call, from the left: at most 16.
-pub type Args = Few<Arg, 0, 16>;
+/// The arguments of a call, from the left: at most [`MOST_ARGS`].
+pub type Args = Few<Arg, 0, MOST_ARGS>;
 
 /// A call of a procedure.
 #[derive(Debug, Drop, PartialEq, Eq)]

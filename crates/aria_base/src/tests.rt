@@ -2,10 +2,11 @@
 // what was meant. The expected values were worked by hand.
 
 use crate::{
-    Arg, Args, Bytes, Call, Changes, Duplicate, Failed, FileSink, FileSource, Free, Items, Key,
-    Keys, Kind, Kinded, Kinds, MemSink, MemSource, Memory, Pace, Part, Parts, Place, Request, Row,
-    Schema, Sink, Source, Table, Tuple, Tuples, Txt, TxtRefused, Value, compare_keys, copy_call,
-    copy_key, copy_row, is_word, same_key,
+    Arg, Args, Bytes, Call, Changes, Draws, Duplicate, FEWEST_PARTS, Failed, FileSink, FileSource,
+    Free, Items, Key, Keys, Kind, Kinded, Kinds, LONGEST_TEXT, MOST_COLUMNS, MOST_PARTS, MemSink,
+    MemSource, Memory, Pace, Part, Parts, Place, Request, Row, Schema, Sink, Source, Table, Tuple,
+    Tuples, Txt, TxtRefused, Value, compare_keys, contains_key, copy_call, copy_key, copy_row,
+    is_word, same_key,
 };
 use std::alloc::{AllocError, Global};
 use std::cell::Cell;
@@ -50,7 +51,7 @@ fn key(alloc: Global, table: u16, samples: &[Sample]) -> Result<Key, Fail> {
     for &sample in samples {
         parts.push(part(alloc, sample)?)?;
     }
-    if parts.is_empty() || parts.len() > 5 {
+    if parts.len() < FEWEST_PARTS || parts.len() > MOST_PARTS {
         return Err(Fail::new("a key has one to five parts"));
     }
     let parts = Parts::from_vec(parts);
@@ -62,18 +63,14 @@ fn row(alloc: Global, samples: &[Sample]) -> Result<Row, Fail> {
     for &sample in samples {
         values.push(value(alloc, sample)?)?;
     }
-    if values.len() > 16 {
+    if values.len() > MOST_COLUMNS {
         return Err(Fail::new("a row has at most 16 columns"));
     }
     Ok(Row::from_vec(values))
 }
 
 fn kinds(alloc: Global, kinds: &[Kind]) -> Result<Kinds, Fail> {
-    let mut list = Vec::new(alloc);
-    for &kind in kinds {
-        list.push(kind)?;
-    }
-    Ok(Kinds::from_vec(list))
+    Ok(Kinds::from_vec(kinds.to_vec(alloc)?))
 }
 
 fn table(alloc: Global, key: &[Kind], cols: &[Kind]) -> Result<Table, Fail> {
@@ -97,6 +94,37 @@ fn call(alloc: Global) -> Result<Call, Fail> {
     Ok(Call { proc: 3, args })
 }
 
+/// A number, a stream and the first words of their list. They were worked out by the published
+/// definition of PCG32 (XSH RR 64/32), by a program that gives the published words of its
+/// demonstration, 0xa15c02b7 and so on, for number 42 and stream 54.
+const WORDS: [(u32, u64, [u32; 4]); 7] = [
+    (42, 54, [0xa15c_02b7, 0x7b47_f409, 0xba1d_3330, 0x83d2_f293]),
+    (0, 1, [257813417, 407017181, 896943092, 4175973425]),
+    (0, 2, [2057372262, 4263128686, 2742845196, 530195910]),
+    (1, 1, [3380776849, 361947764, 3223725655, 2781001427]),
+    (1, 2, [257813417, 1540837979, 2991011415, 1948028921]),
+    (
+        9_999_999,
+        1,
+        [1490229734, 307129633, 1809512089, 3690794454],
+    ),
+    (
+        9_999_999,
+        2,
+        [2265850780, 2927909125, 1639070803, 153409728],
+    ),
+];
+
+#[test]
+fn draws_are_words_of_pcg32(rt: HostRuntime) {
+    for (number, stream, words) in WORDS {
+        let mut draws = Draws::of(number, stream);
+        for word in words {
+            same(&rt, &(number, stream), &draws.word(), &word);
+        }
+    }
+}
+
 #[test]
 fn texts_have_at_most_500_bytes(rt: HostRuntime) -> Result<(), Fail> {
     for byte in [b'a', 0] {
@@ -104,7 +132,7 @@ fn texts_have_at_most_500_bytes(rt: HostRuntime) -> Result<(), Fail> {
         same(&rt, &byte, &Txt::of(rt.alloc(), &[byte; 501]), &refused);
     }
     let letters = [b'a'; 500];
-    for len in [0, 500] {
+    for len in [0, LONGEST_TEXT] {
         let wanted = &letters[..len];
         let text = Txt::of(rt.alloc(), wanted)?;
         same(&rt, &len, &text.as_slice(), &wanted);
@@ -171,6 +199,14 @@ const IN_ORDER: [(u16, &[Sample]); 12] = [
     (1, &[Number(i64::MIN)]),
 ];
 
+fn keys_in_order(alloc: Global) -> Result<Vec<Key>, Fail> {
+    let mut keys = Vec::new(alloc);
+    for (table, parts) in IN_ORDER {
+        keys.push(key(alloc, table, parts)?)?;
+    }
+    Ok(keys)
+}
+
 /// Checks two keys, with their places in a list of keys that is in order.
 fn compare_as_placed(rt: &impl Abort, (at, a): (usize, &Key), (place, b): (usize, &Key)) {
     let places = (at, place);
@@ -181,14 +217,21 @@ fn compare_as_placed(rt: &impl Abort, (at, a): (usize, &Key), (place, b): (usize
 
 #[test]
 fn keys_are_in_order(rt: HostRuntime) -> Result<(), Fail> {
-    let mut keys = Vec::new(rt.alloc());
-    for (table, parts) in IN_ORDER {
-        keys.push(key(rt.alloc(), table, parts)?)?;
-    }
+    let keys = keys_in_order(rt.alloc())?;
     for one in keys.iter().enumerate() {
         for other in keys.iter().enumerate() {
             compare_as_placed(&rt, one, other);
         }
+    }
+    Ok(())
+}
+
+#[test]
+fn keys_are_found(rt: HostRuntime) -> Result<(), Fail> {
+    let keys = keys_in_order(rt.alloc())?;
+    for (at, key) in keys.iter().enumerate() {
+        same(&rt, &at, &contains_key(&keys, key), &true);
+        same(&rt, &at, &contains_key(&keys[..at], key), &false);
     }
     Ok(())
 }
@@ -245,14 +288,31 @@ fn copies_are_equal(rt: HostRuntime) -> Result<(), Fail> {
 }
 
 #[test]
-fn rows_keys_and_calls_are_copied(rt: HostRuntime) -> Result<(), Fail> {
+fn rows_and_calls_are_copied(rt: HostRuntime) -> Result<(), Fail> {
     let alloc = rt.alloc();
     let row = row(alloc, &[Text(b"Ann Lee"), Number(-7)])?;
     is_copy(&rt, copy_row(alloc, &row), row)?;
-    let key = key(alloc, 9, &[Number(4), Text(b"x")])?;
-    is_copy(&rt, copy_key(alloc, &key), key)?;
     let call = call(alloc)?;
     is_copy(&rt, copy_call(alloc, &call), call)?;
+    Ok(())
+}
+
+/// The parts of keys of each length.
+const LENGTHS: [&[Sample]; 5] = [
+    &[Text(b"x")],
+    &[Number(4), Text(b"x")],
+    &[Number(1), Number(2), Number(3)],
+    &[Text(b""), Number(2), Number(3), Text(b"y")],
+    &[Number(5), Number(4), Number(3), Number(2), Number(1)],
+];
+
+#[test]
+fn keys_of_each_length_are_copied(rt: HostRuntime) -> Result<(), Fail> {
+    for (at, parts) in LENGTHS.iter().enumerate() {
+        let key = key(rt.alloc(), 9, parts)?;
+        same(&rt, &"length", &key.parts.as_slice().len(), &(at + 1));
+        is_copy(&rt, copy_key(rt.alloc(), &key), key)?;
+    }
     Ok(())
 }
 

@@ -11,6 +11,7 @@ ghost use Rattle.aria_base.specs.Refusals.{IsNoText, refusal_text};
 ghost use Rattle.aria_base.specs.declared.texts.TxtRefused.TheVariants.{Memory};
 
 use crate::copies::Duplicate;
+use crate::limits::{LONGEST_TEXT, LONGEST_WORD};
 use crate::lists::Bytes;
 use crate::memory::Memory;
 use std::alloc::{AllocError, AllocFailed, Global};
@@ -19,12 +20,6 @@ use std::error::Error;
 use std::fmt;
 use std::hash::{Hash, Hasher};
 use std::marker::Model;
-
-/// The most bytes that a text has.
-pub const LONGEST_TEXT: usize = 500;
-
-/// The most bytes that a word has.
-pub const LONGEST_WORD: usize = 16;
 
 /// Why bytes are no text.
 #[derive(Clone, Copy, Debug, PartialEq, Eq)]

@@ -3,6 +3,7 @@ ghost use Rattle.aria_base.specs.Kinds.{value_kind};
 ghost use Rattle.aria_base.specs.declared.values.Kind.{Kind};
 
 use crate::copies::Duplicate;
+use crate::limits::MOST_COLUMNS;
 use crate::lists::{Few, Items};
 use crate::memory::Memory;
 use crate::texts::Txt;
@@ -29,8 +30,8 @@ pub enum Value {
     Text(Txt),
 }
 
-/// A row: its columns from the left, at most 16.
-pub type Row = Few<Value, 0, 16>;
+/// A row: its columns from the left, at most [`MOST_COLUMNS`].
+pub type Row = Few<Value, 0, MOST_COLUMNS>;
 
 /// What has a kind.
 pub trait Kinded {

@@ -48,6 +48,18 @@ module _ {K V : Type 0} {R : K → K → Ordering} (o : IsTotalOrder R) where
   pub set_agree : (m n : FinMap R V) (k : K) (row : Option V) (q : K) → (eq_by_cmp R q k ≡ false → fin.get m q ≡ fin.get n q) → fin.get (set_at m k row) q ≡ fin.get (set_at n k row) q
   set_agree m n k row q same = get-set_at o m k row q ∙ elim (eq_by_cmp R q k) as (λ b. (b ≡ false → fin.get m q ≡ fin.get n q) → cond b row (fin.get m q) ≡ cond b row (fin.get n q)) [ true ↦ λ f. refl | false ↦ λ f. f refl ] same ∙ sym (get-set_at o n k row q)
 
+module _ {K V A : Type 0} {R : K → K → Ordering} (o : IsTotalOrder R) where
+  -- where a run leaves the declared keys depends on them alone
+  pub strays : (t : Tree K V A) (declared : Declared K) (x y : FinMap R V) → AgreeWithin declared x y → outside R declared (trace_of t x) ≡ outside R declared (trace_of t y)
+  strays (Ends a) declared x y h = refl
+  strays (Reads k next) declared x y h = elim (may_read R declared k) as (λ b. may_read R declared k ≡ b
+      → (if b then outside R declared (trace_of (next (fin.get x k)) x) else Some k) ≡ (if b then outside R declared (trace_of (next (fin.get y k)) y) else Some k)) [
+        | true ↦ λ e. strays (next (fin.get x k)) declared x y h ∙ ap (λ row. outside R declared (trace_of (next row) y)) (h k e)
+        | false ↦ λ e. refl
+      ] refl
+  strays (Writes k row next) declared x y h = ap (λ r. if may_write R declared k then r else Some k)
+      (strays next declared (set_at x k row) (set_at y k row) (λ q e. set_agree o x y k row q (λ apart. h q e)))
+
 module _ {K V A : Type 0} {R : K → K → Ordering} (o : IsTotalOrder R) (anti : IsAntisymmetric R) where
   agree : (t : Tree K V A) (n : Noted K V) (x y : FinMap R V)
       → ((q : K) → (is_among R (all_noted R n (trace_of t x)).reads q || is_among R (keys_of n.writes) q) ≡ true → fin.get x q ≡ fin.get y q)

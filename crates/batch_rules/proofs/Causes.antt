@@ -1,9 +1,8 @@
 -- What a verdict says in words.
-use Rattle.std.proofs.Common.{◌≡◌, ℕ, zero, suc, inl, inr, ◌+◌, ◌-◌, ◌<◌, ◌≤◌, List, [], ◌∷◌, ◌++◌, length, Bool, true, false, cond, Some, None, Option, refl, sym, ap, ◌∙◌, subst, Ordering, arith}
-use Rattle.std.specs.Prelude.{is_some, IsSomeAnd, slice_get}
+use Rattle.std.proofs.Common.{◌≡◌, ℕ, zero, suc, inl, inr, ◌+◌, ◌-◌, ◌<◌, ◌≤◌, List, [], ◌∷◌, ◌++◌, length, Bool, true, false, cond, Some, None, Option, refl, sym, ap, ◌∙◌, subst, arith}
+use Rattle.std.specs.Prelude.{IsSomeAnd, slice_get}
 use Rattle.std.specs.List.{All, position_from}
 use Rattle.std.specs.Str.TwoWay.{IsFirst, Nowhere}
-use Rattle.std.specs.FinMap.{FinMap}
 use Rattle.std.proofs.lemmas.Bool.{cases_lt, false≢true}
 use Rattle.std.proofs.lemmas.List.Elements.{All-nil, All-cons}
 use Rattle.batch_rules.specs.declared.verdicts.Rule.{Rule}
@@ -11,9 +10,8 @@ use Rattle.batch_rules.specs.declared.verdicts.Rule.TheVariants.{Plain, Reorder}
 use Rattle.batch_rules.specs.declared.verdicts.Cause.TheVariants.{Waw, Raw, Both}
 use Rattle.batch_rules.specs.declared.verdicts.Verdict.{Verdict}
 use Rattle.batch_rules.specs.declared.verdicts.Verdict.TheVariants.{Finish, Wait}
-use Rattle.batch_rules.specs.Trees.{Tree}
-use Rattle.batch_rules.specs.Verdicts.{cause_of, verdict_by, least, has_waw, has_raw, has_war, verdict}
-use Rattle.batch_rules.specs.Batches.{Judged, reads_at, writes_at, judged}
+use Rattle.batch_rules.specs.Verdicts.{Dependencies, verdict_by, least, verdict_on}
+use Rattle.batch_rules.specs.Batches.{Judged, judged}
 use Rattle.batch_rules.specs.Laws.{IsLeast, Says, VerdictLaw, CauseBelow, WaitsForEarlier}
 
 module _ {S : Type 0} (holds : S → Bool) where
@@ -47,9 +45,9 @@ module _ {S : Type 0} (holds : S → Bool) where
   pub least-is : (items : List S) → IsLeast holds items (least holds items)
   least-is items = least_from 1 items
 
-module _ {K S : Type 0} (R : K → K → Ordering) (reads writes : S → List K) (earlier : List S) (me : S) where
-  says : (rule : Rule) (waw raw war : Option ℕ) → IsLeast (has_waw R reads writes me) earlier waw → IsLeast (has_raw R reads writes me) earlier raw → IsLeast (has_war R reads writes me) earlier war
-      → Says R reads writes earlier me rule (verdict_by (cause_of rule waw raw war) (is_some raw))
+module _ {S : Type 0} (on : Dependencies S) (earlier : List S) (me : S) where
+  says : (rule : Rule) (waw raw war : Option ℕ) → IsLeast (on.waw me) earlier waw → IsLeast (on.raw me) earlier raw → IsLeast (on.war me) earlier war
+      → Says on earlier me rule (verdict_by rule waw raw war)
   says rule (Some i) raw war w r a = w
   says Plain None (Some j) war w r a = (refl, w, r)
   says Plain None None war w r a = (refl, w, r)
@@ -57,22 +55,22 @@ module _ {K S : Type 0} (R : K → K → Ordering) (reads writes : S → List K)
   says Reorder None (Some j) (Some k) w r a = (refl, w, r, a)
   says Reorder None (Some j) None w r a = (w, a, (j, r))
 
-  pub verdict_says : (rule : Rule) → VerdictLaw R reads writes earlier me rule
-  verdict_says rule = says rule _ _ _ (least-is (has_waw R reads writes me) earlier) (least-is (has_raw R reads writes me) earlier) (least-is (has_war R reads writes me) earlier)
+  pub verdict_says : (rule : Rule) → VerdictLaw on earlier me rule
+  verdict_says rule = says rule _ _ _ (least-is (on.waw me) earlier) (least-is (on.raw me) earlier) (least-is (on.war me) earlier)
 
-  below : (rule : Rule) (v : Verdict) → Says R reads writes earlier me rule v → CauseBelow (length earlier + 1) v
+  below : (rule : Rule) (v : Verdict) → Says on earlier me rule v → CauseBelow (length earlier + 1) v
   below rule (Finish raw) s = tt
   below rule (Wait (Waw j)) s = (s.0.low, s.0.high)
   below rule (Wait (Raw j)) s = (s.2.0.low, s.2.0.high)
   below rule (Wait (Both j k)) s = ((s.2.0.low, s.2.0.high), (s.3.0.low, s.3.0.high))
 
-  pub cause_below : (rule : Rule) → CauseBelow (length earlier + 1) (verdict R reads writes rule earlier me)
+  pub cause_below : (rule : Rule) → CauseBelow (length earlier + 1) (verdict_on on rule earlier me)
   cause_below rule = below rule _ (verdict_says rule)
 
-module _ {K V Q A : Type 0} {R : K → K → Ordering} (is_done : A → Bool) (tree : Q → Tree K V A) (rule : Rule) (start : FinMap R V) where
-  waits_after : (earlier list : List Q) → All (λ d. CauseBelow d.tid d.verdict) (judged is_done tree rule start earlier list)
-  waits_after earlier [] = All-nil (λ (d : Judged Q). CauseBelow d.tid d.verdict)
-  waits_after earlier (q ∷ qs) = All-cons (λ (d : Judged Q). CauseBelow d.tid d.verdict) _ _ (cause_below R (reads_at is_done tree start) (writes_at is_done tree start) earlier q rule) (waits_after (earlier ++ q ∷ []) qs)
+module _ {O : Type 0} (on : Dependencies O) (rule : Rule) where
+  waits_after : (earlier list : List O) → All (λ d. CauseBelow d.tid d.verdict) (judged on rule earlier list)
+  waits_after earlier [] = All-nil (λ (d : Judged O). CauseBelow d.tid d.verdict)
+  waits_after earlier (o ∷ os) = All-cons (λ (d : Judged O). CauseBelow d.tid d.verdict) _ _ (cause_below on earlier o rule) (waits_after (earlier ++ o ∷ []) os)
 
-  pub waits_for_earlier : (list : List Q) → WaitsForEarlier (judged is_done tree rule start [] list)
+  pub waits_for_earlier : (list : List O) → WaitsForEarlier (judged on rule [] list)
   waits_for_earlier list = waits_after [] list

@@ -8,10 +8,11 @@ use Rattle.std.proofs.lemmas.List.{reverse-append, append_assoc}
 use Rattle.std.proofs.lemmas.List.Sorted.{IsPermutation-reverse, All-permutation}
 use Rattle.batch_rules.specs.declared.verdicts.Verdict.{Verdict}
 use Rattle.batch_rules.specs.declared.verdicts.Verdict.TheVariants.{Finish, Wait}
-use Rattle.batch_rules.specs.Verdicts.{meets, finishes, goes_ahead, keeps_turn}
+use Rattle.batch_rules.specs.Verdicts.{Dependencies, by_keys, meets, finishes, goes_ahead, keeps_turn}
 use Rattle.batch_rules.specs.Batches.{placed}
 use Rattle.batch_rules.proofs.Meets.{meets_turned}
-use Rattle.batch_rules.proofs.Pairs.{Pairs, Pairs_middle, All-filtered}
+use Rattle.batch_rules.proofs.Lists.{All-filtered}
+use Rattle.batch_rules.proofs.Pairs.{Pairs, Pairs_middle}
 
 -- the order of those behind a request that finishes is cut in two by it, whether it goes ahead or keeps its turn
 pub placed-cons : {X : Type 0} (verdict_of : X → Verdict) (x : X) (xs : List X)
@@ -35,17 +36,16 @@ module _ {X : Type 0} (verdict_of : X → Verdict) (P : X → Type 0) where
   pub All-in_turn : (xs : List X) → All (λ x. keeps_turn (verdict_of x) ≡ true → P x) xs → All P (filter (λ x. keeps_turn (verdict_of x)) xs)
   All-in_turn xs a = All-filtered (λ x. keeps_turn (verdict_of x)) P xs a
 
-module _ {K X : Type 0} (R : K → K → Ordering) (verdict_of : X → Verdict) (reads writes : X → List K) where
-  -- what it means for an earlier x that d finishes
-  pub record IsClean (x d : X) : Type 0 where
-    pub waw : finishes (verdict_of d) ≡ true → meets R (writes d) (writes x) ≡ false
-    pub war : goes_ahead (verdict_of d) ≡ true → meets R (writes d) (reads x) ≡ false
-    pub raw : keeps_turn (verdict_of d) ≡ true → meets R (reads d) (writes x) ≡ false
+-- what it means for an earlier x that d finishes
+pub record IsClean {X : Type 0} (on : Dependencies X) (verdict_of : X → Verdict) (x d : X) : Type 0 where
+  pub waw : finishes (verdict_of d) ≡ true → on.waw d x ≡ false
+  pub war : goes_ahead (verdict_of d) ≡ true → on.war d x ≡ false
+  pub raw : keeps_turn (verdict_of d) ≡ true → on.raw d x ≡ false
 
-  -- d may run behind x as it ran on the start: it reads and writes nothing that x writes
-  pub record IsApart (x d : X) : Type 0 where
-    pub reads_none : meets R (reads d) (writes x) ≡ false
-    pub writes_none : meets R (writes d) (writes x) ≡ false
+-- d may run behind x as it ran on the start: it reads and writes nothing that x writes
+pub record IsApart {K X : Type 0} (R : K → K → Ordering) (reads writes : X → List K) (x d : X) : Type 0 where
+  pub reads_none : meets R (reads d) (writes x) ≡ false
+  pub writes_none : meets R (writes d) (writes x) ≡ false
 
 pub ahead_finishes : (v : Verdict) → goes_ahead v ≡ true → finishes v ≡ true
 ahead_finishes (Finish raw) e = refl
@@ -56,28 +56,28 @@ turn_finishes (Finish raw) e = refl
 turn_finishes (Wait cause) e = e
 
 module _ {K X : Type 0} {R : K → K → Ordering} (o : IsTotalOrder R) (anti : IsAntisymmetric R) (verdict_of : X → Verdict) (reads writes : X → List K) where
-  before_it : (x d : X) → IsClean R verdict_of reads writes x d → goes_ahead (verdict_of d) ≡ true → IsApart R verdict_of reads writes d x
+  before_it : (x d : X) → IsClean (by_keys R reads writes) verdict_of x d → goes_ahead (verdict_of d) ≡ true → IsApart R reads writes d x
   before_it x d c ahead = record {
     reads_none = meets_turned o anti (writes d) (reads x) (c.war ahead);
     writes_none = meets_turned o anti (writes d) (writes x) (c.waw (ahead_finishes _ ahead));
   }
 
-  behind_it : (x d : X) → IsClean R verdict_of reads writes x d → keeps_turn (verdict_of d) ≡ true → IsApart R verdict_of reads writes x d
+  behind_it : (x d : X) → IsClean (by_keys R reads writes) verdict_of x d → keeps_turn (verdict_of d) ≡ true → IsApart R reads writes x d
   behind_it x d c turn = record { reads_none = c.raw turn; writes_none = c.waw (turn_finishes _ turn) }
 
   -- of what finishes behind x, that which goes ahead may run before it, and the rest behind it
-  pub ahead_apart : (x : X) (xs : List X) → All (IsClean R verdict_of reads writes x) xs → All (λ d. IsApart R verdict_of reads writes d x) (reverse (filter (λ d. goes_ahead (verdict_of d)) xs))
-  ahead_apart x xs a = All-ahead verdict_of (λ d. IsApart R verdict_of reads writes d x) xs (λ k d below. before_it x (slice_index_or xs k d) (a k d below))
+  pub ahead_apart : (x : X) (xs : List X) → All (IsClean (by_keys R reads writes) verdict_of x) xs → All (λ d. IsApart R reads writes d x) (reverse (filter (λ d. goes_ahead (verdict_of d)) xs))
+  ahead_apart x xs a = All-ahead verdict_of (λ d. IsApart R reads writes d x) xs (λ k d below. before_it x (slice_index_or xs k d) (a k d below))
 
-  pub turn_apart : (x : X) (xs : List X) → All (IsClean R verdict_of reads writes x) xs → All (IsApart R verdict_of reads writes x) (filter (λ d. keeps_turn (verdict_of d)) xs)
-  turn_apart x xs a = All-in_turn verdict_of (IsApart R verdict_of reads writes x) xs (λ k d below. behind_it x (slice_index_or xs k d) (a k d below))
+  pub turn_apart : (x : X) (xs : List X) → All (IsClean (by_keys R reads writes) verdict_of x) xs → All (IsApart R reads writes x) (filter (λ d. keeps_turn (verdict_of d)) xs)
+  turn_apart x xs a = All-in_turn verdict_of (IsApart R reads writes x) xs (λ k d below. behind_it x (slice_index_or xs k d) (a k d below))
 
-  pub placed_apart : (xs : List X) → Pairs (IsClean R verdict_of reads writes) xs → Pairs (IsApart R verdict_of reads writes) (placed verdict_of xs)
+  pub placed_apart : (xs : List X) → Pairs (IsClean (by_keys R reads writes) verdict_of) xs → Pairs (IsApart R reads writes) (placed verdict_of xs)
   placed_apart [] p = tt
   placed_apart (x ∷ xs) p =
       let rest = placed_apart xs p.1 in
-      subst (Pairs (IsApart R verdict_of reads writes)) (sym (placed-cons verdict_of x xs))
-      (elim (finishes (verdict_of x)) as (λ b. Pairs (IsApart R verdict_of reads writes) (if b then reverse (filter (λ d. goes_ahead (verdict_of d)) xs) ++ x ∷ filter (λ d. keeps_turn (verdict_of d)) xs else placed verdict_of xs)) [
-        | true ↦ Pairs_middle (IsApart R verdict_of reads writes) _ x _ rest (ahead_apart x xs p.0) (turn_apart x xs p.0)
+      subst (Pairs (IsApart R reads writes)) (sym (placed-cons verdict_of x xs))
+      (elim (finishes (verdict_of x)) as (λ b. Pairs (IsApart R reads writes) (if b then reverse (filter (λ d. goes_ahead (verdict_of d)) xs) ++ x ∷ filter (λ d. keeps_turn (verdict_of d)) xs else placed verdict_of xs)) [
+        | true ↦ Pairs_middle (IsApart R reads writes) _ x _ rest (ahead_apart x xs p.0) (turn_apart x xs p.0)
         | false ↦ rest
       ])

@@ -5,19 +5,21 @@ use Rattle.std.specs.Cmp.{IsTotalOrder}
 use Rattle.std.specs.List.{All, filter}
 use Rattle.std.specs.FinMap.{FinMap, IsAntisymmetric}
 use Rattle.std.proofs.lemmas.List.{map-append}
+use Rattle.std.proofs.lemmas.Simd.{map-map}
 use Rattle.std.proofs.lemmas.List.Elements.{All-nil, All-cons, All-head, All-tail, All-append}
 use Rattle.batch_rules.specs.declared.verdicts.Rule.{Rule}
 use Rattle.batch_rules.specs.declared.verdicts.Verdict.{Verdict}
 use Rattle.batch_rules.specs.declared.verdicts.Verdict.TheVariants.{Finish, Wait}
 use Rattle.batch_rules.specs.Trees.{Tree, trace_of, end_of}
-use Rattle.batch_rules.specs.Touches.{outside, map_after}
-use Rattle.batch_rules.specs.Verdicts.{finishes, waits}
-use Rattle.batch_rules.specs.Batches.{Judged, Entry, Fate, Ended, Waits, has_ended, placed, is_late, fate_by, late_fate, late_map, reads_at, writes_at, declared_at, judged, after_commit, fate_at, map_at, entries_from, map_from, batch}
+use Rattle.batch_rules.specs.Touches.{Declared, keys_of, outside, map_after, installed}
+use Rattle.batch_rules.specs.Verdicts.{Dependencies, by_keys, finishes, waits}
+use Rattle.batch_rules.specs.Batches.{Carrier, Judged, Entry, Fate, Ended, has_ended, placed, judged, finishing, waiting, late_runs, is_late, fate_by, late_fates, late_left, declared, touching, fate_after, lates_behind, settled, after_commit, late_results, late_rest, on_start, batch}
 use Rattle.batch_rules.specs.Serials.{serial_ends, serial_map}
 use Rattle.batch_rules.specs.Laws.{Serialises, SerialLaw}
 use Rattle.batch_rules.proofs.Commits.{IsClean, All-ahead, All-in_turn, ahead_finishes, turn_finishes, placed_apart}
-use Rattle.batch_rules.proofs.Installs.{installed-placed}
-use Rattle.batch_rules.proofs.Judges.{all_clean}
+use Rattle.batch_rules.proofs.Installs.{installed-map, installed-placed}
+use Rattle.batch_rules.proofs.Judges.{Clean, all_clean, requests-judged}
+use Rattle.batch_rules.proofs.Lists.{filter-map}
 use Rattle.batch_rules.proofs.Pairs.{Pairs, Pairs-mapped, Pairs-weaker}
 use Rattle.batch_rules.proofs.Serials.{serial_apart}
 
@@ -46,55 +48,83 @@ module _ {K V Q A : Type 0} {R : K → K → Ordering} (is_done : A → Bool) (t
         ∙ ap (λ x. serial_map is_done tree x (map (λ e. e.judged.request) vs)) s.map ∙ t.map;
   }
 
-module _ {K V Q A : Type 0} {R : K → K → Ordering} (is_done : A → Bool) (tree : Q → Tree K V A) (again : Bool) (start : FinMap R V) where
-  judged-entries : (db : FinMap R V) (ds : List (Judged Q)) → map (λ e. e.judged) (entries_from is_done tree again start db ds) ≡ ds
-  judged-entries db [] = refl
-  judged-entries db (d ∷ ds) = ap (λ rest. d ∷ rest) (judged-entries (map_at is_done tree again start db d.request d.verdict) ds)
+module _ {K V A O : Type 0} (by : Carrier K V A O) where
+  pub judged-settled : (ds : List (Judged O)) (lates : List (Fate K A)) → map (λ e. e.judged) (settled by ds lates) ≡ ds
+  judged-settled [] lates = refl
+  judged-settled (d ∷ ds) lates = ap (λ rest. d ∷ rest) (judged-settled ds (lates_behind d.verdict lates))
 
-  -- what finishes in the commit phase ends as on the start
-  pub commit_fates : (db : FinMap R V) (ds : List (Judged Q)) → All (λ e. finishes e.judged.verdict ≡ true → e.fate ≡ Ended (end_of (tree e.judged.request) start)) (entries_from is_done tree again start db ds)
-  commit_fates db [] = All-nil (λ e. finishes e.judged.verdict ≡ true → e.fate ≡ Ended (end_of (tree e.judged.request) start))
-  commit_fates db (d ∷ ds) = All-cons (λ e. finishes e.judged.verdict ≡ true → e.fate ≡ Ended (end_of (tree e.judged.request) start)) _ _
-      (elim d.verdict as (λ v. finishes v ≡ true → fate_at is_done tree again start db d.request v ≡ Ended (end_of (tree d.request) start)) [ Finish raw ↦ λ e. refl | Wait cause ↦ λ e. cc ])
-      (commit_fates (map_at is_done tree again start db d.request d.verdict) ds)
+  pub requests-settled : (on : Dependencies O) (rule : Rule) (list : List O) (lates : List (Fate K A)) → map (λ e. e.judged.request) (settled by (judged on rule [] list) lates) ≡ list
+  requests-settled on rule list lates = sym (map-map (λ d. d.request) (λ e. e.judged) (settled by (judged on rule [] list) lates)) ∙ ap (map (λ d. d.request)) (judged-settled (judged on rule [] list) lates) ∙ requests-judged on rule [] list
 
+  -- what finishes in the commit phase has the end of its run on the start
+  pub commit_fates : (ds : List (Judged O)) (lates : List (Fate K A)) → All (λ e. finishes e.judged.verdict ≡ true → e.fate ≡ Ended (by.end e.judged.request)) (settled by ds lates)
+  commit_fates [] lates = All-nil (λ e. finishes e.judged.verdict ≡ true → e.fate ≡ Ended (by.end e.judged.request))
+  commit_fates (d ∷ ds) lates = All-cons (λ e. finishes e.judged.verdict ≡ true → e.fate ≡ Ended (by.end e.judged.request)) _ _
+      (elim d.verdict as (λ v. finishes v ≡ true → fate_after by d.request v lates ≡ Ended (by.end d.request)) [ Finish raw ↦ λ e. refl | Wait cause ↦ λ e. cc ])
+      (commit_fates ds (lates_behind d.verdict lates))
+
+  -- where the late fold does not run, nothing ends late
+  none_late : (ds : List (Judged O)) → filter is_late (settled by ds []) ≡ []
+  none_late [] = refl
+  none_late (d ∷ ds) = elim d.verdict as (λ v. let rest = filter is_late (settled by ds (lates_behind v [])) in cond (waits v && has_ended (fate_after by d.request v [])) (record { judged = d; fate = fate_after by d.request v [] } ∷ rest) rest ≡ []) [
+    | Finish raw ↦ none_late ds
+    | Wait cause ↦ none_late ds
+  ]
+
+module _ {K V A O : Type 0} {R : K → K → Ordering} (by : Carrier K V A O) (is_done : A → Bool) (tree : O → Tree K V A) where
   -- the late fold is a serial run of what it finishes
-  late_run : (db : FinMap R V) (ds : List (Judged Q)) → Serialises is_done tree db (filter is_late (entries_from is_done tree again start db ds)) (map_from is_done tree again start db ds)
+  late_run : (db : FinMap R V) (ds : List (Judged O)) → Serialises is_done tree db (filter is_late (settled by ds (late_results by is_done tree db ds))) (late_rest by is_done tree db ds)
   late_run db [] = record { ends = refl; map = refl }
   late_run db (d ∷ ds) =
-      let Goal = λ (v : Verdict) (f : Fate K A) (next : FinMap R V).
-      let rest = filter is_late (entries_from is_done tree again start next ds) in
-      Serialises is_done tree db (cond (waits v && has_ended f) (record { judged = d; fate = f } ∷ rest) rest) (map_from is_done tree again start next ds) in
-      elim d.verdict as (λ v. Goal v (fate_at is_done tree again start db d.request v) (map_at is_done tree again start db d.request v)) [
+      let declared_of : Judged O → Declared K = λ d. declared by d.request in
+      let tree_of : Judged O → Tree K V A = λ d. tree d.request in
+      let Goal = λ (v : Verdict) (ws : List (Judged O)) (lates : List (Fate K A)).
+      let rest = filter is_late (settled by ds (lates_behind v lates)) in
+      Serialises is_done tree db (cond (waits v && has_ended (fate_after by d.request v lates)) (record { judged = d; fate = fate_after by d.request v lates } ∷ rest) rest) (late_left is_done declared_of tree_of db ws) in
+      elim d.verdict as (λ v. let ws = cond (waits v) (d ∷ waiting ds) (waiting ds) in Goal v ws (late_fates is_done declared_of tree_of db ws)) [
         | Finish raw ↦ late_run db ds
-        | Wait cause ↦ elim again as (λ b. Goal (Wait cause) (if b then late_fate (declared_at is_done tree start d.request) (tree d.request) db else Waits cause) (if b then late_map is_done (declared_at is_done tree start d.request) (tree d.request) db else db)) [
-          | true ↦ elim (outside R (declared_at is_done tree start d.request) (trace_of (tree d.request) db)) as (λ s. Goal (Wait cause) (fate_by s (end_of (tree d.request) db)) (if has_ended {K = K} (fate_by s (end_of (tree d.request) db)) then map_after is_done (tree d.request) db else db)) [
-            | None ↦ let rest = late_run (map_after is_done (tree d.request) db) ds in record { ends = ap (λ fates. Ended (end_of (tree d.request) db) ∷ fates) rest.ends; map = rest.map }
-            | Some k ↦ late_run db ds
-          ]
-          | false ↦ late_run db ds
-        ]
+        | Wait cause ↦ elim (outside R (declared_of d) (trace_of (tree_of d) db)) as (λ s.
+            let fate = fate_by s (end_of (tree_of d) db) in
+            let next = if has_ended {K = K} fate then map_after is_done (tree_of d) db else db in
+            let rest = filter is_late (settled by ds (late_results by is_done tree next ds)) in
+            Serialises is_done tree db (cond (has_ended fate) (record { judged = d; fate = fate } ∷ rest) rest) (late_rest by is_done tree next ds)) [
+              | None ↦ let rest = late_run (map_after is_done (tree_of d) db) ds in record { ends = ap (λ fates. Ended (end_of (tree_of d) db) ∷ fates) rest.ends; map = rest.map }
+              | Some k ↦ late_run db ds
+            ]
       ]
 
 module _ {K V Q A : Type 0} {R : K → K → Ordering} (o : IsTotalOrder R) (anti : IsAntisymmetric R) (is_done : A → Bool) (tree : Q → Tree K V A) where
-  commit_run : (again : Bool) (rule : Rule) (start db : FinMap R V) (list : List Q)
-      → Serialises is_done tree start (placed (λ e. e.judged.verdict) (entries_from is_done tree again start db (judged is_done tree rule start [] list))) (after_commit is_done tree start start (judged is_done tree rule start [] list))
-  commit_run again rule start db list =
-      let ds = judged is_done tree rule start [] list in
-      let es = entries_from is_done tree again start db ds in
+  commit_run : (rule : Rule) (start : FinMap R V) (list : List Q) (lates : List (Fate K A))
+      → let by = on_start is_done tree start in let ds = judged (touching by R) rule [] list in
+      Serialises is_done tree start (placed (λ e. e.judged.verdict) (settled by ds lates)) (after_commit by start ds)
+  commit_run rule start list lates =
+      let by : Carrier K V A Q = on_start is_done tree start in
+      let ds = judged (touching by R) rule [] list in
+      let es = settled by ds lates in
       let v = λ (e : Entry K Q A). e.judged.verdict in
-      let reads = λ (e : Entry K Q A). reads_at is_done tree start e.judged.request in
-      let writes = λ (e : Entry K Q A). writes_at is_done tree start e.judged.request in
-      let clean = IsClean R (λ (d : Judged Q). d.verdict) (λ d. reads_at is_done tree start d.request) (λ d. writes_at is_done tree start d.request) in
-      let pairs : Pairs (IsClean R v reads writes) es = Pairs-weaker (λ x y. clean x.judged y.judged) (IsClean R v reads writes) (λ x y c. record { waw = c.waw; war = c.war; raw = c.raw }) es
-      (Pairs-mapped clean (λ e. e.judged) es (subst (Pairs clean) (sym (judged-entries is_done tree again start db ds)) (all_clean is_done tree rule start [] list))) in
-      let fates : All (λ e. finishes e.judged.verdict ≡ true → e.fate ≡ Ended (end_of (tree e.judged.request) start)) es = commit_fates is_done tree again start db ds in
-      let run = serial_apart o anti is_done tree start v (λ e. e.judged.request) start (placed v es) (λ k d below. record { same = λ q e. refl }) (placed_apart o anti v reads writes es pairs) in record {
-        ends = ap (map Ended) run.0 ∙ fates_are (λ e. end_of (tree e.judged.request) start) (placed v es) (All-append (λ e. e.fate ≡ Ended (end_of (tree e.judged.request) start)) _ _
-            (All-ahead v (λ e. e.fate ≡ Ended (end_of (tree e.judged.request) start)) es (λ k d below e. fates k d below (ahead_finishes _ e)))
-            (All-in_turn v (λ e. e.fate ≡ Ended (end_of (tree e.judged.request) start)) es (λ k d below e. fates k d below (turn_finishes _ e))));
-        map = run.1 ∙ installed-placed o anti is_done tree start (λ e. e.judged) start es pairs ∙ ap (after_commit is_done tree start start) (judged-entries is_done tree again start db ds);
+      let reads = λ (e : Entry K Q A). by.reads e.judged.request in
+      let rows = λ (e : Entry K Q A). by.rows e.judged.request in
+      let writes = λ (e : Entry K Q A). keys_of (rows e) in
+      let same = judged-settled by ds lates in
+      let pairs : Pairs (IsClean (by_keys R reads writes) v) es = Pairs-weaker (λ x y. Clean (touching by R) rule x.judged y.judged) (IsClean (by_keys R reads writes) v) (λ x y c. record { waw = c.waw; war = c.war; raw = c.raw }) es
+      (Pairs-mapped (Clean (touching by R) rule) (λ e. e.judged) es (subst (Pairs (Clean (touching by R) rule)) (sym same) (all_clean (touching by R) rule [] list))) in
+      let fates : All (λ e. finishes e.judged.verdict ≡ true → e.fate ≡ Ended (by.end e.judged.request)) es = commit_fates by ds lates in
+      let run = serial_apart o anti is_done tree start (λ e. e.judged.request) start (placed v es) (λ k d below. record { same = λ q e. refl }) (placed_apart o anti v reads writes es pairs) in
+      let kept = filter-map (λ e. e.judged) (λ e. finishes (v e)) (λ d. finishes d.verdict) es (λ k d below. refl) in record {
+        ends = ap (map Ended) run.0 ∙ fates_are (λ e. by.end e.judged.request) (placed v es) (All-append (λ e. e.fate ≡ Ended (by.end e.judged.request)) _ _
+            (All-ahead v (λ e. e.fate ≡ Ended (by.end e.judged.request)) es (λ k d below e. fates k d below (ahead_finishes _ e)))
+            (All-in_turn v (λ e. e.fate ≡ Ended (by.end e.judged.request)) es (λ k d below e. fates k d below (turn_finishes _ e))));
+        map = run.1 ∙ installed-placed o anti v reads rows start es pairs ∙ sym (installed-map (λ d. by.rows d.request) (λ e. e.judged) start (filter (λ e. finishes (v e)) es))
+            ∙ ap (installed (λ d. by.rows d.request) start) (kept ∙ ap finishing same);
       }
 
   pub serial_law : (rule : Rule) (percent : ℕ) (start : FinMap R V) (list : List Q) → SerialLaw is_done tree start (batch is_done tree rule percent start list)
-  serial_law rule percent start list = Serialises-append is_done tree start _ _ _ _ (commit_run _ rule start _ list) (late_run is_done tree _ start _ (judged is_done tree rule start [] list))
+  serial_law rule percent start list =
+      let by : Carrier K V A Q = on_start is_done tree start in
+      let ds = judged (touching by R) rule [] list in
+      let after = after_commit by start ds in
+      elim (late_runs percent ds) as (λ again. let es = settled by ds (if again then late_results by is_done tree after ds else []) in
+      Serialises is_done tree start (placed (λ e. e.judged.verdict) es ++ filter is_late es) (if again then late_rest by is_done tree after ds else after)) [
+        | true ↦ Serialises-append is_done tree start _ _ _ _ (commit_run rule start list _) (late_run by is_done tree after ds)
+        | false ↦ Serialises-append is_done tree start _ _ _ _ (commit_run rule start list []) (subst (λ late. Serialises is_done tree after late after) (sym (none_late by ds)) (record { ends = refl; map = refl }))
+      ]

@@ -36,3 +36,10 @@ module _ {K : Type 0} {R : K → K → Ordering} (o : IsTotalOrder R) (anti : Is
     | true ↦ λ q. let common = meets-common ys xs q in sym (meets-from_common xs ys common.0 common.2 common.1) ∙ e
     | false ↦ λ q. refl
   ] refl
+
+  -- no key of the one is among the other
+  pub meets_none : (xs ys : List K) → ((q : K) → is_among R xs q ≡ true → is_among R ys q ≡ false) → meets R xs ys ≡ false
+  meets_none xs ys h = elim (meets R xs ys) as (λ b. meets R xs ys ≡ b → b ≡ false) [
+    | true ↦ λ e. let common = meets-common xs ys e in sym common.2 ∙ h common.0 common.1
+    | false ↦ λ e. refl
+  ] refl

@@ -1,10 +1,11 @@
 -- What holds of each item of a list and each later one.
-use Rattle.std.proofs.Common.{◌≡◌, List, [], ◌∷◌, ◌++◌, map, Bool, true, false, cond, refl, arith}
+use Rattle.std.proofs.Common.{List, [], ◌∷◌, ◌++◌, map, arith}
 use Rattle.std.specs.Prelude.{⊤}
-use Rattle.std.specs.List.{All, AllPairs, filter}
-use Rattle.std.proofs.lemmas.List.Elements.{All-nil, All-cons, All-head, All-tail, All-weaker}
+use Rattle.std.specs.List.{All, AllPairs}
+use Rattle.std.proofs.lemmas.List.Elements.{All-cons, All-head, All-tail, All-weaker}
 use Rattle.std.proofs.lemmas.List.Kept.{AllPairs-cons}
 use Rattle.std.proofs.lemmas.List.Sorted.{IsPermutation-middle, IsPermutation-sym, All-permutation}
+use Rattle.batch_rules.proofs.Lists.{All-unmapped}
 
 module _ {X : Type 0} (P : X → X → Type 0) where
   abbrev pub Pairs : List X → Type 0
@@ -22,21 +23,6 @@ module _ {X : Type 0} (P : X → X → Type 0) where
     All-permutation (P u) (x ∷ (us ++ vs)) (us ++ x ∷ vs) (IsPermutation-sym _ _ (IsPermutation-middle us x vs)) (All-cons (P u) x (us ++ vs) (All-head (λ u. P u x) u us before) p.0),
     Pairs_middle us x vs p.1 (All-tail (λ u. P u x) u us before) after,
   )
-
--- a filter's items pass its test
-module _ {X : Type 0} (test : X → Bool) (P : X → Type 0) where
-  pub All-filtered : (xs : List X) → All (λ x. test x ≡ true → P x) xs → All P (filter test xs)
-  All-filtered [] a = All-nil P
-  All-filtered (x ∷ xs) a =
-      let rest = All-filtered xs (All-tail (λ x. test x ≡ true → P x) x xs a) in
-      elim (test x) as (λ b. (b ≡ true → P x) → All P (cond b (x ∷ filter test xs) (filter test xs))) [
-        | true ↦ λ h. All-cons P x (filter test xs) (h refl) rest
-        | false ↦ λ h. rest
-      ] (All-head (λ x. test x ≡ true → P x) x xs a)
-
-All-unmapped : {X Y : Type 0} (P : Y → Type 0) (f : X → Y) (xs : List X) → All P (map f xs) → All (λ x. P (f x)) xs
-All-unmapped P f [] a = All-nil (λ x. P (f x))
-All-unmapped P f (x ∷ xs) a = All-cons (λ x. P (f x)) x xs (All-head P (f x) (map f xs) a) (All-unmapped P f xs (All-tail P (f x) (map f xs) a))
 
 -- pairs of images are pairs
 pub Pairs-mapped : {X Y : Type 0} (P : Y → Y → Type 0) (f : X → Y) (xs : List X) → Pairs P (map f xs) → Pairs (λ x y. P (f x) (f y)) xs

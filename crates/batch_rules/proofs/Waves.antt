@@ -1,118 +1,25 @@
 -- Waves of requests that do not conflict give what the fold one after the other gives.
-use Rattle.std.proofs.Common.{◌≡◌, ℕ, zero, suc, inl, inr, ◌+◌, ◌<◌, ◌≤◌, List, [], ◌∷◌, map, Bool, true, false, cond, Some, None, Option, refl, sym, ap, ◌∙◌, subst, Ordering, arith}
+use Rattle.std.proofs.Common.{◌≡◌, ℕ, zero, suc, inl, inr, ◌<◌, ◌≤◌, List, [], ◌∷◌, map, Bool, true, false, cond, Option, refl, sym, ap, ◌∙◌, Ordering, arith}
 use Rattle.std.specs.Prelude.{max, if◌then◌else◌, ◌||◌, slice_index_or, nat_eq}
 use Rattle.std.specs.Ordering.{eq_by_cmp, is_eq}
 use Rattle.std.specs.Cmp.{IsTotalOrder, tied_itself}
 use Rattle.std.specs.List.{All, filter, list_any}
-use Rattle.std.specs.FinMap as fin
 use Rattle.std.specs.FinMap.{FinMap, IsAntisymmetric}
-use Rattle.std.proofs.lemmas.Bool.{or_left, or_right, cases_lt, false≢true, eqb-true, eq-eqb}
-use Rattle.std.proofs.lemmas.List.Elements.{All-nil, All-cons, All-head, All-tail, All-filter}
-use Rattle.batch_rules.specs.Trees.{Tree, Ends, Reads, Writes, Visit, Read, Write, set_at, trace_of, end_of}
-use Rattle.batch_rules.specs.Touches.{Noted, nothing, noted, all_noted, is_among, keys_of, Declared, may_read, may_write, outside, writes_of, map_after, overwritten}
-use Rattle.batch_rules.specs.Batches.{Fate, has_ended, fate_by, late_fate, late_map, late_fates, late_left}
+use Rattle.std.proofs.lemmas.Bool.{or_left, or_right, cases_lt, false≢true, false_from_ne_true, true_from_ne_false, eqb-true, eq-eqb}
+use Rattle.std.proofs.lemmas.List.Elements.{All-nil, All-cons, All-head, All-tail}
+use Rattle.batch_rules.specs.Trees.{Tree}
+use Rattle.batch_rules.specs.Touches.{is_among, keys_of, Declared, may_read, may_write, overwritten, installed}
+use Rattle.batch_rules.specs.Batches.{late_fate, late_map, late_fates, late_left}
 use Rattle.batch_rules.specs.Verdicts.{meets}
 use Rattle.batch_rules.specs.Laws.{AgreeWithin}
-use Rattle.batch_rules.specs.Waves.{all_installed, late_rows, conflicts, Waved, wave_behind, waved, found, wave_fates, IsInWaves}
-use Rattle.batch_rules.proofs.Agree.{set_agree, outside-is}
-use Rattle.batch_rules.proofs.Installs.{get-apart, overwritten_swap}
-use Rattle.batch_rules.proofs.Maps.{get-set_at, same_key, is_among-with_write, map_after-is}
-use Rattle.batch_rules.proofs.Meets.{meets-common}
-use Rattle.batch_rules.proofs.Pairs.{Pairs, All-filtered}
-
--- law 1: where an access strays depends on the declared keys alone
-module _ {K V A : Type 0} {R : K → K → Ordering} (o : IsTotalOrder R) where
-  pub strays : (t : Tree K V A) (declared : Declared K) (x y : FinMap R V) → AgreeWithin declared x y → outside R declared (trace_of t x) ≡ outside R declared (trace_of t y)
-  strays (Ends a) declared x y h = refl
-  strays (Reads k next) declared x y h = elim (may_read R declared k) as (λ b. may_read R declared k ≡ b
-      → (if b then outside R declared (trace_of (next (fin.get x k)) x) else Some k) ≡ (if b then outside R declared (trace_of (next (fin.get y k)) y) else Some k)) [
-        | true ↦ λ e. strays (next (fin.get x k)) declared x y h ∙ ap (λ row. outside R declared (trace_of (next row) y)) (h k e)
-        | false ↦ λ e. refl
-      ] refl
-  strays (Writes k row next) declared x y h = ap (λ r. if may_write R declared k then r else Some k)
-      (strays next declared (set_at x k row) (set_at y k row) (λ q e. set_agree o x y k row q (λ apart. h q e)))
-
--- law 2: a run within its declared keys writes declared keys
-module _ {K V : Type 0} {R : K → K → Ordering} (o : IsTotalOrder R) (anti : IsAntisymmetric R) (declared : Declared K) where
-  written : (visits : List (Visit K V)) (n : Noted K V) → outside R declared visits ≡ None
-      → ((q : K) → is_among R (keys_of n.writes) q ≡ true → may_write R declared q ≡ true)
-      → (q : K) → is_among R (keys_of (all_noted R n visits).writes) q ≡ true → may_write R declared q ≡ true
-  written [] n inside h q e = h q e
-  written (Read k ∷ visits) n inside h q e = elim (may_read R declared k) as (λ b. (if b then outside R declared visits else Some k) ≡ None → may_write R declared q ≡ true) [
-    | true ↦ λ inside. written visits (noted R n (Read k)) inside h q e
-    | false ↦ λ inside. cc
-  ] inside
-  written (Write k row ∷ visits) n inside h q e = elim (may_write R declared k) as (λ b. may_write R declared k ≡ b → (if b then outside R declared visits else Some k) ≡ None → may_write R declared q ≡ true) [
-    | true ↦ λ may inside. written visits (noted R n (Write k row)) inside (λ p among. elim (eq_by_cmp R p k) as (λ b. eq_by_cmp R p k ≡ b → (b || is_among R (keys_of n.writes) p) ≡ true → may_write R declared p ≡ true) [
-      | true ↦ λ same _. ap (may_write R declared) (same_key anti p k same) ∙ may
-      | false ↦ λ other before. h p before
-    ] refl (sym (is_among-with_write o anti n.writes k row p) ∙ among)) q e
-    | false ↦ λ _ inside. cc
-  ] refl inside
-
-module _ {K V A : Type 0} {R : K → K → Ordering} (o : IsTotalOrder R) (anti : IsAntisymmetric R) (is_done : A → Bool) (declared : Declared K) (t : Tree K V A) where
-  pub late_map-is : (db : FinMap R V) → late_map is_done declared t db ≡ overwritten db (late_rows is_done declared t db)
-  late_map-is db = elim (has_ended (late_fate declared t db)) as (λ b. (if b then map_after is_done t db else db) ≡ overwritten db (if b then writes_of is_done t db else [])) [
-    | true ↦ map_after-is o anti is_done t db
-    | false ↦ refl
-  ]
-
-  pub late_keys : (db : FinMap R V) (q : K) → is_among R (keys_of (late_rows is_done declared t db)) q ≡ true → may_write R declared q ≡ true
-  late_keys db q e = elim (outside R declared (trace_of t db)) as (λ s. outside R declared (trace_of t db) ≡ s
-      → is_among R (keys_of (if has_ended {K = K} (fate_by s (end_of t db)) then writes_of is_done t db else [])) q ≡ true → may_write R declared q ≡ true) [
-        | None ↦ λ inside. elim (is_done (end_of t db)) as (λ b. is_among R (keys_of (if b then (all_noted R nothing (trace_of t db)).writes else [])) q ≡ true → may_write R declared q ≡ true) [
-          | true ↦ written o anti declared (trace_of t db) nothing inside (λ q e. cc) q
-          | false ↦ λ e. cc
-        ]
-        | Some k ↦ λ _ e. cc
-      ] refl e
-
-  -- what stands at other keys than the declared ones matters to neither
-  pub late_agree : (x y : FinMap R V) → AgreeWithin declared x y
-      → (late_fate declared t x ≡ late_fate declared t y) × (late_rows is_done declared t x ≡ late_rows is_done declared t y)
-  late_agree x y h =
-      let Goal = λ (s : Option K). (fate_by s (end_of t x) ≡ fate_by s (end_of t y))
-          × ((if has_ended {K = K} (fate_by s (end_of t x)) then writes_of is_done t x else []) ≡ (if has_ended {K = K} (fate_by s (end_of t y)) then writes_of is_done t y else [])) in
-      let all : Goal (outside R declared (trace_of t x)) = elim (outside R declared (trace_of t x)) as (λ s. outside R declared (trace_of t x) ≡ s → Goal s) [
-        | None ↦ λ inside. let run = outside-is o anti is_done t declared x y inside h in (ap (fate_by None) run.0.end, run.0.writes)
-        | Some k ↦ λ _. (refl, refl)
-      ] refl in
-      rw (← strays o t declared x y h) all
-
-map_same : {X Y : Type 0} (f g : X → Y) (xs : List X) → All (λ x. f x ≡ g x) xs → map f xs ≡ map g xs
-map_same f g [] a = refl
-map_same f g (x ∷ xs) a = λ i. All-head (λ x. f x ≡ g x) x xs a i ∷ map_same f g xs (All-tail (λ x. f x ≡ g x) x xs a) i
-
-module _ {K : Type 0} {R : K → K → Ordering} (o : IsTotalOrder R) (anti : IsAntisymmetric R) where
-  meets_none : (xs ys : List K) → ((q : K) → is_among R xs q ≡ true → is_among R ys q ≡ false) → meets R xs ys ≡ false
-  meets_none xs ys h = elim (meets R xs ys) as (λ b. meets R xs ys ≡ b → b ≡ false) [
-    | true ↦ λ e. let common = meets-common o anti xs ys e in sym common.2 ∙ h common.0 common.1
-    | false ↦ λ e. refl
-  ] refl
-
--- installs of many items
-module _ {K V X : Type 0} {R : K → K → Ordering} where
-  installed_same : (f g : X → List (K × Option V)) (m : FinMap R V) (xs : List X) → All (λ x. f x ≡ g x) xs → all_installed f m xs ≡ all_installed g m xs
-  installed_same f g m [] a = refl
-  installed_same f g m (x ∷ xs) a = ap (λ rows. all_installed f (overwritten m rows) xs) (All-head (λ x. f x ≡ g x) x xs a)
-      ∙ installed_same f g (overwritten m (g x)) xs (All-tail (λ x. f x ≡ g x) x xs a)
-
-module _ {K V X : Type 0} {R : K → K → Ordering} (o : IsTotalOrder R) (anti : IsAntisymmetric R) where
-  -- rows that meet none of theirs may be installed before them
-  installed_swap : (f : X → List (K × Option V)) (m : FinMap R V) (rows : List (K × Option V)) (xs : List X) → All (λ x. meets R (keys_of rows) (keys_of (f x)) ≡ false) xs
-      → all_installed f (overwritten m rows) xs ≡ overwritten (all_installed f m xs) rows
-  installed_swap f m rows [] a = refl
-  installed_swap f m rows (x ∷ xs) a = ap (λ m. all_installed f m xs) (overwritten_swap o anti m rows (f x) (All-head (λ x. meets R (keys_of rows) (keys_of (f x)) ≡ false) x xs a))
-      ∙ installed_swap f (overwritten m (f x)) rows xs (All-tail (λ x. meets R (keys_of rows) (keys_of (f x)) ≡ false) x xs a)
-
-  installed_apart : (f : X → List (K × Option V)) (m : FinMap R V) (q : K) (xs : List X) → All (λ x. is_among R (keys_of (f x)) q ≡ false) xs → fin.get (all_installed f m xs) q ≡ fin.get m q
-  installed_apart f m q [] a = refl
-  installed_apart f m q (x ∷ xs) a = installed_apart f (overwritten m (f x)) q xs (All-tail (λ x. is_among R (keys_of (f x)) q ≡ false) x xs a)
-      ∙ get-apart o anti m (f x) q (All-head (λ x. is_among R (keys_of (f x)) q ≡ false) x xs a)
-
-not_true : (b : Bool) → (b ≡ true → ⊥) → b ≡ false
-not_true true h = absurd (h refl)
-not_true false h = refl
+use Rattle.batch_rules.specs.Waves.{late_rows, conflicts, ConflictsBothWays, Waved, wave_behind, waved, found, wave_fates, IsInWaves}
+use Rattle.batch_rules.proofs.Carriers.{fates_map, left_map}
+use Rattle.batch_rules.proofs.Installs.{get-apart, installed_same, installed_swap, installed_apart}
+use Rattle.batch_rules.proofs.Lists.{All-filtered, map_same}
+use Rattle.batch_rules.proofs.Maps.{same_key}
+use Rattle.batch_rules.proofs.Meets.{meets_none}
+use Rattle.batch_rules.proofs.Pairs.{Pairs}
+use Rattle.batch_rules.proofs.Within.{late_map-is, late_keys, late_agree}
 
 -- neither may write what the other may touch
 pub record IsFree {K : Type 0} (R : K → K → Ordering) (a b : Declared K) : Type 0 where
@@ -140,7 +47,7 @@ module _ {K V W A : Type 0} {R : K → K → Ordering} (o : IsTotalOrder R) (ant
   of_wave P n ws a = All-filtered (at_wave n) P ws (λ k d below e. a k d below (let is = eqb-true (wave (slice_index_or ws k d)) n e in omega (arith, is)))
 
   rows_past : (m : FinMap R V) (w x : W) → free w x → Past (rows_on m w) x
-  rows_past m w x f = record { none = λ q may. not_true _ (λ among. false≢true (sym (f.there q (late_keys o anti is_done (declared_of w) (tree w) m q among)) ∙ may)) }
+  rows_past m w x f = record { none = λ q may. false_from_ne_true _ (λ among. false≢true (sym (f.there q (late_keys o anti is_done (declared_of w) (tree w) m q among)) ∙ may)) }
 
   agree_past : (m : FinMap R V) (rows : List (K × Option V)) (x : W) → Past rows x → AgreeWithin (declared_of x) (overwritten m rows) m
   agree_past m rows x past q may = get-apart o anti m rows q (past.none q may)
@@ -151,10 +58,10 @@ module _ {K V W A : Type 0} {R : K → K → Ordering} (o : IsTotalOrder R) (ant
   shifted db rows ws (suc n) a =
       let m = before db ws n in
       let now : All (Past rows) (filter (at_wave n) ws) = of_wave (Past rows) n ws a in
-      ap (λ m. all_installed (rows_on m) m (filter (at_wave n) ws)) (shifted db rows ws n (λ k d below less. a k d below (omega (arith, less))))
+      ap (λ m. installed (rows_on m) m (filter (at_wave n) ws)) (shifted db rows ws n (λ k d below less. a k d below (omega (arith, less))))
       ∙ installed_same (rows_on (overwritten m rows)) (rows_on m) (overwritten m rows) (filter (at_wave n) ws) (λ k d below. (late_agree o anti is_done _ _ _ _ (agree_past m rows _ (now k d below))).1)
       ∙ installed_swap o anti (rows_on m) m rows (filter (at_wave n) ws) (λ k d below. let x = slice_index_or (filter (at_wave n) ws) k d in
-          meets_none o anti (keys_of rows) (keys_of (rows_on m x)) (λ q among. not_true _ (λ writes. false≢true (sym ((now k d below).none q (or_right _ _ (late_keys o anti is_done (declared_of x) (tree x) m q writes))) ∙ among))))
+      meets_none o anti (keys_of rows) (keys_of (rows_on m x)) (λ q among. false_from_ne_true _ (λ writes. false≢true (sym ((now k d below).none q (or_right _ _ (late_keys o anti is_done (declared_of x) (tree x) m q writes))) ∙ among))))
 
   -- waves below n, free of w, leave what w may touch
   kept : (db : FinMap R V) (w : W) (ws : List W) (n : ℕ) → All (λ x. wave x < n → free w x) ws → AgreeWithin (declared_of w) (before db ws n) db
@@ -163,16 +70,16 @@ module _ {K V W A : Type 0} {R : K → K → Ordering} (o : IsTotalOrder R) (ant
       let m = before db ws n in
       let now : All (free w) (filter (at_wave n) ws) = of_wave (free w) n ws a in
       installed_apart o anti (rows_on m) m q (filter (at_wave n) ws) (λ k d below. let x = slice_index_or (filter (at_wave n) ws) k d in
-          not_true _ (λ among. false≢true (sym ((now k d below).back q (late_keys o anti is_done (declared_of x) (tree x) m q among)) ∙ may)))
+      false_from_ne_true _ (λ among. false≢true (sym ((now k d below).back q (late_keys o anti is_done (declared_of x) (tree x) m q among)) ∙ may)))
       ∙ kept db w ws n (λ k d below less. a k d below (omega (arith, less))) q may
 
   -- a wave finds the same with and without an item that is not below it
   ahead : (db : FinMap R V) (w : W) (ws : List W) (n : ℕ) → n ≤ wave w → before db (w ∷ ws) n ≡ before db ws n
   ahead db w ws zero le = refl
   ahead db w ws (suc n) le = elim (nat_eq (wave w) n) as (λ b. nat_eq (wave w) n ≡ b
-      → all_installed (rows_on (before db (w ∷ ws) n)) (before db (w ∷ ws) n) (cond b (w ∷ filter (at_wave n) ws) (filter (at_wave n) ws)) ≡ before db ws (suc n)) [
+      → installed (rows_on (before db (w ∷ ws) n)) (before db (w ∷ ws) n) (cond b (w ∷ filter (at_wave n) ws) (filter (at_wave n) ws)) ≡ before db ws (suc n)) [
         | true ↦ λ e. let is = eqb-true (wave w) n e in absurd (omega (arith, is, le))
-        | false ↦ λ e. ap (λ m. all_installed (rows_on m) m (filter (at_wave n) ws)) (ahead db w ws n (omega (arith, le)))
+        | false ↦ λ e. ap (λ m. installed (rows_on m) m (filter (at_wave n) ws)) (ahead db w ws n (omega (arith, le)))
       ] refl
 
   -- behind its own wave, an item that is free of those not behind it might have run first
@@ -183,7 +90,7 @@ module _ {K V W A : Type 0} {R : K → K → Ordering} (o : IsTotalOrder R) (ant
       let m = before db (w ∷ ws) n in
       let late = overwritten db (rows_on db w) in
       let rest = filter (at_wave n) ws in
-      elim (nat_eq (wave w) n) as (λ b. nat_eq (wave w) n ≡ b → all_installed (rows_on m) m (cond b (w ∷ rest) rest) ≡ before late ws (suc n)) [
+      elim (nat_eq (wave w) n) as (λ b. nat_eq (wave w) n ≡ b → installed (rows_on m) m (cond b (w ∷ rest) rest) ≡ before late ws (suc n)) [
         | true ↦ λ e.
             let is = eqb-true (wave w) n e in
             let here : m ≡ before db ws n = ahead db w ws n (omega (arith, is)) in
@@ -191,16 +98,16 @@ module _ {K V W A : Type 0} {R : K → K → Ordering} (o : IsTotalOrder R) (ant
             let lower : All (λ x. wave x < n → free w x) ws = λ k d below low. a k d below (omega (arith, is, low)) in
             let rows : rows_on m' w ≡ rows_on db w = (late_agree o anti is_done (declared_of w) (tree w) m' db (kept db w ws n lower)).1 in
             let now : All (Past (rows_on db w)) rest = of_wave (Past (rows_on db w)) n ws (λ k d below low. rows_past db w _ (a k d below (omega (arith, is, low)))) in
-            ap (λ m. all_installed (rows_on m) m (w ∷ rest)) here
-            ∙ ap (λ rows. all_installed (rows_on m') (overwritten m' rows) rest) rows
+            ap (λ m. installed (rows_on m) m (w ∷ rest)) here
+            ∙ ap (λ rows. installed (rows_on m') (overwritten m' rows) rest) rows
             ∙ installed_same (rows_on m') (rows_on (overwritten m' (rows_on db w))) (overwritten m' (rows_on db w)) rest (λ k d below. sym (late_agree o anti is_done _ _ _ _ (agree_past m' (rows_on db w) _ (now k d below))).1)
-            ∙ ap (λ m. all_installed (rows_on m) m rest) (sym (shifted db (rows_on db w) ws n (λ k d below low. rows_past db w _ (lower k d below low))))
-        | false ↦ λ e. ap (λ m. all_installed (rows_on m) m rest) (behind db w ws n a (elim (cases_lt (wave w) n) as (λ _. wave w < n) [ inl low ↦ low | inr high ↦ absurd (false≢true (sym e ∙ eq-eqb (wave w) n (omega (arith, less, high)))) ]))
+            ∙ ap (λ m. installed (rows_on m) m rest) (sym (shifted db (rows_on db w) ws n (λ k d below low. rows_past db w _ (lower k d below low))))
+        | false ↦ λ e. ap (λ m. installed (rows_on m) m rest) (behind db w ws n a (elim (cases_lt (wave w) n) as (λ _. wave w < n) [ inl low ↦ low | inr high ↦ absurd (false≢true (sym e ∙ eq-eqb (wave w) n (omega (arith, less, high)))) ]))
       ] refl
 
   -- rows of two that are free of each other do not meet, on whatever databases they ran
   pub rows_apart : (m n : FinMap R V) (a b : W) → free a b → meets R (keys_of (rows_on m a)) (keys_of (rows_on n b)) ≡ false
-  rows_apart m n a b f = meets_none o anti (keys_of (rows_on m a)) (keys_of (rows_on n b)) (λ q among. not_true _ (λ writes.
+  rows_apart m n a b f = meets_none o anti (keys_of (rows_on m a)) (keys_of (rows_on n b)) (λ q among. false_from_ne_true _ (λ writes.
       false≢true (sym (f.there q (late_keys o anti is_done (declared_of a) (tree a) m q among)) ∙ or_right _ _ (late_keys o anti is_done (declared_of b) (tree b) n q writes))))
 
   abbrev pub IsWaved : List W → Type 0
@@ -237,13 +144,13 @@ module _ {K V W A : Type 0} {R : K → K → Ordering} (o : IsTotalOrder R) (ant
         left = λ n a. behind db w ws n p.0 (All-head (λ w. wave w < n) w ws a) ∙ rest.left n (All-tail (λ w. wave w < n) w ws a) ∙ ap (λ m. late_left is_done declared_of tree m ws) step;
       }
 
--- the waves of a list are such
-module _ {K W : Type 0} {R : K → K → Ordering} (o : IsTotalOrder R) (anti : IsAntisymmetric R) (declared_of : W → Declared K) where
+-- conflicts, key by key
+module _ {K : Type 0} {R : K → K → Ordering} (o : IsTotalOrder R) (anti : IsAntisymmetric R) where
   none_of : (test : K → Bool) (keys : List K) (q : K) → list_any test keys ≡ false → is_among R keys q ≡ true → test q ≡ false
   none_of test [] q e among = cc
   none_of test (k ∷ keys) q e among = elim (eq_by_cmp R q k) as (λ b. eq_by_cmp R q k ≡ b → (b || is_among R keys q) ≡ true → test q ≡ false) [
-    | true ↦ λ same _. ap test (same_key anti q k same) ∙ not_true _ (λ t. false≢true (sym e ∙ or_left _ _ t))
-    | false ↦ λ _ among. none_of test keys q (not_true _ (λ t. false≢true (sym e ∙ or_right _ _ t))) among
+    | true ↦ λ same _. ap test (same_key anti q k same) ∙ false_from_ne_true _ (λ t. false≢true (sym e ∙ or_left _ _ t))
+    | false ↦ λ _ among. none_of test keys q (false_from_ne_true _ (λ t. false≢true (sym e ∙ or_right _ _ t))) among
   ] refl among
 
   some_of : (test : K → Bool) (keys : List K) → list_any test keys ≡ true → (q : K) × (is_among R keys q ≡ true) × (test q ≡ true)
@@ -255,22 +162,29 @@ module _ {K W : Type 0} {R : K → K → Ordering} (o : IsTotalOrder R) (anti : 
 
   pub free_from : (a b : Declared K) → conflicts R a b ≡ false → IsFree R a b
   free_from a b e =
-      let reads : list_any (may_write R a) b.reads ≡ false = not_true _ (λ t. false≢true (sym e ∙ or_left _ _ t)) in
-      let writes : list_any (may_read R a) b.writes ≡ false = not_true _ (λ t. false≢true (sym e ∙ or_right _ _ t)) in record {
-        there = λ q among. not_true _ (λ may. elim (is_among R b.reads q) as (λ r. is_among R b.reads q ≡ r → (r || is_among R b.writes q) ≡ true → ⊥) [
+      let reads : list_any (may_write R a) b.reads ≡ false = false_from_ne_true _ (λ t. false≢true (sym e ∙ or_left _ _ t)) in
+      let writes : list_any (may_read R a) b.writes ≡ false = false_from_ne_true _ (λ t. false≢true (sym e ∙ or_right _ _ t)) in record {
+        there = λ q among. false_from_ne_true _ (λ may. elim (is_among R b.reads q) as (λ r. is_among R b.reads q ≡ r → (r || is_among R b.writes q) ≡ true → ⊥) [
           | true ↦ λ is _. false≢true (sym (none_of (may_write R a) b.reads q reads is) ∙ among)
           | false ↦ λ _ is. false≢true (sym (none_of (may_read R a) b.writes q writes is) ∙ or_right _ _ among)
         ] refl may);
         back = λ q among. none_of (may_read R a) b.writes q writes among;
       }
 
-  -- and it is so of both or of neither
-  pub conflicts_turned : (a b : Declared K) → conflicts R a b ≡ false → conflicts R b a ≡ false
-  conflicts_turned a b e = let f = free_from a b e in not_true _ (λ c. elim (list_any (may_write R b) a.reads) as (λ l. list_any (may_write R b) a.reads ≡ l → (l || list_any (may_read R b) a.writes) ≡ true → ⊥) [
+  none_turned : (a b : Declared K) → conflicts R a b ≡ false → conflicts R b a ≡ false
+  none_turned a b e = let f = free_from a b e in false_from_ne_true _ (λ c. elim (list_any (may_write R b) a.reads) as (λ l. list_any (may_write R b) a.reads ≡ l → (l || list_any (may_read R b) a.writes) ≡ true → ⊥) [
     | true ↦ λ is _. let found = some_of (may_write R b) a.reads is in false≢true (sym (f.back found.0 found.2) ∙ or_left _ _ found.1)
     | false ↦ λ _ is. let found = some_of (may_read R b) a.writes is in false≢true (sym (f.there found.0 found.1) ∙ found.2)
   ] refl c)
 
+  pub conflicts_both_ways : (a b : Declared K) → ConflictsBothWays R a b
+  conflicts_both_ways a b = elim (conflicts R a b) as (λ c. conflicts R a b ≡ c → c ≡ conflicts R b a) [
+    | false ↦ λ e. sym (none_turned a b e)
+    | true ↦ λ e. sym (true_from_ne_false _ (λ none. false≢true (sym (none_turned b a none) ∙ e)))
+  ] refl
+
+-- the waves of a list are such
+module _ {K W : Type 0} {R : K → K → Ordering} (o : IsTotalOrder R) (anti : IsAntisymmetric R) (declared_of : W → Declared K) where
   -- what conflicts with e has a greater wave, behind these
   pub record IsCovered (earlier : List (Waved W)) (e : Waved W) : Type 0 where
     pub above : (w : W) → conflicts R (declared_of e.item) (declared_of w) ≡ true → e.wave < wave_behind R declared_of earlier w
@@ -279,8 +193,10 @@ module _ {K W : Type 0} {R : K → K → Ordering} (o : IsTotalOrder R) (anti : 
   covered_first e es = record { above = λ w c. rw c (omega arith) }
 
   covered_more : (e x : Waved W) (es : List (Waved W)) → IsCovered es e → IsCovered (x ∷ es) e
-  covered_more e x es h = record { above = λ w c. let low = h.above w c in
-    elim (conflicts R (declared_of x.item) (declared_of w)) as (λ b. e.wave < (if b then max (suc x.wave) (wave_behind R declared_of es w) else wave_behind R declared_of es w)) [ true ↦ omega (arith, low) | false ↦ low ] }
+  covered_more e x es h = record {
+    above = λ w c. let low = h.above w c in
+        elim (conflicts R (declared_of x.item) (declared_of w)) as (λ b. e.wave < (if b then max (suc x.wave) (wave_behind R declared_of es w) else wave_behind R declared_of es w)) [ true ↦ omega (arith, low) | false ↦ low ];
+  }
 
   later_above : (e : Waved W) (earlier : List (Waved W)) (ws : List W) → IsCovered earlier e
       → All (λ x. conflicts R (declared_of e.item) (declared_of x.item) ≡ true → e.wave < x.wave) (waved R declared_of earlier ws)
@@ -294,21 +210,11 @@ module _ {K W : Type 0} {R : K → K → Ordering} (o : IsTotalOrder R) (anti : 
   waved-is earlier [] = tt
   waved-is earlier (w ∷ ws) =
       let x : Waved W = record { wave = wave_behind R declared_of earlier w; item = w } in
-      (λ k d below low. free_from _ _ (not_true _ (λ c. let above = later_above x (x ∷ earlier) ws (covered_first x earlier) k d below c in absurd (omega (arith, low, above)))), waved-is (x ∷ earlier) ws)
+      (λ k d below low. free_from o anti _ _ (false_from_ne_true _ (λ c. let above = later_above x (x ∷ earlier) ws (covered_first x earlier) k d below c in absurd (omega (arith, low, above)))), waved-is (x ∷ earlier) ws)
 
   pub items-waved : (earlier : List (Waved W)) (ws : List W) → map (λ e. e.item) (waved R declared_of earlier ws) ≡ ws
   items-waved earlier [] = refl
   items-waved earlier (w ∷ ws) = ap (λ rest. w ∷ rest) (items-waved (record { wave = wave_behind R declared_of earlier w; item = w } ∷ earlier) ws)
-
--- the late fold over images
-module _ {K V W X A : Type 0} {R : K → K → Ordering} (is_done : A → Bool) (declared_of : W → Declared K) (tree : W → Tree K V A) (f : X → W) where
-  fates_map : (db : FinMap R V) (xs : List X) → late_fates is_done (λ x. declared_of (f x)) (λ x. tree (f x)) db xs ≡ late_fates is_done declared_of tree db (map f xs)
-  fates_map db [] = refl
-  fates_map db (x ∷ xs) = ap (λ fates. late_fate (declared_of (f x)) (tree (f x)) db ∷ fates) (fates_map (late_map is_done (declared_of (f x)) (tree (f x)) db) xs)
-
-  left_map : (db : FinMap R V) (xs : List X) → late_left is_done (λ x. declared_of (f x)) (λ x. tree (f x)) db xs ≡ late_left is_done declared_of tree db (map f xs)
-  left_map db [] = refl
-  left_map db (x ∷ xs) = left_map (late_map is_done (declared_of (f x)) (tree (f x)) db) xs
 
 module _ {K V W A : Type 0} {R : K → K → Ordering} (o : IsTotalOrder R) (anti : IsAntisymmetric R) (is_done : A → Bool) (declared_of : W → Declared K) (tree : W → Tree K V A) where
   pub waves_law : (db : FinMap R V) (ws : List W) → IsInWaves is_done declared_of tree db ws

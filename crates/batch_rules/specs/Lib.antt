@@ -1,5 +1,6 @@
 pub mod Batches
 pub mod Laws
+pub mod Numberings
 pub mod Plays
 pub mod Serials
 pub mod Touches

@@ -60,6 +60,12 @@ module _ {K V : Type 0} {R : K → K → Ordering} where
   overwritten db [] = db
   overwritten db (w ∷ ws) = set_at (overwritten db ws) w.0 w.1
 
+module _ {K V X : Type 0} {R : K → K → Ordering} (rows : X → List (K × Option V)) where
+  -- the database with the rows of each item, one item after the other
+  abbrev pub installed : FinMap R V → List X → FinMap R V
+  installed db [] = db
+  installed db (x ∷ xs) = installed (overwritten db (rows x)) xs
+
 module _ {K V A : Type 0} {R : K → K → Ordering} where
   -- the read set of the run on the database, whatever its end
   abbrev pub reads_of : Tree K V A → FinMap R V → List K

@@ -1,26 +1,24 @@
--- The late fold in waves: requests that do not conflict run on one snapshot.
+-- The late fold in waves: what does not conflict runs on one database, and then its rows are installed.
 use Rattle.std.specs.Prelude.{◌≡◌, ◌<◌, ℕ, zero, suc, max, Option, List, [], ◌∷◌, map, Bool, ◌||◌, if◌then◌else◌, nat_eq}
 use Rattle.std.specs.declared.cmp.Ordering.{Ordering}
 use Rattle.std.specs.List.{All, filter, list_any}
 use Rattle.std.specs.FinMap.{FinMap}
-use Rattle.batch_rules.specs.Trees.{Tree, end_of}
-use Rattle.batch_rules.specs.Touches.{Declared, may_read, may_write, writes_of, overwritten}
+use Rattle.batch_rules.specs.Trees.{Tree}
+use Rattle.batch_rules.specs.Touches.{Declared, may_read, may_write, writes_of, installed}
 use Rattle.batch_rules.specs.Batches.{Fate, has_ended, late_fate, late_fates, late_left}
-
--- the database with the rows of each item, one item after the other
-module _ {K V X : Type 0} {R : K → K → Ordering} (rows : X → List (K × Option V)) where
-  abbrev pub all_installed : FinMap R V → List X → FinMap R V
-  all_installed db [] = db
-  all_installed db (x ∷ xs) = all_installed (overwritten db (rows x)) xs
 
 -- the rows of a run within the declared keys. One that moved, or is not done, has none
 module _ {K V A : Type 0} {R : K → K → Ordering} where
   abbrev pub late_rows : (A → Bool) → Declared K → Tree K V A → FinMap R V → List (K × Option V)
   late_rows is_done declared t db = if has_ended (late_fate declared t db) then writes_of is_done t db else []
 
--- the one behind may read what the one before may write, or may write what that one may touch. It is so of both or of neither
+-- the one behind may read what the one before may write, or may write what that one may touch
 abbrev pub conflicts : {K : Type 0} (R : K → K → Ordering) → Declared K → Declared K → Bool
 conflicts R before behind = list_any (may_write R before) behind.reads || list_any (may_read R before) behind.writes
+
+-- it is so of both or of neither
+abbrev pub ConflictsBothWays : {K : Type 0} (R : K → K → Ordering) → Declared K → Declared K → Type 0
+ConflictsBothWays R a b = conflicts R a b ≡ conflicts R b a
 
 -- an item with the number of its wave, from 1
 pub record Waved (W : Type 0) : Type 0 where
@@ -42,7 +40,7 @@ module _ {K V W A : Type 0} {R : K → K → Ordering} (is_done : A → Bool) (d
   -- the database that wave n finds: of each wave below n all ran on the database that it found, and then their rows were installed
   abbrev pub found : FinMap R V → List W → ℕ → FinMap R V
   found db ws zero = db
-  found db ws (suc n) = all_installed (λ w. late_rows is_done (declared_of w) (tree w) (found db ws n)) (found db ws n) (filter (λ w. nat_eq (wave w) n) ws)
+  found db ws (suc n) = installed (λ w. late_rows is_done (declared_of w) (tree w) (found db ws n)) (found db ws n) (filter (λ w. nat_eq (wave w) n) ws)
 
   -- what becomes of each on the database that its wave finds, in the order of the list
   abbrev pub wave_fates : FinMap R V → List W → List (Fate K A)

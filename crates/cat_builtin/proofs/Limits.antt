@@ -2,7 +2,7 @@
 use Rattle.std.proofs.Common.{◌≡◌, ◌≤◌, true, nat_le}
 use Rattle.std.proofs.lemmas.Bool.{leb-true, and_parts}
 use Rattle.proc_lang.specs.declared.procs.Proc.{Proc}
-use Rattle.proc_lang.specs.declared.catalogs.TheConstants.{MOST_STATEMENTS}
+use Rattle.proc_lang.specs.declared.limits.TheConstants.{MOST_STATEMENTS}
 use Rattle.proc_lang.specs.Catalogs.{proc_fits, steps_count, steps_fit}
 
 pub few_steps : (p : Proc) → proc_fits p ≡ true → steps_count p.body ≤ MOST_STATEMENTS

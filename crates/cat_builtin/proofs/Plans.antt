@@ -5,7 +5,7 @@ use Rattle.std.specs.Result.{is_ok}
 use Rattle.std.proofs.lemmas.List.Sums.{AllPass-from_list_all}
 use Rattle.proc_lang.specs.Typing.{typed_proc}
 use Rattle.proc_lang.specs.Catalogs.{Plan, IsCatalog, table_fits, proc_fits, distinct}
-use Rattle.proc_lang.specs.declared.catalogs.TheConstants.{MOST_TABLES, MOST_PROCS}
+use Rattle.proc_lang.specs.declared.limits.TheConstants.{MOST_TABLES, MOST_PROCS}
 use Rattle.cat_builtin.specs.Bank.{bank}
 use Rattle.cat_builtin.specs.Ycsb.{ycsb}
 use Rattle.cat_builtin.specs.Tpcc.{tpcc}

@@ -1,7 +1,7 @@
 -- Small words of which the catalogues are written.
 use Rattle.std.specs.Prelude.{◌≡◌, ◌≤◌, ℕ, pos, not, List, length, position, replicate, slice_set, None}
 use Rattle.aria_base.specs.Texts.{may_hold}
-use Rattle.aria_base.specs.declared.texts.TheConstants.{LONGEST_TEXT}
+use Rattle.aria_base.specs.declared.limits.TheConstants.{LONGEST_TEXT}
 use Rattle.aria_base.specs.declared.values.Kind.{Kind}
 use Rattle.aria_base.specs.declared.values.Kind.TheVariants as kind
 use Rattle.aria_base.specs.declared.schemas.Table.{Table}

@@ -6,7 +6,7 @@ use Rattle.aria_base.specs.declared.values.Kind.TheVariants as kind
 use Rattle.proc_lang.specs.declared.procs.ArgKind.{ArgKind}
 use Rattle.proc_lang.specs.declared.procs.ArgKind.TheVariants as arg
 use Rattle.proc_lang.specs.Catalogs.{is_between}
-use Rattle.proc_lang.specs.declared.catalogs.TheConstants.{MOST_KEY_PARTS}
+use Rattle.proc_lang.specs.declared.limits.TheConstants.{MOST_KEY_PARTS}
 use Rattle.proc_lang.specs.Terms.{Term}
 use Rattle.proc_lang.specs.Terms as term
 use Rattle.cat_forms.specs.declared.names.Plain.{Plain}

@@ -2,7 +2,7 @@
 use Rattle.std.specs.Prelude.{ℕ, ◌&&◌, Bool, nat_le, List, length, if◌then◌else◌, Option, Some, None, option_and_then, Result}
 use Rattle.std.specs.declared.result.Result.TheVariants.{Ok, Err}
 use Rattle.std.specs.List.{list_all}
-use Rattle.aria_base.specs.declared.texts.TheConstants.{LONGEST_TEXT}
+use Rattle.aria_base.specs.declared.limits.TheConstants.{LONGEST_TEXT}
 use Rattle.aria_base.specs.Texts.{may_hold}
 use Rattle.proc_lang.specs.Catalogs.{is_between}
 use Rattle.proc_lang.specs.declared.procs.PathPart.{PathPart}

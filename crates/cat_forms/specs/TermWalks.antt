@@ -4,7 +4,7 @@ use Rattle.std.specs.declared.result.Result.TheVariants.{Ok, Err}
 use Rattle.serde_json.specs.Data.{Data, null, boolean, number, string, array, object, Items, no_items, item}
 use Rattle.serde_json.specs.Find.{as_str, as_i64}
 use Rattle.proc_lang.specs.declared.procs.PathPart.{PathPart}
-use Rattle.proc_lang.specs.declared.catalogs.TheConstants.{DEEPEST_EXPR, MOST_FRONT}
+use Rattle.proc_lang.specs.declared.limits.TheConstants.{DEEPEST_EXPR, MOST_FRONT}
 use Rattle.proc_lang.specs.Terms.{Term, Num, Text, Me, MulDiv, Front}
 use Rattle.proc_lang.specs.Values.{both}
 use Rattle.cat_forms.specs.declared.names.Form.{Form}

@@ -4,7 +4,7 @@ use Rattle.std.specs.declared.result.Result.TheVariants.{Ok, Err}
 use Rattle.std.specs.Prelude.{option_and_then, nat_le, nat_lt}
 use Rattle.std.proofs.lemmas.Grind.{common_steps}
 use Rattle.proc_lang.specs.declared.procs.PathPart.{PathPart}
-use Rattle.proc_lang.specs.declared.catalogs.TheConstants.{DEEPEST_EXPR, MOST_STATEMENTS}
+use Rattle.proc_lang.specs.declared.limits.TheConstants.{DEEPEST_EXPR, MOST_STATEMENTS}
 use Rattle.proc_lang.specs.Values.{both}
 use Rattle.proc_lang.specs.Catalogs.{is_between}
 use Rattle.cat_forms.specs.Shapes.{Shaped, ◌>>=◌, at_path, number_within}

@@ -16,7 +16,7 @@ use Rattle.serde_json.specs.Find.{as_str, as_array}
 use Rattle.proc_lang.specs.declared.procs.ArgKind.{ArgKind}
 use Rattle.proc_lang.specs.declared.procs.PathPart.{PathPart}
 use Rattle.proc_lang.specs.declared.procs.Proc.{Proc}
-use Rattle.proc_lang.specs.declared.catalogs.TheConstants.{MOST_TABLES, MOST_PROCS, MOST_KEY_PARTS, MOST_COLUMNS, MOST_ARGS, MOST_REGS, MOST_STATEMENTS}
+use Rattle.proc_lang.specs.declared.limits.TheConstants.{MOST_TABLES, MOST_PROCS, MOST_KEY_PARTS, MOST_COLUMNS, MOST_ARGS, MOST_REGS, MOST_STATEMENTS}
 use Rattle.proc_lang.specs.Catalogs.{Plan, IsCatalog, is_between, arg_kind_fits, table_fits, proc_fits, steps_count, distinct}
 use Rattle.proc_lang.specs.Typing.{IsWellTyped}
 use Rattle.cat_forms.specs.declared.names.TheConstants.{ARG_KINDS}

@@ -8,7 +8,7 @@ use Rattle.aria_base.specs.declared.schemas.Table.{Table}
 use Rattle.serde_json.specs.Data.{Data, null, boolean, number, string, array, object, Items, no_items, item}
 use Rattle.serde_json.specs.Find.{as_str, as_array}
 use Rattle.proc_lang.specs.declared.procs.PathPart.{PathPart}
-use Rattle.proc_lang.specs.declared.catalogs.TheConstants.{MOST_STATEMENTS, GREATEST_CODE}
+use Rattle.proc_lang.specs.declared.limits.TheConstants.{MOST_STATEMENTS, GREATEST_CODE}
 use Rattle.proc_lang.specs.Terms.{Term}
 use Rattle.proc_lang.specs.Steps.{Step, Steps, NoMore, Let, Get, Need, Find, Put, Del, If, Each, Give, Fail}
 use Rattle.proc_lang.specs.Syntax.{in_turn}

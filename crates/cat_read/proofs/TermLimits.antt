@@ -8,7 +8,7 @@ use Rattle.std.proofs.lemmas.Grind.{common_steps}
 use Rattle.serde_json.specs.Data.{Data, null, boolean, number, string, array, object, Items, no_items, item}
 use Rattle.serde_json.specs.Find.{as_str, as_i64, as_number, as_u64}
 use Rattle.proc_lang.specs.declared.procs.PathPart.{PathPart}
-use Rattle.proc_lang.specs.declared.catalogs.TheConstants.{DEEPEST_EXPR, MOST_FRONT}
+use Rattle.proc_lang.specs.declared.limits.TheConstants.{DEEPEST_EXPR, MOST_FRONT}
 use Rattle.proc_lang.specs.Terms.{Term, Num, Text, Me, MulDiv, Front}
 use Rattle.proc_lang.specs.Values.{both}
 use Rattle.proc_lang.specs.Catalogs.{depth, fronts_fit, term_fits}

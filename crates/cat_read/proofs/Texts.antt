@@ -6,7 +6,7 @@ use Rattle.std.proofs.lemmas.List.Folds.{list_all_at}
 use Rattle.std.proofs.lemmas.List.Quantifiers.{position-Some}
 use Rattle.std.proofs.lemmas.Grind.{common_steps}
 use Rattle.aria_base.specs.Texts.{IsText, may_hold, is_word, is_in_word}
-use Rattle.aria_base.specs.declared.texts.TheConstants.{LONGEST_TEXT, LONGEST_WORD}
+use Rattle.aria_base.specs.declared.limits.TheConstants.{LONGEST_TEXT, LONGEST_WORD}
 use Rattle.cat_forms.specs.Shapes.{text_of}
 use Rattle.cat_forms.proofs.Texts.{text_passes}
 

@@ -5,7 +5,7 @@ ghost use Rattle.serde_json.specs.Find.{as_str};
 ghost use Rattle.serde_json.specs.View.{view, items_view};
 ghost use Rattle.proc_lang.specs.TermOf.{term_of};
 ghost use Rattle.proc_lang.specs.Syntax.{step_of};
-ghost use Rattle.proc_lang.specs.declared.catalogs.TheConstants.{MOST_TABLES};
+ghost use Rattle.proc_lang.specs.declared.limits.TheConstants.{MOST_TABLES};
 ghost use Rattle.cat_forms.specs.declared.names.Verb.TheVariants as verb;
 ghost use Rattle.cat_forms.specs.Names.{verb_named, has_blocks};
 ghost use Rattle.cat_forms.specs.Places.{in_item};

@@ -19,7 +19,7 @@ use Rattle.serde_json.specs.Events.{items_len}
 use Rattle.serde_json.specs.View.{items_of}
 use Rattle.proc_lang.specs.declared.procs.PathPart.{PathPart}
 use Rattle.proc_lang.specs.declared.procs.Proc.{Proc}
-use Rattle.proc_lang.specs.declared.catalogs.TheConstants.{MOST_TABLES, MOST_PROCS, MOST_KEY_PARTS, MOST_COLUMNS, MOST_ARGS, MOST_REGS, MOST_STATEMENTS}
+use Rattle.proc_lang.specs.declared.limits.TheConstants.{MOST_TABLES, MOST_PROCS, MOST_KEY_PARTS, MOST_COLUMNS, MOST_ARGS, MOST_REGS, MOST_STATEMENTS}
 use Rattle.proc_lang.specs.Catalogs.{Plan, IsCatalog, is_between, arg_kind_fits, table_fits, proc_fits, steps_fit, steps_count, distinct}
 use Rattle.proc_lang.specs.Typing.{IsWellTyped, Reached, Flaw, typed_proc, scope_of, at_start}
 use Rattle.cat_forms.specs.declared.members.Member.TheVariants.{Tables, Procs, Name, Key, Cols, Args, Regs, Body}

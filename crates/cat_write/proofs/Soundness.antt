@@ -12,8 +12,8 @@ use Rattle.serde_json.specs.View.{items_of}
 use Rattle.proc_lang.specs.Terms.{Term, Num, Text, Reg, Arg, Item, Len, Me, Add, Sub, Mul, Div, Mod, MulDiv, Eq, Ne, Lt, Le, And, Or, Not, Cat, Front, Show}
 use Rattle.proc_lang.specs.Steps.{Step, Steps, NoMore, More}
 use Rattle.proc_lang.specs.Steps as step
-use Rattle.proc_lang.specs.declared.catalogs.TheConstants.{DEEPEST_EXPR}
-use Rattle.proc_lang.specs.declared.flaws.TheConstants.{MOST_BLOCKS, NESTING, UNKNOWN_TABLE}
+use Rattle.proc_lang.specs.declared.limits.TheConstants.{DEEPEST_EXPR, MOST_BLOCKS}
+use Rattle.proc_lang.specs.declared.flaws.TheConstants.{NESTING, UNKNOWN_TABLE}
 use Rattle.proc_lang.specs.Catalogs.{depth, term_fits, step_fits, steps_fit}
 use Rattle.proc_lang.specs.Values.{got}
 use Rattle.proc_lang.specs.Typing.{Typed, Scope, Set, Reached, found, wanted, at_place, passed, keyed, shaped, reads, writes, deletes, tests, goes_over, inside, inside_each, typed_step, typed_steps}

@@ -13,7 +13,7 @@ use Rattle.std.proofs.lemmas.Grind.{common_steps}
 use Rattle.aria_base.specs.declared.schemas.Table.{Table}
 use Rattle.serde_json.specs.View.{items_of}
 use Rattle.proc_lang.specs.declared.procs.PathPart.{PathPart}
-use Rattle.proc_lang.specs.declared.catalogs.TheConstants.{MOST_STATEMENTS, GREATEST_CODE}
+use Rattle.proc_lang.specs.declared.limits.TheConstants.{MOST_STATEMENTS, GREATEST_CODE}
 use Rattle.proc_lang.specs.Terms.{Term}
 use Rattle.proc_lang.specs.Steps.{Step, Steps, NoMore, More}
 use Rattle.proc_lang.specs.Steps as step

@@ -10,7 +10,7 @@ use Rattle.serde_json.specs.Data.{Items, no_items, item, string, array}
 use Rattle.serde_json.specs.View.{items_of}
 use Rattle.serde_json.specs.Find.{as_i64, of_integer}
 use Rattle.proc_lang.specs.declared.procs.PathPart.{PathPart}
-use Rattle.proc_lang.specs.declared.catalogs.TheConstants.{DEEPEST_EXPR, MOST_FRONT}
+use Rattle.proc_lang.specs.declared.limits.TheConstants.{DEEPEST_EXPR, MOST_FRONT}
 use Rattle.proc_lang.specs.Terms.{Term, Num, Text, Reg, Arg, Item, Len, Me, Add, Sub, Mul, Div, Mod, MulDiv, Eq, Ne, Lt, Le, And, Or, Not, Cat, Front, Show}
 use Rattle.proc_lang.specs.Values.{both, is_i64}
 use Rattle.proc_lang.specs.Catalogs.{depth, fronts_fit, term_fits}

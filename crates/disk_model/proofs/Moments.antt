@@ -9,7 +9,7 @@ use Rattle.disk_model.specs.Contents.{RoomyBytes, no_bytes}
 use Rattle.disk_model.specs.Files.{File, untouched, put, wrote, loosened, settled, Lost}
 use Rattle.disk_model.specs.Histories.{Acts, current, MayLose}
 use Rattle.disk_model.specs.Recorded.{Recorded, IsDisk, history_of, file_now, file_after, counts, refused}
-use Rattle.disk_model.specs.Steps.{Step, Idle, Wrote, Missed, Synced, effect, after, written, step_bytes, IsQuiet, IsOf}
+use Rattle.disk_model.specs.Steps.{Step, Idle, Wrote, Missed, Synced, effect, after, written, step_bytes, IsQuiet}
 use Rattle.disk_model.specs.Tapes.{Calls}
 
 pub after_push : (steps : List Step) (step : Step) (file : ℕ) (f : File) → after (steps ++ step ∷ []) file f ≡ effect step file (after steps file f)
@@ -31,6 +31,13 @@ quiet_bytes Idle quiet = refl
 quiet_bytes (Wrote of at bytes) quiet = absurd quiet
 quiet_bytes (Missed of at len) quiet = refl
 quiet_bytes (Synced of) quiet = refl
+
+-- a call that does nothing to other files
+abbrev pub IsOf : ℕ → Step → Type 0
+IsOf file Idle = Unit {0}
+IsOf file (Wrote of at bytes) = of ≡ file
+IsOf file (Missed of at len) = of ≡ file
+IsOf file (Synced of) = of ≡ file
 
 other_stays : (step : Step) (file other : ℕ) (f : File) → IsOf file step → other ≢ file → effect step other f ≡ f
 other_stays Idle file other f own apart = refl

@@ -6,7 +6,11 @@ use Rattle.disk_model.specs.declared.tapes.Entry.{Entry}
 use Rattle.disk_model.specs.declared.tapes.Entry.TheVariants as kept
 use Rattle.disk_model.specs.Files.{File, untouched}
 use Rattle.disk_model.specs.Steps.{Step, Idle, Wrote, Missed, Synced, effect, after}
-use Rattle.disk_model.specs.Tapes.{entry_bytes, all_bytes, step_of, steps_of, Shows, Alike, Makes}
+use Rattle.disk_model.specs.Tapes.{entry_bytes, all_bytes, step_of, steps_of, Shows, Makes}
+
+-- the same to a read, with the same ranges
+abbrev pub Alike : File → File → Type 0
+Alike f g = (f.seen ≡ g.seen) × (f.loose ≡ g.loose)
 
 effect_alike : (step : Step) (file : ℕ) (f g : File) → Alike f g → Alike (effect step file f) (effect step file g)
 effect_alike Idle file f g same = same

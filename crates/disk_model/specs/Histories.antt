@@ -51,9 +51,19 @@ pub record Within (old new : History) (file : ℕ) (P : Option File → Type 0) 
 abbrev pub Leaves : History → History → ℕ → (List ℕ → Type 0) → Type 0
 Leaves old new file P = Within old new file (λ told. EachImage told P)
 
--- no file changes at any moment since old
-abbrev pub Keeps : History → History → ℕ → Type 0
-Keeps old new file = Within old new file (λ told. told ≡ current old file)
+-- Any calls: no file changes at any moment since old, that one included.
+pub record Still (old new : History) : Type 0 where
+  pub later : old.now ≤ new.now
+  pub past : (moment file : ℕ) → moment ≤ old.now → new.file_at moment file ≡ old.file_at moment file
+  pub same : (moment file : ℕ) → old.now ≤ moment → moment ≤ new.now → new.file_at moment file ≡ current old file
+  pub faults : old.faults ≤ new.faults
+
+-- Any calls: the four files that a stop leaves at any moment since old, that one included, have Q.
+pub record LeavesAll (old new : History) (Q : (ℕ → List ℕ) → Type 0) : Type 0 where
+  pub later : old.now ≤ new.now
+  pub past : (moment file : ℕ) → moment ≤ old.now → new.file_at moment file ≡ old.file_at moment file
+  pub each : (moment : ℕ) → old.now ≤ moment → moment ≤ new.now → (images : ℕ → List ℕ) → MayLeave new moment images → Q images
+  pub faults : old.faults ≤ new.faults
 
 -- what a write that failed leaves: the file as it was, or one that lost the range
 abbrev pub MayLose : ℕ → ℕ → Option File → Option File → Type 0

@@ -1,8 +1,8 @@
 pub mod Contents
 pub mod Files
-pub mod Images
 pub mod Histories
+pub mod Causes
 pub mod Steps
 pub mod Recorded
 pub mod Tapes
-pub mod Spans
+pub mod Readings

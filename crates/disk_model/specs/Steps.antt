@@ -1,5 +1,5 @@
 -- What calls do to one file, one after another.
-use Rattle.std.specs.Prelude.{◌≡◌, ℕ, ◌+◌, ◌-◌, ◌==◌, min, List, [], ◌∷◌, ◌++◌, length, take, drop, replicate, if◌then◌else◌, Bool}
+use Rattle.std.specs.Prelude.{ℕ, ◌+◌, ◌-◌, ◌==◌, min, List, [], ◌∷◌, ◌++◌, length, take, drop, replicate, if◌then◌else◌, Bool}
 use Rattle.disk_model.specs.Files.{File, wrote, loosened, settled}
 
 -- a call of a disk
@@ -29,13 +29,6 @@ after (step ∷ steps) file f = after steps file (effect step file f)
 abbrev pub IsQuiet : Step → Type 0
 IsQuiet (Wrote of at bytes) = ⊥
 IsQuiet step = Unit {0}
-
--- a call that does nothing to other files
-abbrev pub IsOf : ℕ → Step → Type 0
-IsOf file Idle = Unit {0}
-IsOf file (Wrote of at bytes) = of ≡ file
-IsOf file (Missed of at len) = of ≡ file
-IsOf file (Synced of) = of ≡ file
 
 -- how many bytes were written
 abbrev pub step_bytes : Step → ℕ

@@ -35,10 +35,6 @@ steps_of (entry ∷ entries) bytes = step_of entry bytes ∷ steps_of entries (d
 abbrev pub Shows : File → List ℕ → List (ℕ × ℕ) → Type 0
 Shows file bytes ranges = (file.seen ≡ bytes) × (file.loose ≡ reverse ranges)
 
--- the same to a read, with the same ranges
-abbrev pub Alike : File → File → Type 0
-Alike f g = (f.seen ≡ g.seen) × (f.loose ≡ g.loose)
-
 -- what a call makes of a file's bytes and ranges
 abbrev pub Makes : Step → ℕ → List ℕ → List (ℕ × ℕ) → List ℕ → List (ℕ × ℕ) → Type 0
 Makes step file bytes ranges new_bytes new_ranges = (f : File) → Shows f bytes ranges → Shows (effect step file f) new_bytes new_ranges

@@ -10,10 +10,12 @@
 mod contents;
 mod disks;
 mod mem_disks;
+mod refusals;
 mod tapes;
 
 pub use disks::{Disk, write_synced};
 pub use mem_disks::MemDisk;
+pub use refusals::LogRefused;
 
 #[cfg(test)]
 mod tests;

@@ -76,7 +76,7 @@ impl MemDisk {
     }
 
     /// Four files with these bytes, synced, and room as in `new`.
-    #[tactic(auto, using(crate::specs::Images::new_stable))]
+    #[tactic(auto, using(crate::proofs::Images::new_stable))]
     pub fn of(
         alloc: Global,
         a: Vec<u8>,
@@ -215,11 +215,11 @@ impl MemDisk {
 }
 
 impl Disk for MemDisk {
-    ghost use Rattle.disk_model.specs.Images.{after_reads, untouched_reads};
+    ghost use Rattle.disk_model.specs.Readings.{reads_image};
 
     ghost history = { history_of };
 
-    ghost reads = { λ disk moment file. after_reads (take moment disk.steps) file (untouched (slice_index_or disk.start file [])) (untouched_reads (slice_index_or disk.start file [])) };
+    ghost reads = { reads_image };
 
     fn len(&mut self, file: u8) -> Result<u64, Failed>
         requires { file < 4 }

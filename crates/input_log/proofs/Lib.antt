@@ -2,4 +2,3 @@ pub mod Gates
 pub mod Reached
 pub mod Scans
 pub mod Stages
-pub mod Torn

@@ -1,5 +1,5 @@
 -- What a stop leaves at each stage of an append, from a disk that may tell its files.
-use Rattle.std.proofs.Common.{◌≡◌, ◌⊎◌, ℕ, ◌+◌, ◌<◌, ◌≤◌, ◌^◌, List, [], ◌∷◌, ◌++◌, length, take, drop, get_or, Option, None, Some, option_map, refl, sym, ◌∙◌, subst, ap, arith, inl, inr, append_assoc, length-append, length-take}
+use Rattle.std.proofs.Common.{◌≡◌, ◌⊎◌, ℕ, ◌+◌, ◌<◌, ◌≤◌, ◌^◌, List, [], ◌∷◌, ◌++◌, length, take, drop, get_or, Option, None, Some, option_map, refl, sym, ◌∙◌, subst, ap, arith, inl, inr, append_assoc, length-take}
 use Rattle.std.specs.Prelude.{IfSome}
 use Rattle.std.proofs.lemmas.Bool.{cases_eq}
 use Rattle.std.proofs.lemmas.List.{take-append-drop, take_at, drop_at, take-take, drop_more, get_or-take, length-take-le, length_push}
@@ -7,26 +7,14 @@ use Rattle.byteorder.specs.Endian.{little_number, little_bytes}
 use Rattle.byteorder.specs.Numbers.{little_number-reads_back}
 use Rattle.aria_base.specs.Faults.{one_more}
 use Rattle.disk_model.specs.Files.{File, IsImage, loosened, untouched, put}
-use Rattle.disk_model.specs.Images.{untouched_image}
-use Rattle.disk_model.specs.Histories.{EachImage, HasImage, IsStable}
+use Rattle.disk_model.specs.Histories.{History, current, EachImage, HasImage, Leaves}
+use Rattle.disk_model.proofs.Images.{untouched_image}
+use Rattle.disk_model.proofs.Spans.{each_more, within_then, within_more}
+use Rattle.disk_model.proofs.Torn.{put_before, put_here, put_length, put_twice, same_part, torn_front, torn_byte}
 use Rattle.input_log.specs.declared.logs.Payload.{Payload}
-use Rattle.input_log.specs.Layout.{Open, next_of, Ends, with_payload, log_from, log_of, with_record, behind_gate, EndsAt, IsWithOrWithout}
+use Rattle.input_log.specs.Layout.{Open, next_of, Ends, with_payload, log_from, log_of, with_record, behind_gate, record_bytes, EndsAt, IsWithOrWithout}
 use Rattle.input_log.proofs.Gates.{openly, closed_next}
 use Rattle.input_log.proofs.Reached.{front_of, same_front, log_record, log_closed, few_records}
-use Rattle.input_log.proofs.Torn.{same_part, torn_front, torn_byte}
-
-module _ (old : List ℕ) (at : ℕ) (bytes : List ℕ) (within : at ≤ length old) where
-  regroup : put old at bytes ≡ take at old ++ (bytes ++ drop (at + length bytes) old)
-  regroup = append_assoc (take at old) bytes (drop (at + length bytes) old)
-
-  pub put_before : take at (put old at bytes) ≡ take at old
-  put_before = ap (λ (l : List ℕ). take at l) regroup ∙ take_at (take at old) (bytes ++ drop (at + length bytes) old) at (length-take-le at old within)
-
-  pub put_here : drop at (put old at bytes) ≡ bytes ++ drop (at + length bytes) old
-  put_here = ap (λ (l : List ℕ). drop at l) regroup ∙ drop_at (take at old) (bytes ++ drop (at + length bytes) old) at (length-take-le at old within)
-
-  pub put_length : at + length bytes ≤ length (put old at bytes)
-  put_length = omega (arith, length-append (take at old ++ bytes) (drop (at + length bytes) old), length-append (take at old) bytes, length-take-le at old within)
 
 -- bytes with an open gate and its record where the log ended
 pub gate_open : (bytes other payload : List ℕ) (payloads : List Payload) (at : ℕ) → log_of bytes ≡ Ends payloads at → take at other ≡ take at bytes → at < length other → get_or other at 0 ≡ 1
@@ -94,14 +82,6 @@ gate_written seen payload payloads at e record_is small =
     let split : get_or new at 0 ∷ drop (at + 1) new ≡ 1 ∷ drop (at + 1) seen = sym (drop_more new at 0 within) ∙ from_gate in
     let behind : drop (at + 1) new ≡ drop (at + 1) seen = cc split in
     gate_open seen new payload payloads at e (put_before seen at (1 ∷ []) room) within (cc split) (ap (λ (l : List ℕ). take (length (behind_gate payload)) l) behind ∙ record_is) small
-
-pub each_more : (told : Option File) (P Q : List ℕ → Type 0) → ((image : List ℕ) → P image → Q image) → EachImage told P → EachImage told Q
-each_more None P Q more each = tt
-each_more (Some f) P Q more each = λ image is. more image (each image is)
-
-pub stable_untouched : (told : Option File) (bytes : File → List ℕ) → IsStable (option_map (λ f. untouched (bytes f)) told)
-stable_untouched None bytes = tt
-stable_untouched (Some f) bytes = untouched_image (bytes f)
 
 -- a file that begins with a closed gate
 pub fresh_ends : (told : Option File) → EachImage (option_map (λ f. untouched (put f.seen 0 (0 ∷ []))) told) (λ image. EndsAt image 0 0)
@@ -196,6 +176,15 @@ module _ (told : Option File) (at batches : ℕ) (payload : List ℕ) (reads : I
             length_push own.0 (record { at = at; bytes = payload }) ∙ ap (λ (n : ℕ). n + 1) own.2 ∙ sym b,
           )
 
+  -- both writes are one of the whole record
+  pub stage_bytes : closed_behind ≡ option_map (λ f. untouched (put f.seen at (record_bytes payload))) told
+  stage_bytes = go told room_behind
+    where
+      go : (t : Option File) → IfSome t (λ f. at + 1 ≤ length f.seen)
+          → option_map (λ f. untouched (put f.seen at (1 ∷ []))) (option_map (λ f. untouched (put f.seen (at + 1) (behind_gate payload))) t) ≡ option_map (λ f. untouched (put f.seen at (record_bytes payload))) t
+      go None room = refl
+      go (Some f) room = ap (λ (l : List ℕ). Some (untouched l)) (put_twice f.seen at (behind_gate payload) 1 room)
+
   -- the count of a log that is told does not reach its last value
   pub one_more_is : at < 2 ^ 63 → (new : ℕ) → new ≡ one_more batches → IfSome told (λ f. new ≡ batches + 1)
   one_more_is short new is = go told counted
@@ -203,3 +192,15 @@ module _ (told : Option File) (at batches : ℕ) (payload : List ℕ) (reads : I
       go : (t : Option File) → IfSome t (λ f. batches ≤ at) → IfSome t (λ f. new ≡ batches + 1)
       go None few = tt
       go (Some f) few = omega (arith, is, few, short)
+
+-- what the two writes leave
+module _ (a b c : History) (file at batches : ℕ) (payload : List ℕ) (reads : IfSome (current a file) (λ f. IsImage f f.seen)) (ends : EachImage (current a file) (λ image. EndsAt image at batches)) where
+  pub record_leaves : (len : ℕ) → Leaves a b file (HasImage (option_map (loosened (at + 1) len) (current a file))) → Leaves a b file (IsWithOrWithout (current a file) payload)
+  record_leaves len writes =
+      within_more a b file _ (λ t. EachImage t (IsWithOrWithout (current a file) payload)) writes (λ t each. each_more t _ _ (stage_record (current a file) at batches payload reads ends len) each)
+
+  pub gate_leaves : (len : ℕ) → length payload < 256 ^ 4 → Leaves a b file (HasImage (option_map (loosened (at + 1) len) (current a file))) → current b file ≡ staged (current a file) at batches payload reads ends
+      → Leaves b c file (HasImage (option_map (loosened at 1) (current b file))) → Leaves a c file (IsWithOrWithout (current a file) payload)
+  gate_leaves len small writes staged_is opens =
+      within_then a b c file _ _ (λ t. EachImage t (IsWithOrWithout (current a file) payload)) (record_leaves len writes) opens (λ t each. each)
+      (λ t each. each_more t _ _ (λ image has. stage_gate (current a file) at batches payload reads ends small image (subst (λ (o : Option File). HasImage (option_map (loosened at 1) o) image) staged_is has)) each)

@@ -1,27 +1,10 @@
--- When a log's calls are refused.
+-- When a call that reads a log is refused.
 use Rattle.std.specs.Prelude.{◌≡◌, ℕ, ⊤, IfSome, drop}
 use Rattle.aria_base.specs.Faults.{Rose}
+use Rattle.disk_model.specs.declared.refusals.LogRefused.{LogRefused}
+use Rattle.disk_model.specs.declared.refusals.LogRefused.TheVariants.{Memory, DiskFault, Damaged}
 use Rattle.disk_model.specs.Histories.{History, current}
-use Rattle.input_log.specs.declared.refusals.LogRefused.{LogRefused}
-use Rattle.input_log.specs.declared.refusals.LogRefused.TheVariants.{Memory, DiskFault, Damaged}
 use Rattle.input_log.specs.Layout.{Breaks, log_of, Broken, next_of}
-
--- a call that only writes: want of memory before the first device call, or a fault of the disk
-abbrev pub WriteCause : {D : Type 0} → (D → History) → D → D → LogRefused → Type 0
-WriteCause history old new Memory = new ≡ old
-WriteCause history old new DiskFault = Rose (history old).faults (history new).faults
-WriteCause history old new (Damaged file at) = ⊥
-
--- a fault of the disk, and nothing else
-abbrev pub FaultOnly : History → History → LogRefused → Type 0
-FaultOnly old new DiskFault = Rose old.faults new.faults
-FaultOnly old new refused = ⊥
-
--- want of memory, or a fault of the disk
-abbrev pub NoDamage : History → History → LogRefused → Type 0
-NoDamage old new Memory = ⊤
-NoDamage old new DiskFault = Rose old.faults new.faults
-NoDamage old new (Damaged file at) = ⊥
 
 -- a call that reads the whole log: damage is that of the bytes
 abbrev pub ReadCause : History → History → ℕ → LogRefused → Type 0

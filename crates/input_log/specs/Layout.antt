@@ -61,6 +61,10 @@ with_record payload (Breaks at) = Breaks at
 abbrev pub behind_gate : List ℕ → List ℕ
 behind_gate payload = little_bytes 4 (length payload) ++ payload ++ 0 ∷ []
 
+-- a record as it stands in a file: its open gate, and what stands behind it
+abbrev pub record_bytes : List ℕ → List ℕ
+record_bytes payload = 1 ∷ behind_gate payload
+
 -- the first closed gate stands there, behind so many records
 abbrev pub EndsAt : List ℕ → ℕ → ℕ → Type 0
 EndsAt bytes at batches = (payloads : List Payload) × (log_of bytes ≡ Ends payloads at) × (length payloads ≡ batches)

@@ -7,10 +7,9 @@
 #![tactic(auto)]
 
 mod logs;
-mod refusals;
 
+pub use disk_model::LogRefused;
 pub use logs::{LogEnd, Payload, append, fresh, scan};
-pub use refusals::LogRefused;
 
 #[cfg(test)]
 mod tests;

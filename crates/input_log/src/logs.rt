@@ -1,14 +1,14 @@
 ghost use Rattle.std.specs.Prelude.{◌≡◌, ◌⊎◌, ◌*◌, ◌+◌, ◌<◌, ◌≤◌, ◌^◌, ◌++◌, [], ◌∷◌, List, length, take, drop, IfOk, IfErr, OnOk, OnErr, IfSome, option_map};
 ghost use Rattle.aria_base.specs.Faults.{one_more};
 ghost use Rattle.disk_model.specs.Files.{untouched, put, loosened};
-ghost use Rattle.disk_model.specs.Histories.{current, EachImage, HasImage, IsStable, Leaves, Keeps};
-ghost use Rattle.input_log.specs.Layout.{Ends, log_of, next_of, next_is, with_record, behind_gate, EndsAt, IsWithOrWithout};
-ghost use Rattle.input_log.specs.Causes.{WriteCause, FaultOnly, NoDamage, ReadCause, GateCause};
+ghost use Rattle.disk_model.specs.Histories.{current, EachImage, HasImage, IsStable, Leaves, Still};
+ghost use Rattle.input_log.specs.Layout.{Ends, log_of, next_of, next_is, with_record, behind_gate, record_bytes, EndsAt, IsWithOrWithout};
+ghost use Rattle.disk_model.specs.Causes.{WriteCause, FaultOnly, NoDamage};
+ghost use Rattle.input_log.specs.Causes.{ReadCause, GateCause};
 
-use crate::LogRefused;
 use aria_base::Bytes;
 use byteorder::{ByteOrder, LittleEndian};
-use disk_model::{Disk, write_synced};
+use disk_model::{Disk, LogRefused, write_synced};
 use std::alloc::{AllocError, Global};
 
 /// The byte of an open gate. Every other byte is a closed one.
@@ -73,7 +73,8 @@ pub fn append<D: Disk>(
     // A stop at any moment leaves the payloads from before, with this one or without.
     ensures images { Leaves (D.history disk.old) (D.history disk.new) end.old.file (IsWithOrWithout (current (D.history disk.old) end.old.file) payload.now) }
 
-    // After Ok each image has it, and the end stands at the closed gate behind it.
+    // After Ok the record and a closed gate stand where the log ended, each image has it, and the end stands at that gate.
+    ensures bytes { OnOk result (current (D.history disk.new) end.old.file ≡ option_map (λ f. untouched (put f.seen end.old.at (record_bytes payload.now))) (current (D.history disk.old) end.old.file)) }
     ensures stored { OnOk result (IfSome (current (D.history disk.old) end.old.file) (λ f. EachImage (current (D.history disk.new) end.old.file) (λ image. log_of image ≡ with_record payload.now (log_of f.seen)))) }
     ensures stable { OnOk result (IsStable (current (D.history disk.new) end.old.file)) }
     ensures ends { OnOk result (EachImage (current (D.history disk.new) end.old.file) (λ image. EndsAt image end.new.at end.new.batches)) }
@@ -114,7 +115,7 @@ pub fn scan<D: Disk>(
     requires { file < 4 }
     ensures log { IfOk result (λ found. IfSome (current (D.history disk.old) file) (λ f. log_of f.seen ≡ Ends found.0.items found.1.at)) }
     ensures end { IfOk result (λ found. (found.1.file ≡ file) × (found.1.batches ≡ length found.0.items)) }
-    ensures keeps { Keeps (D.history disk.old) (D.history disk.new) file }
+    ensures still { Still (D.history disk.old) (D.history disk.new) }
 
     // Where what a read gives is the only image, records can be added at the end.
     ensures ends { IfOk result (λ found. IsStable (current (D.history disk.old) file) → EachImage (current (D.history disk.new) file) (λ image. EndsAt image found.1.at found.1.batches)) }
@@ -145,7 +146,7 @@ fn read_record<D: Disk>(
     requires len { IfSome (current (D.history disk.old) file) (λ f. len ≡ length f.seen) }
     ensures next { IfOk result (λ found. IfSome (current (D.history disk.old) file) (λ f. next_of (drop at f.seen) ≡ next_is found)) }
     ensures within { IfOk result (λ found. IfSome found (λ payload. at + 5 + length payload < len)) }
-    ensures keeps { Keeps (D.history disk.old) (D.history disk.new) file }
+    ensures still { Still (D.history disk.old) (D.history disk.new) }
     ensures refused { IfErr result (GateCause (D.history disk.old) (D.history disk.new) file at) }
 {
     let rest = len - at;
@@ -182,7 +183,7 @@ fn read_bytes<D: Disk>(
     requires within { IfSome (current (D.history disk.old) file) (λ f. at + len ≤ length f.seen) }
     ensures bytes { IfOk result (λ v. IfSome (current (D.history disk.old) file) (λ f. v.items ≡ take len (drop at f.seen))) }
     ensures len { IfOk result (λ v. length v.items ≡ len) }
-    ensures keeps { Keeps (D.history disk.old) (D.history disk.new) file }
+    ensures still { Still (D.history disk.old) (D.history disk.new) }
     ensures refused { IfErr result (NoDamage (D.history disk.old) (D.history disk.new)) }
 {
     let mut bytes = vec![in alloc; 0; len]?;

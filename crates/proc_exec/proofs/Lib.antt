@@ -1,5 +1,4 @@
 mod Ended
-mod KeyParts
 mod Registers
 mod Remainders
 mod TextFacts

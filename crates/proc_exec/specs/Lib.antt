@@ -1,6 +1,5 @@
 pub mod Endings
 pub mod Faults
-pub mod KeyParts
 pub mod Lates
 pub mod Limits
 pub mod Outcomes

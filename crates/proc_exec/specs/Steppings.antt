@@ -10,7 +10,7 @@ use Rattle.batch_rules.specs.Plays.{Seen, PlayEnd, Finishes, Strays, Played, aft
 use Rattle.proc_lang.specs.declared.ends.End.{End}
 use Rattle.proc_lang.specs.declared.ends.End.TheVariants as end
 use Rattle.proc_lang.specs.declared.ends.Trap.TheVariants.{Many}
-use Rattle.proc_lang.specs.declared.ends.TheConstants.{MOST_ACCESSES}
+use Rattle.proc_lang.specs.declared.limits.TheConstants.{MOST_ACCESSES}
 use Rattle.proc_lang.specs.Meaning.{Frame, Next, Run}
 use Rattle.proc_exec.specs.declared.outcomes.Ran.{Ran}
 use Rattle.proc_exec.specs.declared.outcomes.Ran.TheVariants as ran
@@ -47,6 +47,10 @@ Follows (Err (stop.Back code)) limits next frame seen played = played ≡ stoppe
 Follows (Err (stop.Trap trap)) limits next frame seen played = played ≡ stopped (end.Trap trap) seen
 Follows (Err (stop.Moved key)) limits next frame seen played = played ≡ record { end = Strays key; seen = seen }
 
+-- A part of a run, as what comes before what is next: played from the old frame on the old window, it is followed so.
+abbrev pub Performs : {A : Type 0} → Result A Stop → Option (Touchable Key) → (Next → Next) → Frame → Frame → Window → Window → Type 0
+Performs result limits part old new seen seen' = (next : Next) → Follows result limits next new seen' (play limits (part next old) seen)
+
 -- one read of the key: the row, the frame and the window after it, or why it is not made
 abbrev pub Fetched : Result (Option Cells) Stop → Option (Touchable Key) → Key → Frame → Frame → Window → Window → Type 0
 Fetched (Ok row) limits key old new seen seen' = (nat_lt old.made MOST_ACCESSES ≡ true) × (allows_read key_cmp limits key ≡ true) × (row ≡ fin.get seen.map key) × (new ≡ record { regs = old.regs; gives = old.gives; made = old.made + 1 }) × (seen' ≡ after_read seen key)
@@ -59,3 +63,7 @@ Fetched (Err (stop.Moved other)) limits key old new seen seen' = (other ≡ key)
 abbrev pub end_of_ran : Ran → PlayEnd Key End
 end_of_ran (ran.Ended end) = Finishes end
 end_of_ran (ran.Moved key) = Strays key
+
+-- the whole run, played within the limits, comes to this
+abbrev pub ComesTo : Option (Touchable Key) → Run → Window → Window → Ran → Type 0
+ComesTo limits run old new ran = play limits run old ≡ record { end = end_of_ran ran; seen = new }

@@ -1,14 +1,12 @@
 // The statements that make an access: each reads or writes one row, within what the run may touch.
-ghost use Rattle.std.specs.Prelude.{◌≡◌, Option, Some, None};
-ghost use Rattle.batch_rules.specs.Plays.{play};
-ghost use Rattle.batch_rules.specs.Trees.{Writes};
+ghost use Rattle.std.specs.declared.result.Result.TheVariants.{Ok};
 ghost use Rattle.proc_lang.specs.Steps as step;
-ghost use Rattle.proc_lang.specs.Meaning.{Next, counted, step_run};
-ghost use Rattle.proc_exec.specs.Steppings.{Follows, Fetched};
+ghost use Rattle.proc_lang.specs.Meaning.{step_run, writes};
+ghost use Rattle.proc_exec.specs.Steppings.{Performs, Fetched};
 
 use crate::frames::Running;
 use crate::limits::Limits;
-use crate::settings::Setting;
+use crate::scopes::Setting;
 use crate::stops::Stop;
 use aria_base::{Key, Row};
 use proc_lang::{Access, Exprs, Regs, Trap};
@@ -22,7 +20,7 @@ pub fn get<L: Limits, A: Access>(
     state: &mut Running,
     access: &mut A,
 ) -> Result<(), Stop>
-    ensures { (next : Next) → Follows result (L.declared setting.now.limits.now) next state.new (A.seen access.new) (play (L.declared setting.now.limits.now) (step_run setting.now.scope.request.now (step.Get table key.now registers.now) setting.now.scope.item.now next state.old) (A.seen access.old)) }
+    ensures { Performs result (L.declared setting.now.limits.now) (step_run setting.now.scope.request.now (step.Read step.Traps table key.now registers.now) setting.now.scope.item.now) state.old state.new (A.seen access.old) (A.seen access.new) }
 {
     let key = state.key(&setting.scope, table, key)?;
     let Some(row) = fetch(setting.limits, key, state, access)? else {
@@ -42,7 +40,7 @@ pub fn need<L: Limits, A: Access>(
     state: &mut Running,
     access: &mut A,
 ) -> Result<(), Stop>
-    ensures { (next : Next) → Follows result (L.declared setting.now.limits.now) next state.new (A.seen access.new) (play (L.declared setting.now.limits.now) (step_run setting.now.scope.request.now (step.Need table key.now registers.now code) setting.now.scope.item.now next state.old) (A.seen access.old)) }
+    ensures { Performs result (L.declared setting.now.limits.now) (step_run setting.now.scope.request.now (step.Read (step.Fails code) table key.now registers.now) setting.now.scope.item.now) state.old state.new (A.seen access.old) (A.seen access.new) }
 {
     let key = state.key(&setting.scope, table, key)?;
     let Some(row) = fetch(setting.limits, key, state, access)? else {
@@ -62,7 +60,7 @@ pub fn find<L: Limits, A: Access>(
     state: &mut Running,
     access: &mut A,
 ) -> Result<(), Stop>
-    ensures { (next : Next) → Follows result (L.declared setting.now.limits.now) next state.new (A.seen access.new) (play (L.declared setting.now.limits.now) (step_run setting.now.scope.request.now (step.Find table key.now registers.now flag) setting.now.scope.item.now next state.old) (A.seen access.old)) }
+    ensures { Performs result (L.declared setting.now.limits.now) (step_run setting.now.scope.request.now (step.Read (step.Blanks flag) table key.now registers.now) setting.now.scope.item.now) state.old state.new (A.seen access.old) (A.seen access.new) }
 {
     let key = state.key(&setting.scope, table, key)?;
     match fetch(setting.limits, key, state, access)? {
@@ -81,7 +79,7 @@ pub fn put<L: Limits, A: Access>(
     state: &mut Running,
     access: &mut A,
 ) -> Result<(), Stop>
-    ensures { (next : Next) → Follows result (L.declared setting.now.limits.now) next state.new (A.seen access.new) (play (L.declared setting.now.limits.now) (step_run setting.now.scope.request.now (step.Put table key.now columns.now) setting.now.scope.item.now next state.old) (A.seen access.old)) }
+    ensures { Performs result (L.declared setting.now.limits.now) (step_run setting.now.scope.request.now (step.Put table key.now columns.now) setting.now.scope.item.now) state.old state.new (A.seen access.old) (A.seen access.new) }
 {
     let key = state.key(&setting.scope, table, key)?;
     let row = state.row(&setting.scope, columns)?;
@@ -96,7 +94,7 @@ pub fn delete<L: Limits, A: Access>(
     state: &mut Running,
     access: &mut A,
 ) -> Result<(), Stop>
-    ensures { (next : Next) → Follows result (L.declared setting.now.limits.now) next state.new (A.seen access.new) (play (L.declared setting.now.limits.now) (step_run setting.now.scope.request.now (step.Del table key.now) setting.now.scope.item.now next state.old) (A.seen access.old)) }
+    ensures { Performs result (L.declared setting.now.limits.now) (step_run setting.now.scope.request.now (step.Del table key.now) setting.now.scope.item.now) state.old state.new (A.seen access.old) (A.seen access.new) }
 {
     let key = state.key(&setting.scope, table, key)?;
     store(setting.limits, key, None, state, access)
@@ -126,7 +124,7 @@ fn store<L: Limits, A: Access>(
     state: &mut Running,
     access: &mut A,
 ) -> Result<(), Stop>
-    ensures { (next : Next) → Follows result (L.declared limits.now) next state.new (A.seen access.new) (play (L.declared limits.now) (counted state.old (λ f. Writes key row (next f))) (A.seen access.old)) }
+    ensures { Performs result (L.declared limits.now) (writes (Ok key) (Ok row)) state.old state.new (A.seen access.old) (A.seen access.new) }
 {
     state.count()?;
     if !limits.allows_write(&key) {

@@ -7,7 +7,6 @@ ghost use Rattle.proc_lang.specs.TermOf.{term_of};
 ghost use Rattle.proc_lang.specs.Values.{blank, got};
 ghost use Rattle.proc_lang.specs.Meaning.{Next, step_run, begun, set_to, set_all, blank_all, blank_one, value_of, values_of, key_from, row_from, part_of, parts_of};
 ghost use Rattle.proc_exec.specs.Faults.{Computes};
-ghost use Rattle.proc_exec.specs.KeyParts.{key_parts};
 ghost use Rattle.proc_exec.specs.Steppings.{Counts, Goes};
 
 use crate::evaluations::{eval, eval_all};
@@ -16,7 +15,7 @@ use crate::stops::Fault;
 use crate::texts::kept;
 use aria_base::{Key, Kind, Kinded, Kinds, Memory, Part, Parts, Row, Value};
 use proc_lang::{
-    Expr, Exprs, Gives, MOST_ACCESSES, MOST_COLUMNS, MOST_GIVEN, MOST_KEY_PARTS, Regs, Trap,
+    Expr, Exprs, Gives, MOST_ACCESSES, MOST_COLUMNS, MOST_GIVEN, Regs, Trap,
 };
 use std::alloc::Global;
 use std::marker::Model;
@@ -32,7 +31,7 @@ pub struct Running {
 impl Model for Running {
     ghost use Rattle.std.specs.Prelude.{length, ◌≤◌};
     ghost use Rattle.proc_lang.specs.Meaning.{Frame};
-    ghost use Rattle.proc_lang.specs.declared.ends.TheConstants.{MOST_GIVEN};
+    ghost use Rattle.proc_lang.specs.declared.limits.TheConstants.{MOST_GIVEN};
 
     ghost Value = { Frame };
 
@@ -93,20 +92,12 @@ impl Running {
                 self.part(scope, d)?,
                 self.part(scope, e)?,
             )),
-            _ => self.many_parts(scope, exprs),
+            // no key: all are evaluated, since one may trap, and the single 0 stands for the parts
+            _ => {
+                eval_all(scope, &self.registers, exprs)?;
+                Ok(Parts::one(Part::Int(0)))
+            }
         }
-    }
-
-    /// The same, of any number of expressions.
-    #[tactic(auto, using(crate::proofs::KeyParts::one_more))]
-    fn many_parts(&self, scope: &Scope, exprs: &Exprs) -> Result<Parts, Fault>
-        ensures { Computes result (got (values_of scope.now.request.now scope.now.item.now self.now.regs exprs.now) (λ vs. Ok (parts_of vs))) }
-    {
-        let mut parts = Vec::with_capacity(scope.alloc, exprs.as_slice().len())?;
-        for expr in exprs.as_slice() {
-            parts.push(part(eval(scope, &self.registers, expr)?))?;
-        }
-        Ok(key_parts(scope.alloc, parts)?)
     }
 
     /// The value of an expression as a part of a key.
@@ -250,16 +241,4 @@ fn part(value: Value) -> Part
         Value::Int(number) => Part::Int(number),
         Value::Text(text) => Part::Text(text),
     }
-}
-
-/// The parts as those of a key: where they are too few or too many, the single 0.
-fn key_parts(alloc: Global, parts: Vec<Part>) -> Result<Parts, Memory>
-    ensures { IfOk result (λ made. made ≡ key_parts parts.items) }
-{
-    if parts.is_empty() || MOST_KEY_PARTS < parts.len() {
-        let mut zero = Vec::with_capacity(alloc, 1)?;
-        zero.push(Part::Int(0))?;
-        return Ok(Parts::from_vec(zero));
-    }
-    Ok(Parts::from_vec(parts))
 }

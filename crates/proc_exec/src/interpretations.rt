@@ -1,12 +1,13 @@
 // What a request of a catalogue does through a window.
-ghost use Rattle.std.specs.Prelude.{◌≡◌, IfOk, []};
+ghost use Rattle.std.specs.Prelude.{IfOk};
 ghost use Rattle.proc_lang.specs.Catalogs.{run_of};
-ghost use Rattle.proc_lang.specs.declared.ends.End.TheVariants as end;
 ghost use Rattle.proc_exec.specs.Endings.{EndsAs, EndsWithin};
 ghost use Rattle.proc_exec.specs.Limits.{touchable};
+ghost use Rattle.proc_exec.specs.Steppings.{ComesTo};
 
+use crate::limits::{Limits, Unlimited};
 use crate::outcomes::{Declared, Ran};
-use crate::runs::{run_body, run_body_within};
+use crate::runs::run_proc;
 use aria_base::{Memory, Request};
 use proc_lang::{Access, Catalog, End, Gives};
 use std::alloc::Global;
@@ -24,17 +25,15 @@ pub fn interpret<A: Access>(
 ) -> Result<End, Memory>
     ensures { IfOk result (EndsAs (run_of catalog.now request.now) (A.seen access.old) (A.seen access.new)) }
 {
-    match catalog.procs().get(usize::from(request.call.proc)) {
-        Some(checked) => {
-            let proc = checked.proc();
-            run_body(alloc, &proc.body, &proc.regs, request, access)
-        }
-        None => Ok(nothing_given(alloc)),
+    match run_request(alloc, &Unlimited, catalog, request, access)? {
+        Ran::Ended(end) => Ok(end),
+        Ran::Moved(_) => unreachable!(),
     }
 }
 
 /// The same within declared keys: the run stops before its first access that they do not allow, and
 /// names its key. Nothing is said of the window then, nor after want of memory.
+#[tactic(auto, using(crate::proofs::Ended::ends_within))]
 pub fn interpret_within<A: Access>(
     alloc: Global,
     catalog: &Catalog,
@@ -44,18 +43,21 @@ pub fn interpret_within<A: Access>(
 ) -> Result<Ran, Memory>
     ensures { IfOk result (EndsWithin (touchable declared.now) (run_of catalog.now request.now) (A.seen access.old) (A.seen access.new)) }
 {
-    match catalog.procs().get(usize::from(request.call.proc)) {
-        Some(checked) => {
-            let proc = checked.proc();
-            run_body_within(alloc, &proc.body, &proc.regs, request, declared, access)
-        }
-        None => Ok(Ran::Ended(nothing_given(alloc))),
-    }
+    run_request(alloc, declared, catalog, request, access)
 }
 
-/// The end of a run that does nothing.
-fn nothing_given(alloc: Global) -> End
-    ensures { result ≡ end.Done [] }
+/// Runs a request within these limits, whichever they are.
+fn run_request<L: Limits, A: Access>(
+    alloc: Global,
+    limits: &L,
+    catalog: &Catalog,
+    request: &Request,
+    access: &mut A,
+) -> Result<Ran, Memory>
+    ensures { IfOk result (ComesTo (L.declared limits.now) (run_of catalog.now request.now) (A.seen access.old) (A.seen access.new)) }
 {
-    End::Done(Gives::from_vec(Vec::new(alloc)))
+    match catalog.procs().get(usize::from(request.call.proc)) {
+        Some(checked) => run_proc(alloc, limits, checked.proc(), request, access),
+        None => Ok(Ran::Ended(End::Done(Gives::from_vec(Vec::new(alloc))))),
+    }
 }

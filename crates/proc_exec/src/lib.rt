@@ -14,10 +14,10 @@ mod frames;
 mod interpretations;
 mod limits;
 mod numbers;
+mod operands;
 mod outcomes;
 mod runs;
 mod scopes;
-mod settings;
 mod stops;
 mod texts;
 

@@ -1,5 +1,5 @@
 // Operations on the numbers of values.
-ghost use Rattle.std.specs.Prelude.{◌≡◌, ◌≢◌, ◌*ℤ◌, ◌+ℤ◌, ◌-ℤ◌, ◌≤◌, ◌^◌, pos, unsigned_abs, neg_ℤ};
+ghost use Rattle.std.specs.Prelude.{◌≡◌, ◌≢◌, ◌&&◌, ◌||◌, int_lt, int_le, ◌*ℤ◌, ◌+ℤ◌, ◌-ℤ◌, ◌≤◌, ◌^◌, pos, unsigned_abs, neg_ℤ};
 ghost use Rattle.proc_lang.specs.Values.{int_of, is_true, truth, number, quotient, divided, remainder};
 ghost use Rattle.proc_exec.specs.Faults.{Computes};
 
@@ -36,6 +36,34 @@ pub fn holds(value: &Value) -> bool
     ensures { result ≡ is_true value.now }
 {
     int(value) != 0
+}
+
+/// Whether the first number is less.
+pub fn less(pair: &(Value, Value)) -> Value
+    ensures { result ≡ truth (int_lt (int_of pair.now.0) (int_of pair.now.1)) }
+{
+    truth_value(int(&pair.0) < int(&pair.1))
+}
+
+/// Whether the first number is at most the second.
+pub fn at_most(pair: &(Value, Value)) -> Value
+    ensures { result ≡ truth (int_le (int_of pair.now.0) (int_of pair.now.1)) }
+{
+    truth_value(int(&pair.0) <= int(&pair.1))
+}
+
+/// Whether both numbers are not 0.
+pub fn all_hold(pair: &(Value, Value)) -> Value
+    ensures { result ≡ truth (is_true pair.now.0 && is_true pair.now.1) }
+{
+    truth_value(holds(&pair.0) && holds(&pair.1))
+}
+
+/// Whether one of the numbers is not 0.
+pub fn one_holds(pair: &(Value, Value)) -> Value
+    ensures { result ≡ truth (is_true pair.now.0 || is_true pair.now.1) }
+{
+    truth_value(holds(&pair.0) || holds(&pair.1))
 }
 
 /// The number as a value, where it is within the 64-bit numbers.

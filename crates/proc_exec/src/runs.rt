@@ -1,24 +1,61 @@
-// The interpreter.
-ghost use Rattle.std.specs.Prelude.{◌≡◌, IfOk};
-ghost use Rattle.batch_rules.specs.Plays.{play};
+// The statements of a procedure, one after another.
+ghost use Rattle.std.specs.Prelude.{IfOk};
 ghost use Rattle.proc_lang.specs.Steps as step;
 ghost use Rattle.proc_lang.specs.Syntax.{step_of};
-ghost use Rattle.proc_lang.specs.Meaning.{Next, step_run, steps_run, script};
-ghost use Rattle.proc_exec.specs.Endings.{EndsAs, EndsWithin};
-ghost use Rattle.proc_exec.specs.Limits.{touchable};
-ghost use Rattle.proc_exec.specs.Steppings.{Follows, end_of_ran};
+ghost use Rattle.proc_lang.specs.Meaning.{step_run, steps_run, script};
+ghost use Rattle.proc_exec.specs.Steppings.{Performs, ComesTo};
 
 use crate::accesses::{delete, find, get, need, put};
 use crate::frames::Running;
-use crate::limits::{Limits, Unlimited};
+use crate::limits::Limits;
 use crate::numbers::holds;
-use crate::outcomes::{Declared, Ran};
-use crate::scopes::Scope;
-use crate::settings::Setting;
+use crate::outcomes::Ran;
+use crate::scopes::{Scope, Setting};
 use crate::stops::Stop;
-use aria_base::{Kinds, Memory, Request};
-use proc_lang::{Access, Block, End, Stmt};
+use aria_base::{Memory, Request};
+use proc_lang::{Access, Block, End, Proc, Stmt};
 use std::alloc::Global;
+
+/// Runs a procedure for a request, within these limits.
+pub fn run_proc<L: Limits, A: Access>(
+    alloc: Global,
+    limits: &L,
+    proc: &Proc,
+    request: &Request,
+    access: &mut A,
+) -> Result<Ran, Memory>
+    ensures { IfOk result (ComesTo (L.declared limits.now) (script proc.now.body proc.now.regs request.now) (A.seen access.old) (A.seen access.new)) }
+{
+    let scope = Scope {
+        alloc,
+        request,
+        item: &[],
+    };
+    let mut state = Running::start(alloc, &proc.regs)?;
+    match run_block(&Setting { scope, limits }, &proc.body, &mut state, access) {
+        Ok(()) => Ok(Ran::Ended(End::Done(state.into_given()))),
+        Err(Stop::Back(code)) => Ok(Ran::Ended(End::Back(code))),
+        Err(Stop::Trap(trap)) => Ok(Ran::Ended(End::Trap(trap))),
+        Err(Stop::Moved(key)) => Ok(Ran::Moved(key)),
+        Err(Stop::Memory) => Err(Memory),
+    }
+}
+
+/// Runs the statements of a block, one after another.
+#[cycle(running)]
+fn run_block<L: Limits, A: Access>(
+    setting: &Setting<L>,
+    block: &Block,
+    state: &mut Running,
+    access: &mut A,
+) -> Result<(), Stop>
+    ensures { Performs result (L.declared setting.now.limits.now) (steps_run setting.now.scope.request.now block.now setting.now.scope.item.now) state.old state.new (A.seen access.old) (A.seen access.new) }
+{
+    for stmt in block.as_slice() {
+        run_stmt(setting, stmt, state, access)?;
+    }
+    Ok(())
+}
 
 /// Runs one statement.
 #[cycle(running)]
@@ -28,7 +65,7 @@ fn run_stmt<L: Limits, A: Access>(
     state: &mut Running,
     access: &mut A,
 ) -> Result<(), Stop>
-    ensures { (next : Next) → Follows result (L.declared setting.now.limits.now) next state.new (A.seen access.new) (play (L.declared setting.now.limits.now) (step_run setting.now.scope.request.now (step_of stmt.now) setting.now.scope.item.now next state.old) (A.seen access.old)) }
+    ensures { Performs result (L.declared setting.now.limits.now) (step_run setting.now.scope.request.now (step_of stmt.now) setting.now.scope.item.now) state.old state.new (A.seen access.old) (A.seen access.new) }
 {
     match stmt {
         Stmt::Let(register, expr) => Ok(state.assign(&setting.scope, *register, expr)?),
@@ -52,22 +89,6 @@ fn run_stmt<L: Limits, A: Access>(
     }
 }
 
-/// Runs the statements of a block, one after another.
-#[cycle(running)]
-fn run_block<L: Limits, A: Access>(
-    setting: &Setting<L>,
-    block: &Block,
-    state: &mut Running,
-    access: &mut A,
-) -> Result<(), Stop>
-    ensures { (next : Next) → Follows result (L.declared setting.now.limits.now) next state.new (A.seen access.new) (play (L.declared setting.now.limits.now) (steps_run setting.now.scope.request.now block.now setting.now.scope.item.now next state.old) (A.seen access.old)) }
-{
-    for stmt in block.as_slice() {
-        run_stmt(setting, stmt, state, access)?;
-    }
-    Ok(())
-}
-
 /// Runs a block for each tuple of a list argument.
 #[cycle(running)]
 fn run_each<L: Limits, A: Access>(
@@ -77,7 +98,7 @@ fn run_each<L: Limits, A: Access>(
     state: &mut Running,
     access: &mut A,
 ) -> Result<(), Stop>
-    ensures { (next : Next) → Follows result (L.declared setting.now.limits.now) next state.new (A.seen access.new) (play (L.declared setting.now.limits.now) (step_run setting.now.scope.request.now (step.Each argument block.now) setting.now.scope.item.now next state.old) (A.seen access.old)) }
+    ensures { Performs result (L.declared setting.now.limits.now) (step_run setting.now.scope.request.now (step.Each argument block.now) setting.now.scope.item.now) state.old state.new (A.seen access.old) (A.seen access.new) }
 {
     let scope = &setting.scope;
     for tuple in scope.tuples(argument) {
@@ -91,65 +112,4 @@ fn run_each<L: Limits, A: Access>(
         run_block(&inner, block, state, access)?;
     }
     Ok(())
-}
-
-/// Runs a whole body, within these limits.
-fn run_within<L: Limits, A: Access>(
-    alloc: Global,
-    limits: &L,
-    body: &Block,
-    registers: &Kinds,
-    request: &Request,
-    access: &mut A,
-) -> Result<Ran, Memory>
-    ensures { IfOk result (λ ran. play (L.declared limits.now) (script body.now registers.now request.now) (A.seen access.old) ≡ record { end = end_of_ran ran; seen = A.seen access.new }) }
-{
-    let mut state = Running::start(alloc, registers)?;
-    let scope = Scope {
-        alloc,
-        request,
-        item: &[],
-    };
-    match run_block(&Setting { scope, limits }, body, &mut state, access) {
-        Ok(()) => Ok(Ran::Ended(End::Done(state.into_given()))),
-        Err(Stop::Back(code)) => Ok(Ran::Ended(End::Back(code))),
-        Err(Stop::Trap(trap)) => Ok(Ran::Ended(End::Trap(trap))),
-        Err(Stop::Moved(key)) => Ok(Ran::Moved(key)),
-        Err(Stop::Memory) => Err(Memory),
-    }
-}
-
-/// Runs a body for a request through the window: its end, or want of memory. The registers have these
-/// kinds. Whatever the end, the window has then noted what the run touched, and its map has all that
-/// the run wrote: a `Back` or a `Trap` takes nothing back here. After want of memory nothing is said of
-/// the window.
-pub(crate) fn run_body<A: Access>(
-    alloc: Global,
-    body: &Block,
-    registers: &Kinds,
-    request: &Request,
-    access: &mut A,
-) -> Result<End, Memory>
-    ensures { IfOk result (EndsAs (script body.now registers.now request.now) (A.seen access.old) (A.seen access.new)) }
-{
-    match run_within(alloc, &Unlimited, body, registers, request, access)? {
-        Ran::Ended(end) => Ok(end),
-        Ran::Moved(_) => unreachable!(),
-    }
-}
-
-/// The same within declared keys: the run stops before its first access that they do not allow, and
-/// names its key. Nothing is said of the window then.
-#[tactic(auto, using(crate::proofs::Ended::ends_within))]
-pub(crate) fn run_body_within<A: Access>(
-    alloc: Global,
-    body: &Block,
-    registers: &Kinds,
-    request: &Request,
-    declared: &Declared,
-    access: &mut A,
-) -> Result<Ran, Memory>
-    ensures { IfOk result (EndsWithin (touchable declared.now) (script body.now registers.now request.now) (A.seen access.old) (A.seen access.new)) }
-{
-    run_within(alloc, declared, body, registers, request, access)
 }

@@ -1,4 +1,4 @@
-// Where expressions are evaluated.
+// Where expressions are evaluated, and statements run.
 ghost use Rattle.std.specs.Prelude.{◌≡◌, IfOk, pos, slice_get, slice_index_or};
 ghost use Rattle.proc_lang.specs.Values.{me_of, tuples_of, value_of_arg};
 
@@ -15,6 +15,15 @@ pub struct Scope<'a> {
     pub request: &'a Request,
     /// The tuple of the `Each` around whose turn it is; outside of one it has no numbers.
     pub item: &'a [i64],
+}
+
+/// Where a statement is run: what stays the same from one statement of a block to the next.
+#[derive_where(Clone, Copy)]
+pub struct Setting<'a, L> {
+    /// Where its expressions are evaluated.
+    pub scope: Scope<'a>,
+    /// What its accesses may touch.
+    pub limits: &'a L,
 }
 
 impl<'a> Scope<'a> {

@@ -3,7 +3,7 @@ ghost use Rattle.std.specs.Prelude.{◌≡◌, ◌++◌, ◌≤◌, length, take
 ghost use Rattle.std.specs.declared.result.Result.TheVariants.{Ok};
 ghost use Rattle.std.specs.Fmt.{signed_decimal};
 ghost use Rattle.aria_base.specs.Texts.{IsText};
-ghost use Rattle.aria_base.specs.declared.texts.TheConstants.{LONGEST_TEXT};
+ghost use Rattle.aria_base.specs.declared.limits.TheConstants.{LONGEST_TEXT};
 ghost use Rattle.proc_lang.specs.Values.{text_of, same_value, joined, front};
 ghost use Rattle.proc_exec.specs.Faults.{Computes};
 

@@ -13,9 +13,9 @@ use Rattle.proc_lang.specs.declared.ends.End.TheVariants as end
 use Rattle.proc_lang.specs.declared.procs.ArgKind.{ArgKind}
 use Rattle.proc_lang.specs.declared.procs.ArgKind.TheVariants as kind
 use Rattle.proc_lang.specs.declared.procs.Proc.{Proc}
-use Rattle.proc_lang.specs.declared.catalogs.TheConstants.{MOST_TABLES, MOST_PROCS, MOST_KEY_PARTS, MOST_COLUMNS, MOST_ARGS, MOST_REGS, MOST_STATEMENTS, DEEPEST_EXPR, GREATEST_CODE, MOST_FRONT}
-use Rattle.proc_lang.specs.Terms.{Term, Num, Text, Me, Named, By, Of, MulDiv, Front}
-use Rattle.proc_lang.specs.Steps.{Step, Steps, NoMore, More}
+use Rattle.proc_lang.specs.declared.limits.TheConstants.{MOST_TABLES, MOST_PROCS, MOST_KEY_PARTS, MOST_COLUMNS, MOST_ARGS, MOST_REGS, MOST_STATEMENTS, DEEPEST_EXPR, GREATEST_CODE, MOST_FRONT}
+use Rattle.proc_lang.specs.Terms.{Term, Num, Text, Me, Named, Unary, Binary, MulDiv, Front}
+use Rattle.proc_lang.specs.Steps.{Absence, Traps, Fails, Blanks, Step, Steps, NoMore, More}
 use Rattle.proc_lang.specs.Steps as step
 use Rattle.proc_lang.specs.Meaning.{Run, script}
 use Rattle.proc_lang.specs.Typing.{IsWellTyped}
@@ -35,9 +35,9 @@ abbrev pub depth : Term → ℕ
 depth (Num z) = 1
 depth (Text bytes) = 1
 depth Me = 1
-depth (Named p n) = 1
-depth (By o a) = 1 + depth a
-depth (Of o a b) = 1 + max (depth a) (depth b)
+depth (Named from n) = 1
+depth (Unary o a) = 1 + depth a
+depth (Binary o a b) = 1 + max (depth a) (depth b)
 depth (MulDiv a b c) = 1 + max (max (depth a) (depth b)) (depth c)
 depth (Front a b most) = 1 + max (depth a) (depth b)
 
@@ -46,9 +46,9 @@ abbrev pub fronts_fit : Term → Bool
 fronts_fit (Num z) = true
 fronts_fit (Text bytes) = true
 fronts_fit Me = true
-fronts_fit (Named p n) = true
-fronts_fit (By o a) = fronts_fit a
-fronts_fit (Of o a b) = fronts_fit a && fronts_fit b
+fronts_fit (Named from n) = true
+fronts_fit (Unary o a) = fronts_fit a
+fronts_fit (Binary o a b) = fronts_fit a && fronts_fit b
 fronts_fit (MulDiv a b c) = fronts_fit a && fronts_fit b && fronts_fit c
 fronts_fit (Front a b most) = nat_le most MOST_FRONT && fronts_fit a && fronts_fit b
 
@@ -58,13 +58,16 @@ term_fits t = nat_le (depth t) DEEPEST_EXPR && fronts_fit t
 abbrev pub code_fits : ℕ → Bool
 code_fits code = is_between 1 GREATEST_CODE code
 
+abbrev pub absence_fits : Absence → Bool
+absence_fits Traps = true
+absence_fits (Fails code) = code_fits code
+absence_fits (Blanks flag) = true
+
 -- how many statements there are, those in blocks included
 abbrev mutual
   pub step_count : Step → ℕ
   step_count (step.Let n e) = 1
-  step_count (step.Get t ks rs) = 1
-  step_count (step.Need t ks rs code) = 1
-  step_count (step.Find t ks rs flag) = 1
+  step_count (step.Read absence t ks rs) = 1
   step_count (step.Put t ks es) = 1
   step_count (step.Del t ks) = 1
   step_count (step.If e a b) = 1 + (steps_count a + steps_count b)
@@ -79,9 +82,7 @@ abbrev mutual
 abbrev mutual
   pub step_fits : Step → Bool
   step_fits (step.Let n e) = term_fits e
-  step_fits (step.Get t ks rs) = list_all term_fits ks
-  step_fits (step.Need t ks rs code) = list_all term_fits ks && code_fits code
-  step_fits (step.Find t ks rs flag) = list_all term_fits ks
+  step_fits (step.Read absence t ks rs) = list_all term_fits ks && absence_fits absence
   step_fits (step.Put t ks es) = list_all term_fits ks && list_all term_fits es
   step_fits (step.Del t ks) = list_all term_fits ks
   step_fits (step.If e a b) = term_fits e && steps_fit a && steps_fit b

@@ -16,49 +16,54 @@ use Rattle.batch_rules.specs.Trees.{Tree, Ends, Reads, Writes}
 use Rattle.proc_lang.specs.declared.ends.End.{End}
 use Rattle.proc_lang.specs.declared.ends.End.TheVariants as end
 use Rattle.proc_lang.specs.declared.ends.Trap.TheVariants.{Absent, Many}
-use Rattle.proc_lang.specs.declared.catalogs.TheConstants.{MOST_KEY_PARTS, MOST_COLUMNS}
-use Rattle.proc_lang.specs.declared.ends.TheConstants.{MOST_ACCESSES, MOST_GIVEN}
+use Rattle.proc_lang.specs.declared.limits.TheConstants.{MOST_KEY_PARTS, MOST_COLUMNS, MOST_ACCESSES, MOST_GIVEN}
+use Rattle.proc_lang.specs.declared.operators.Source.{Source}
+use Rattle.proc_lang.specs.declared.operators.Source.TheVariants as source
+use Rattle.proc_lang.specs.declared.operators.UnaryOp.{UnaryOp}
+use Rattle.proc_lang.specs.declared.operators.UnaryOp.TheVariants as unary
+use Rattle.proc_lang.specs.declared.operators.BinaryOp.{BinaryOp}
+use Rattle.proc_lang.specs.declared.operators.BinaryOp.TheVariants as binary
 use Rattle.proc_lang.specs.Terms.{Term}
 use Rattle.proc_lang.specs.Terms as term
-use Rattle.proc_lang.specs.Steps.{Step, Steps, NoMore, More}
+use Rattle.proc_lang.specs.Steps.{Absence, Traps, Fails, Blanks, Step, Steps, NoMore, More}
 use Rattle.proc_lang.specs.Steps as step
 use Rattle.proc_lang.specs.Values.{Got, got, both, int_of, text_of, is_true, truth, blank, same_value, number, divided, remainder, joined, front, me_of, value_of_arg, tuples_of}
 
 -- ---- operators
 
-abbrev pub by_unary : term.Unary → Value → Value
-by_unary term.Not v = truth (not (is_true v))
-by_unary term.Show v = value.Text (signed_decimal (int_of v))
+abbrev pub by_unary : UnaryOp → Value → Value
+by_unary unary.Not v = truth (not (is_true v))
+by_unary unary.Show v = value.Text (signed_decimal (int_of v))
 
-abbrev pub by_binary : term.Binary → Value × Value → Got Value
-by_binary term.Add p = number (int_of p.0 +ℤ int_of p.1)
-by_binary term.Sub p = number (int_of p.0 -ℤ int_of p.1)
-by_binary term.Mul p = number (int_of p.0 *ℤ int_of p.1)
-by_binary term.Div p = divided (int_of p.0) (int_of p.1)
-by_binary term.Mod p = remainder (int_of p.0) (int_of p.1)
-by_binary term.Eq p = Ok (truth (same_value p.0 p.1))
-by_binary term.Ne p = Ok (truth (not (same_value p.0 p.1)))
-by_binary term.Lt p = Ok (truth (int_lt (int_of p.0) (int_of p.1)))
-by_binary term.Le p = Ok (truth (int_le (int_of p.0) (int_of p.1)))
-by_binary term.And p = Ok (truth (is_true p.0 && is_true p.1))
-by_binary term.Or p = Ok (truth (is_true p.0 || is_true p.1))
-by_binary term.Cat p = joined (text_of p.0) (text_of p.1)
+abbrev pub by_binary : BinaryOp → Value × Value → Got Value
+by_binary binary.Add p = number (int_of p.0 +ℤ int_of p.1)
+by_binary binary.Sub p = number (int_of p.0 -ℤ int_of p.1)
+by_binary binary.Mul p = number (int_of p.0 *ℤ int_of p.1)
+by_binary binary.Div p = divided (int_of p.0) (int_of p.1)
+by_binary binary.Mod p = remainder (int_of p.0) (int_of p.1)
+by_binary binary.Eq p = Ok (truth (same_value p.0 p.1))
+by_binary binary.Ne p = Ok (truth (not (same_value p.0 p.1)))
+by_binary binary.Lt p = Ok (truth (int_lt (int_of p.0) (int_of p.1)))
+by_binary binary.Le p = Ok (truth (int_le (int_of p.0) (int_of p.1)))
+by_binary binary.And p = Ok (truth (is_true p.0 && is_true p.1))
+by_binary binary.Or p = Ok (truth (is_true p.0 || is_true p.1))
+by_binary binary.Cat p = joined (text_of p.0) (text_of p.1)
 
 -- ---- expressions: the request, the current tuple of an `each`, the registers
 
-abbrev pub named_value : Request → List ℤ → List Value → term.Plain → ℕ → Value
-named_value r item regs term.Reg n = slice_index_or regs n (value.Int (pos 0))
-named_value r item regs term.Arg n = value_of_arg (slice_get r.call.args n)
-named_value r item regs term.Item n = value.Int (slice_index_or item n (pos 0))
-named_value r item regs term.Len n = value.Int (pos (length (tuples_of (slice_get r.call.args n))))
+abbrev pub named_value : Request → List ℤ → List Value → Source → ℕ → Value
+named_value r item regs source.Reg n = slice_index_or regs n (value.Int (pos 0))
+named_value r item regs source.Arg n = value_of_arg (slice_get r.call.args n)
+named_value r item regs source.Item n = value.Int (slice_index_or item n (pos 0))
+named_value r item regs source.Len n = value.Int (pos (length (tuples_of (slice_get r.call.args n))))
 
 abbrev pub value_of : Request → List ℤ → List Value → Term → Got Value
 value_of r item regs (term.Num z) = Ok (value.Int z)
 value_of r item regs (term.Text bytes) = Ok (value.Text bytes)
 value_of r item regs term.Me = Ok (me_of r.q)
-value_of r item regs (term.Named p n) = Ok (named_value r item regs p n)
-value_of r item regs (term.By o a) = got (value_of r item regs a) (λ v. Ok (by_unary o v))
-value_of r item regs (term.Of o a b) = got (both (value_of r item regs a) (value_of r item regs b)) (by_binary o)
+value_of r item regs (term.Named from n) = Ok (named_value r item regs from n)
+value_of r item regs (term.Unary o a) = got (value_of r item regs a) (λ v. Ok (by_unary o v))
+value_of r item regs (term.Binary o a b) = got (both (value_of r item regs a) (value_of r item regs b)) (by_binary o)
 value_of r item regs (term.MulDiv a b c) = got (both (both (value_of r item regs a) (value_of r item regs b)) (value_of r item regs c)) (λ p. divided (int_of p.0.0 *ℤ int_of p.0.1) (int_of p.1))
 value_of r item regs (term.Front a b n) = got (both (value_of r item regs a) (value_of r item regs b)) (λ p. Ok (front (text_of p.0) (text_of p.1) n))
 
@@ -142,6 +147,11 @@ abbrev pub find_in : List ℕ → ℕ → Next → Frame → Option Cells → Ru
 find_in rs flag next f (Some row) = next (set_to f (slice_set (set_all rs row f.regs) flag (value.Int (pos 1))))
 find_in rs flag next f None = next (set_to f (slice_set (blank_all rs f.regs) flag (value.Int (pos 0))))
 
+abbrev pub row_or : Absence → List ℕ → Next → Frame → Option Cells → Run
+row_or Traps rs next = read_or (end.Trap Absent) rs next
+row_or (Fails code) rs next = read_or (end.Back code) rs next
+row_or (Blanks flag) rs next = find_in rs flag next
+
 abbrev pub gives : Next → Frame → Value → Run
 gives next f v = if nat_lt (length f.gives) MOST_GIVEN then next (record { regs = f.regs; gives = f.gives ++ v ∷ []; made = f.made }) else Ends (end.Trap Many)
 
@@ -152,9 +162,7 @@ for_each body (t ∷ ts) next f = body t (for_each body ts next) f
 abbrev mutual
   pub step_run : Request → Step → List ℤ → Next → Next
   step_run r (step.Let n e) item next f = with (value_of r item f.regs e) (λ v. next (set_to f (slice_set f.regs n v)))
-  step_run r (step.Get t ks rs) item next f = reads (key_from r item f.regs t ks) (read_or (end.Trap Absent) rs next) f
-  step_run r (step.Need t ks rs code) item next f = reads (key_from r item f.regs t ks) (read_or (end.Back code) rs next) f
-  step_run r (step.Find t ks rs flag) item next f = reads (key_from r item f.regs t ks) (find_in rs flag next) f
+  step_run r (step.Read absence t ks rs) item next f = reads (key_from r item f.regs t ks) (row_or absence rs next) f
   step_run r (step.Put t ks es) item next f = writes (key_from r item f.regs t ks) (got (row_from r item f.regs es) (λ row. Ok (Some row))) next f
   step_run r (step.Del t ks) item next f = writes (key_from r item f.regs t ks) (Ok None) next f
   step_run r (step.If e a b) item next f = with (value_of r item f.regs e) (λ v. if is_true v then steps_run r a item next f else steps_run r b item next f)

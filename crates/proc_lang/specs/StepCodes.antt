@@ -1,86 +1,55 @@
--- How statements are kept as ghost values, and found again. No rule rests on the form: it only has to tell blocks apart.
-use Rattle.std.specs.Prelude.{◌≡◌, ℕ, ◌==◌, if◌then◌else◌, refl}
-use Rattle.std.specs.Coded.{Coded, code_by}
+-- How statements are kept as ghost values. No rule rests on the form: it only has to tell blocks apart.
+use Rattle.std.specs.Prelude.{◌≡◌, ◌==◌, refl}
+use mathlib.Core.Path.{ap, subst}
+use lib.Dec.{T}
+use Rattle.std.specs.Coded.{Coded}
 use base.Stored.{Gv, gnil, gnum, gcons, num}
-use Rattle.proc_lang.specs.Steps.{Step, Let, Get, Need, Find, Put, Del, If, Each, Give, Fail, Steps, NoMore, More}
-use Rattle.proc_lang.specs.TermCodes.{coded_tree, kept, kept_terms, kept_numbers, term_in, terms_in, numbers_in, term_again, terms_again, numbers_again}
+use Rattle.proc_lang.specs.Steps.{Absence, Traps, Fails, Blanks, Step, Let, Read, Put, Del, If, Each, Give, Fail, Steps, NoMore, More}
+use Rattle.proc_lang.specs.TermCodes.{tagged, tag, first, second, third, numbers_code, terms_code, term_code}
 
--- a tag and three parts
-abbrev tagged : ℕ → Gv → Gv → Gv → Gv
-tagged tag p a b = gcons (gnum tag) (gcons p (gcons a b))
+abbrev kept_absence : Absence → Gv
+kept_absence Traps = tagged 0 gnil gnil gnil
+kept_absence (Fails code) = tagged 1 (gnum code) gnil gnil
+kept_absence (Blanks flag) = tagged 2 (gnum flag) gnil gnil
 
-abbrev left : Gv → Gv
-left gnil = gnil
-left (gnum n) = gnil
-left (gcons a b) = a
-
-abbrev right : Gv → Gv
-right gnil = gnil
-right (gnum n) = gnil
-right (gcons a b) = b
+absence_one : (x y : Absence) → kept_absence x ≡ kept_absence y → x ≡ y
+absence_one Traps Traps e = refl
+absence_one (Fails x) (Fails y) e = λ i. Fails (num (first (e i)))
+absence_one (Blanks x) (Blanks y) e = λ i. Blanks (num (first (e i)))
+absence_one x y e = absurd (subst (λ g. T (tag (kept_absence x) == tag g)) e tt)
 
 abbrev mutual
   pub kept_step : Step → Gv
-  kept_step (Let r e) = tagged 0 (gnum r) (kept e) gnil
-  kept_step (Get t ks rs) = tagged 1 (gnum t) (kept_terms ks) (kept_numbers rs)
-  kept_step (Need t ks rs code) = tagged 2 (gcons (gnum t) (gnum code)) (kept_terms ks) (kept_numbers rs)
-  kept_step (Find t ks rs flag) = tagged 3 (gcons (gnum t) (gnum flag)) (kept_terms ks) (kept_numbers rs)
-  kept_step (Put t ks es) = tagged 4 (gnum t) (kept_terms ks) (kept_terms es)
-  kept_step (Del t ks) = tagged 5 (gnum t) (kept_terms ks) gnil
-  kept_step (If e a b) = tagged 6 (kept e) (kept_steps a) (kept_steps b)
-  kept_step (Each n body) = tagged 7 (gnum n) (kept_steps body) gnil
-  kept_step (Give e) = tagged 8 gnil (kept e) gnil
-  kept_step (Fail code) = tagged 9 (gnum code) gnil gnil
+  kept_step (Let n e) = tagged 0 (gnum n) (term_code.code e) gnil
+  kept_step (Read absence t ks rs) = tagged 1 (tagged t (kept_absence absence) gnil gnil) (terms_code.code ks) (numbers_code.code rs)
+  kept_step (Put t ks es) = tagged 2 (gnum t) (terms_code.code ks) (terms_code.code es)
+  kept_step (Del t ks) = tagged 3 (gnum t) (terms_code.code ks) gnil
+  kept_step (If e a b) = tagged 4 (term_code.code e) (kept_steps a) (kept_steps b)
+  kept_step (Each n body) = tagged 5 (gnum n) (kept_steps body) gnil
+  kept_step (Give e) = tagged 6 (term_code.code e) gnil gnil
+  kept_step (Fail code) = tagged 7 (gnum code) gnil gnil
 
   pub kept_steps : Steps → Gv
-  kept_steps NoMore = gnil
-  kept_steps (More s rest) = gcons (kept_step s) (kept_steps rest)
+  kept_steps NoMore = tagged 0 gnil gnil gnil
+  kept_steps (More s rest) = tagged 1 (kept_step s) (kept_steps rest) gnil
 
--- the statement with this tag, these parts, and these blocks in the last two
-abbrev of_tag : ℕ → Gv → Gv → Gv → Steps → Steps → Step
-of_tag tag p a b first second =
-    if tag == 0 then Let (num p) (term_in a)
-    else if tag == 1 then Get (num p) (terms_in a) (numbers_in b)
-    else if tag == 2 then Need (num (left p)) (terms_in a) (numbers_in b) (num (right p))
-    else if tag == 3 then Find (num (left p)) (terms_in a) (numbers_in b) (num (right p))
-    else if tag == 4 then Put (num p) (terms_in a) (terms_in b)
-    else if tag == 5 then Del (num p) (terms_in a)
-    else if tag == 6 then If (term_in p) first second
-    else if tag == 7 then Each (num p) first
-    else if tag == 8 then Give (term_in a)
-    else Fail (num p)
-
-abbrev mutual
-  pub step_in : Gv → Step
-  step_in gnil = Fail 0
-  step_in (gnum n) = Fail 0
-  step_in (gcons tag gnil) = Fail 0
-  step_in (gcons tag (gnum n)) = Fail 0
-  step_in (gcons tag (gcons p gnil)) = Fail 0
-  step_in (gcons tag (gcons p (gnum n))) = Fail 0
-  step_in (gcons tag (gcons p (gcons a b))) = of_tag (num tag) p a b (steps_in a) (steps_in b)
-
-  pub steps_in : Gv → Steps
-  steps_in gnil = NoMore
-  steps_in (gnum n) = NoMore
-  steps_in (gcons s rest) = More (step_in s) (steps_in rest)
-
+-- statements that are kept as one are one, and so are blocks
 mutual
-  pub step_again : (s : Step) → step_in (kept_step s) ≡ s
-  step_again (Let r e) = λ i. Let r (term_again e i)
-  step_again (Get t ks rs) = λ i. Get t (terms_again ks i) (numbers_again rs i)
-  step_again (Need t ks rs code) = λ i. Need t (terms_again ks i) (numbers_again rs i) code
-  step_again (Find t ks rs flag) = λ i. Find t (terms_again ks i) (numbers_again rs i) flag
-  step_again (Put t ks es) = λ i. Put t (terms_again ks i) (terms_again es i)
-  step_again (Del t ks) = λ i. Del t (terms_again ks i)
-  step_again (If e a b) = λ i. If (term_again e i) (steps_again a i) (steps_again b i)
-  step_again (Each n body) = λ i. Each n (steps_again body i)
-  step_again (Give e) = λ i. Give (term_again e i)
-  step_again (Fail code) = refl
+  pub step_one : (s t : Step) → kept_step s ≡ kept_step t → s ≡ t
+  step_one (Let n a) (Let m b) e = λ i. Let (num (first (e i))) (term_code.inj a b (ap second e) i)
+  step_one (Read x t ks rs) (Read y u ls ss) e = λ i. Read (absence_one x y (ap (λ g. first (first g)) e) i) (tag (first (e i))) (terms_code.inj ks ls (ap second e) i) (numbers_code.inj rs ss (ap third e) i)
+  step_one (Put t ks es) (Put u ls fs) e = λ i. Put (num (first (e i))) (terms_code.inj ks ls (ap second e) i) (terms_code.inj es fs (ap third e) i)
+  step_one (Del t ks) (Del u ls) e = λ i. Del (num (first (e i))) (terms_code.inj ks ls (ap second e) i)
+  step_one (If a b c) (If x y z) e = λ i. If (term_code.inj a x (ap first e) i) (steps_one b y (ap second e) i) (steps_one c z (ap third e) i)
+  step_one (Each n a) (Each m b) e = λ i. Each (num (first (e i))) (steps_one a b (ap second e) i)
+  step_one (Give a) (Give b) e = λ i. Give (term_code.inj a b (ap first e) i)
+  step_one (Fail n) (Fail m) e = λ i. Fail (num (first (e i)))
+  step_one s t e = absurd (subst (λ g. T (tag (kept_step s) == tag g)) e tt)
 
-  pub steps_again : (steps : Steps) → steps_in (kept_steps steps) ≡ steps
-  steps_again NoMore = refl
-  steps_again (More s rest) = λ i. More (step_again s i) (steps_again rest i)
+  pub steps_one : (s t : Steps) → kept_steps s ≡ kept_steps t → s ≡ t
+  steps_one NoMore NoMore e = refl
+  steps_one (More s a) (More t b) e = λ i. More (step_one s t (ap first e) i) (steps_one a b (ap second e) i)
+  steps_one s t e = absurd (subst (λ g. T (tag (kept_steps s) == tag g)) e tt)
 
 abbrev pub steps_code : Coded Steps
-steps_code = code_by Gv coded_tree kept_steps steps_in steps_again
+steps_code = record { code = kept_steps; inj = steps_one }

@@ -9,9 +9,9 @@ use Rattle.proc_lang.specs.TermOf.{term_of}
 
 abbrev pub step_of : Stmt → Step
 step_of (stmt.Let r e) = step.Let r (term_of e)
-step_of (stmt.Get t ks rs) = step.Get t ks rs
-step_of (stmt.Need t ks rs code) = step.Need t ks rs code
-step_of (stmt.Find t ks rs flag) = step.Find t ks rs flag
+step_of (stmt.Get t ks rs) = step.Read step.Traps t ks rs
+step_of (stmt.Need t ks rs code) = step.Read (step.Fails code) t ks rs
+step_of (stmt.Find t ks rs flag) = step.Read (step.Blanks flag) t ks rs
 step_of (stmt.Put t ks es) = step.Put t ks es
 step_of (stmt.Del t ks) = step.Del t ks
 step_of (stmt.If e a b) = step.If (term_of e) a b

@@ -1,160 +1,70 @@
--- How terms are kept as ghost values, and found again. No rule rests on the form: it only has to tell terms apart.
-use Rattle.std.specs.Prelude.{◌≡◌, ◌+◌, ◌-◌, ℕ, ℤ, pos, negsuc, List, [], ◌∷◌, ◌==◌, if◌then◌else◌, refl}
-use Rattle.std.specs.Coded.{Coded, code_by, coded_list}
+-- How terms are kept as ghost values. No rule rests on the form: it only has to tell terms apart.
+use Rattle.std.specs.Prelude.{◌≡◌, ℕ, ◌==◌, List, refl}
+use mathlib.Core.Path.{ap, subst}
+use lib.Dec.{T}
+use Rattle.std.specs.Coded.{Coded, coded_ℕ, coded_ℤ, coded_list}
 use base.Stored.{Gv, gnil, gnum, gcons, num}
-use mathlib.Core.Path.{ap, ◌∙◌}
-use Rattle.proc_lang.specs.Terms.{Plain, Reg, Arg, Item, Len, Unary, Not, Show, Binary, Add, Sub, Mul, Div, Mod, Eq, Ne, Lt, Le, And, Or, Cat, Term, Num, Text, Me, Named, By, Of, MulDiv, Front}
-use Rattle.std.specs.Prelude.{slice_index_or}
+use Rattle.proc_lang.specs.contracts.operators.Source as source
+use Rattle.proc_lang.specs.contracts.operators.UnaryOp as unary
+use Rattle.proc_lang.specs.contracts.operators.BinaryOp as binary
+use Rattle.proc_lang.specs.Terms.{Term, Num, Text, Me, Named, Unary, Binary, MulDiv, Front}
 
-abbrev pub coded_tree : Coded Gv
-coded_tree = record { code = λ t. t; inj = λ x y p. p }
+-- ---- a tag and three parts
 
-abbrev pub kept_numbers : List ℕ → Gv
-kept_numbers [] = gnil
-kept_numbers (n ∷ ns) = gcons (gnum n) (kept_numbers ns)
+abbrev pub tagged : ℕ → Gv → Gv → Gv → Gv
+tagged tag a b c = gcons (gnum tag) (gcons a (gcons b c))
 
-abbrev pub numbers_in : Gv → List ℕ
-numbers_in gnil = []
-numbers_in (gnum n) = []
-numbers_in (gcons n rest) = num n ∷ numbers_in rest
+abbrev left : Gv → Gv
+left gnil = gnil
+left (gnum n) = gnil
+left (gcons a b) = a
 
-pub numbers_again : (ns : List ℕ) → numbers_in (kept_numbers ns) ≡ ns
-numbers_again [] = refl
-numbers_again (n ∷ ns) = ap (λ rest. n ∷ rest) (numbers_again ns)
+abbrev right : Gv → Gv
+right gnil = gnil
+right (gnum n) = gnil
+right (gcons a b) = b
 
--- a tag and two parts
-abbrev pub tagged : ℕ → Gv → Gv → Gv
-tagged tag a b = gcons (gnum tag) (gcons a b)
+abbrev pub tag : Gv → ℕ
+tag g = num (left g)
 
--- two terms as one part
-abbrev pair : Gv → Gv → Gv
-pair a b = tagged 7 a b
+abbrev pub first : Gv → Gv
+first g = left (right g)
 
-abbrev plain_number : Plain → ℕ
-plain_number Reg = 0
-plain_number Arg = 1
-plain_number Item = 2
-plain_number Len = 3
+abbrev pub second : Gv → Gv
+second g = left (right (right g))
 
-abbrev plain_in : ℕ → Plain
-plain_in n = slice_index_or (Reg ∷ Arg ∷ Item ∷ Len ∷ []) n Reg
+abbrev pub third : Gv → Gv
+third g = right (right (right g))
 
-plain_again : (o : Plain) → plain_in (plain_number o) ≡ o
-plain_again Reg = refl
-plain_again Arg = refl
-plain_again Item = refl
-plain_again Len = refl
+-- ---- terms
 
-abbrev unary_number : Unary → ℕ
-unary_number Not = 0
-unary_number Show = 1
-
-abbrev unary_in : ℕ → Unary
-unary_in n = slice_index_or (Not ∷ Show ∷ []) n Not
-
-unary_again : (o : Unary) → unary_in (unary_number o) ≡ o
-unary_again Not = refl
-unary_again Show = refl
-
-abbrev binary_number : Binary → ℕ
-binary_number Add = 0
-binary_number Sub = 1
-binary_number Mul = 2
-binary_number Div = 3
-binary_number Mod = 4
-binary_number Eq = 5
-binary_number Ne = 6
-binary_number Lt = 7
-binary_number Le = 8
-binary_number And = 9
-binary_number Or = 10
-binary_number Cat = 11
-
-abbrev binary_in : ℕ → Binary
-binary_in n = slice_index_or (Add ∷ Sub ∷ Mul ∷ Div ∷ Mod ∷ Eq ∷ Ne ∷ Lt ∷ Le ∷ And ∷ Or ∷ Cat ∷ []) n Add
+abbrev pub numbers_code : Coded (List ℕ)
+numbers_code = coded_list coded_ℕ
 
 abbrev pub kept : Term → Gv
-kept (Num (pos n)) = tagged 0 (gnum 0) (gnum n)
-kept (Num (negsuc n)) = tagged 0 (gnum 1) (gnum n)
-kept (Text bytes) = tagged 1 gnil (kept_numbers bytes)
-kept Me = gnil
-kept (Named p n) = tagged 2 (gnum (plain_number p)) (gnum n)
-kept (By o a) = tagged 3 (gnum (unary_number o)) (kept a)
-kept (Of o a b) = tagged (7 + binary_number o) (kept a) (kept b)
-kept (MulDiv a b c) = tagged 4 (kept a) (pair (kept b) (kept c))
-kept (Front a b n) = tagged 5 (gnum n) (pair (kept a) (kept b))
+kept (Num z) = tagged 0 (coded_ℤ.code z) gnil gnil
+kept (Text bytes) = tagged 1 (numbers_code.code bytes) gnil gnil
+kept Me = tagged 2 gnil gnil gnil
+kept (Named from n) = tagged 3 ((source.the_row).coded.code from) (gnum n) gnil
+kept (Unary o a) = tagged 4 ((unary.the_row).coded.code o) (kept a) gnil
+kept (Binary o a b) = tagged 5 ((binary.the_row).coded.code o) (kept a) (kept b)
+kept (MulDiv a b c) = tagged 6 (kept a) (kept b) (kept c)
+kept (Front a b n) = tagged 7 (kept a) (kept b) (gnum n)
 
--- the terms of a pair
-abbrev first : Term → Term
-first (Of Add a b) = a
-first other = other
-
-abbrev second : Term → Term
-second (Of Add a b) = b
-second other = other
-
-abbrev number_in : ℕ → ℕ → ℤ
-number_in sign n = if sign == 0 then pos n else negsuc n
-
--- the term with this tag, these parts, and these terms in the parts
-abbrev of_tag : ℕ → Gv → Gv → Term → Term → Term
-of_tag tag p q a b =
-    if tag == 0 then Num (number_in (num p) (num q))
-    else if tag == 1 then Text (numbers_in q)
-    else if tag == 2 then Named (plain_in (num p)) (num q)
-    else if tag == 3 then By (unary_in (num p)) b
-    else if tag == 4 then MulDiv a (first b) (second b)
-    else if tag == 5 then Front (first b) (second b) (num p)
-    else Of (binary_in (tag - 7)) a b
-
-abbrev pub term_in : Gv → Term
-term_in gnil = Me
-term_in (gnum n) = Me
-term_in (gcons tag gnil) = Me
-term_in (gcons tag (gnum n)) = Me
-term_in (gcons tag (gcons p q)) = of_tag (num tag) p q (term_in p) (term_in q)
-
-of_again : (o : Binary) (p q : Gv) (a b : Term) → of_tag (7 + binary_number o) p q a b ≡ Of o a b
-of_again Add p q a b = refl
-of_again Sub p q a b = refl
-of_again Mul p q a b = refl
-of_again Div p q a b = refl
-of_again Mod p q a b = refl
-of_again Eq p q a b = refl
-of_again Ne p q a b = refl
-of_again Lt p q a b = refl
-of_again Le p q a b = refl
-of_again And p q a b = refl
-of_again Or p q a b = refl
-of_again Cat p q a b = refl
-
-pub term_again : (t : Term) → term_in (kept t) ≡ t
-term_again (Num (pos n)) = refl
-term_again (Num (negsuc n)) = refl
-term_again (Text bytes) = ap Text (numbers_again bytes)
-term_again Me = refl
-term_again (Named p n) = ap (λ p. Named p n) (plain_again p)
-term_again (By o a) = λ i. By (unary_again o i) (term_again a i)
-term_again (Of o a b) = of_again o (kept a) (kept b) (term_in (kept a)) (term_in (kept b)) ∙ (λ i. Of o (term_again a i) (term_again b i))
-term_again (MulDiv a b c) = λ i. MulDiv (term_again a i) (term_again b i) (term_again c i)
-term_again (Front a b n) = λ i. Front (term_again a i) (term_again b i) n
+-- terms that are kept as one are one
+pub term_one : (s t : Term) → kept s ≡ kept t → s ≡ t
+term_one (Num x) (Num y) e = ap Num (coded_ℤ.inj x y (ap first e))
+term_one (Text x) (Text y) e = ap Text (numbers_code.inj x y (ap first e))
+term_one Me Me e = refl
+term_one (Named x n) (Named y m) e = λ i. Named ((source.the_row).coded.inj x y (ap first e) i) (num (second (e i)))
+term_one (Unary o a) (Unary p b) e = λ i. Unary ((unary.the_row).coded.inj o p (ap first e) i) (term_one a b (ap second e) i)
+term_one (Binary o a b) (Binary p c d) e = λ i. Binary ((binary.the_row).coded.inj o p (ap first e) i) (term_one a c (ap second e) i) (term_one b d (ap third e) i)
+term_one (MulDiv a b c) (MulDiv x y z) e = λ i. MulDiv (term_one a x (ap first e) i) (term_one b y (ap second e) i) (term_one c z (ap third e) i)
+term_one (Front a b n) (Front x y m) e = λ i. Front (term_one a x (ap first e) i) (term_one b y (ap second e) i) (num (third (e i)))
+term_one s t e = absurd (subst (λ g. T (tag (kept s) == tag g)) e tt)
 
 abbrev pub term_code : Coded Term
-term_code = code_by Gv coded_tree kept term_in term_again
+term_code = record { code = kept; inj = term_one }
 
 abbrev pub terms_code : Coded (List Term)
 terms_code = coded_list term_code
-
--- lists of terms as one tree, for the code of statements
-abbrev pub kept_terms : List Term → Gv
-kept_terms [] = gnil
-kept_terms (t ∷ ts) = gcons (kept t) (kept_terms ts)
-
-abbrev pub terms_in : Gv → List Term
-terms_in gnil = []
-terms_in (gnum n) = []
-terms_in (gcons t rest) = term_in t ∷ terms_in rest
-
-pub terms_again : (ts : List Term) → terms_in (kept_terms ts) ≡ ts
-terms_again [] = refl
-terms_again (t ∷ ts) = λ i. term_again t i ∷ terms_again ts i

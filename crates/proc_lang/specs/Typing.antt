@@ -11,10 +11,17 @@ use Rattle.aria_base.specs.declared.schemas.Table.{Table}
 use Rattle.proc_lang.specs.declared.procs.ArgKind.{ArgKind}
 use Rattle.proc_lang.specs.declared.procs.ArgKind.TheVariants as arg
 use Rattle.proc_lang.specs.declared.procs.Proc.{Proc}
-use Rattle.proc_lang.specs.declared.flaws.TheConstants.{UNKNOWN_TABLE, KEY_LENGTH, COLUMNS, KIND, REGISTER, ARGUMENT, NESTING, MOST_BLOCKS}
+use Rattle.proc_lang.specs.declared.flaws.TheConstants.{UNKNOWN_TABLE, KEY_LENGTH, COLUMNS, KIND, REGISTER, ARGUMENT, NESTING}
+use Rattle.proc_lang.specs.declared.limits.TheConstants.{MOST_BLOCKS}
+use Rattle.proc_lang.specs.declared.operators.Source.{Source}
+use Rattle.proc_lang.specs.declared.operators.Source.TheVariants as source
+use Rattle.proc_lang.specs.declared.operators.UnaryOp.{UnaryOp}
+use Rattle.proc_lang.specs.declared.operators.UnaryOp.TheVariants as unary
+use Rattle.proc_lang.specs.declared.operators.BinaryOp.{BinaryOp}
+use Rattle.proc_lang.specs.declared.operators.BinaryOp.TheVariants as binary
 use Rattle.proc_lang.specs.Terms.{Term}
 use Rattle.proc_lang.specs.Terms as term
-use Rattle.proc_lang.specs.Steps.{Step, Steps, NoMore, More}
+use Rattle.proc_lang.specs.Steps.{Absence, Traps, Fails, Blanks, Step, Steps, NoMore, More}
 use Rattle.proc_lang.specs.Steps as step
 use Rattle.proc_lang.specs.Values.{got, both}
 
@@ -88,20 +95,20 @@ by_three operands = got operands (λ p. got (wanted KIND (same_kind p.0.0 Int &&
 abbrev pub by_equals : Typed (Kind × Kind) → Typed Kind
 by_equals operands = got operands (λ p. got (wanted KIND (same_kind p.0 p.1)) (λ _. Ok Int))
 
-abbrev pub named_kind : Scope → Set → term.Plain → ℕ → Typed Kind
-named_kind s set term.Reg n = register_kind s set n
-named_kind s set term.Arg n = argument_kind s n
-named_kind s set term.Item n = item_kind s n
-named_kind s set term.Len n = got (argument_width s n) (λ _. Ok Int)
+abbrev pub named_kind : Scope → Set → Source → ℕ → Typed Kind
+named_kind s set source.Reg n = register_kind s set n
+named_kind s set source.Arg n = argument_kind s n
+named_kind s set source.Item n = item_kind s n
+named_kind s set source.Len n = got (argument_width s n) (λ _. Ok Int)
 
-abbrev pub unary_kind : term.Unary → Typed Kind → Typed Kind
-unary_kind term.Not operand = by_one Int Int operand
-unary_kind term.Show operand = by_one Int Text operand
+abbrev pub unary_kind : UnaryOp → Typed Kind → Typed Kind
+unary_kind unary.Not operand = by_one Int Int operand
+unary_kind unary.Show operand = by_one Int Text operand
 
-abbrev pub binary_kind : term.Binary → Typed (Kind × Kind) → Typed Kind
-binary_kind term.Eq operands = by_equals operands
-binary_kind term.Ne operands = by_equals operands
-binary_kind term.Cat operands = by_two Text Text operands
+abbrev pub binary_kind : BinaryOp → Typed (Kind × Kind) → Typed Kind
+binary_kind binary.Eq operands = by_equals operands
+binary_kind binary.Ne operands = by_equals operands
+binary_kind binary.Cat operands = by_two Text Text operands
 binary_kind other operands = by_two Int Int operands
 
 -- the kind of an expression's value. A node's own argument, item or register is looked at first, then its operands from the left,
@@ -110,9 +117,9 @@ abbrev pub kind_of : Scope → Set → Term → Typed Kind
 kind_of s set (term.Num z) = Ok Int
 kind_of s set (term.Text bytes) = Ok Text
 kind_of s set term.Me = Ok Int
-kind_of s set (term.Named p n) = named_kind s set p n
-kind_of s set (term.By o a) = unary_kind o (kind_of s set a)
-kind_of s set (term.Of o a b) = binary_kind o (both (kind_of s set a) (kind_of s set b))
+kind_of s set (term.Named from n) = named_kind s set from n
+kind_of s set (term.Unary o a) = unary_kind o (kind_of s set a)
+kind_of s set (term.Binary o a b) = binary_kind o (both (kind_of s set a) (kind_of s set b))
 kind_of s set (term.MulDiv a b c) = by_three (both (both (kind_of s set a) (kind_of s set b)) (kind_of s set c))
 kind_of s set (term.Front a b most) = by_two Text Text (both (kind_of s set a) (kind_of s set b))
 
@@ -156,6 +163,12 @@ shaped s t parts columns = got (keyed s t parts) (λ table. got (wanted COLUMNS 
 -- a row into registers
 abbrev pub reads : Scope → ℕ → List Term → List ℕ → Set → Typed Set
 reads s t ks rs set = got (shaped s t (length ks) (length rs)) (λ table. got (agree table.key (kinds_after s set [] ks)) (λ _. set_all s rs table.cols set))
+
+-- and whether there was one, where that is told
+abbrev pub tells : Scope → Absence → Set → Typed Set
+tells s Traps set = Ok set
+tells s (Fails code) set = Ok set
+tells s (Blanks flag) set = set_one s flag Int set
 
 abbrev pub writes : Scope → ℕ → List Term → List Term → Set → Typed Set
 writes s t ks es set = got (shaped s t (length ks) (length es)) (λ table. got (agree (table.key ++ table.cols) (got (kinds_after s set [] ks) (λ kinds. kinds_after s set kinds es))) (λ _. Ok set))
@@ -201,9 +214,7 @@ inside_each s width = record { tables = s.tables; args = s.args; regs = s.regs; 
 abbrev mutual
   pub typed_step : Scope → Step → Reached → Result Reached Flaw
   typed_step s (step.Let n e) r = passed r (got (kind_of s r.set e) (λ k. set_one s n k r.set))
-  typed_step s (step.Get t ks rs) r = passed r (reads s t ks rs r.set)
-  typed_step s (step.Need t ks rs code) r = passed r (reads s t ks rs r.set)
-  typed_step s (step.Find t ks rs flag) r = passed r (got (reads s t ks rs r.set) (set_one s flag Int))
+  typed_step s (step.Read absence t ks rs) r = passed r (got (reads s t ks rs r.set) (tells s absence))
   typed_step s (step.Put t ks es) r = passed r (writes s t ks es r.set)
   typed_step s (step.Del t ks) r = passed r (deletes s t ks r.set)
   typed_step s (step.If e a b) r =

@@ -9,36 +9,6 @@ use aria_base::{Arg, Call, Duplicate, Items, Memory, Schema, Table, Txt};
 use std::alloc::Global;
 use std::marker::Model;
 
-/// The most tables of a catalogue.
-pub const MOST_TABLES: usize = 256;
-
-/// The most procedures of a catalogue.
-pub const MOST_PROCS: usize = 256;
-
-/// The most parts of a key, and the most numbers of a tuple.
-pub const MOST_KEY_PARTS: usize = 5;
-
-/// The most columns of a table.
-pub const MOST_COLUMNS: usize = 16;
-
-/// The most arguments of a procedure.
-pub const MOST_ARGS: usize = 16;
-
-/// The most registers of a procedure.
-pub const MOST_REGS: usize = 64;
-
-/// The most statements of a procedure, those in blocks included.
-pub const MOST_STATEMENTS: usize = 1000;
-
-/// How deep an expression may be. One without operands has depth 1.
-pub const DEEPEST_EXPR: usize = 16;
-
-/// The greatest code of a failure; the least is 1.
-pub const GREATEST_CODE: u16 = 999;
-
-/// The most bytes that a `front` may be asked for.
-pub const MOST_FRONT: u32 = 500;
-
 /// A procedure that was well typed under the tables for which it was sealed. A contract sees the
 /// procedure; that the tables are those of a catalogue is the catalogue's to say.
 #[derive(Drop)]

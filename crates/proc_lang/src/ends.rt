@@ -1,3 +1,4 @@
+use crate::limits::MOST_GIVEN;
 use aria_base::{Duplicate, Few, Memory, Value};
 use std::alloc::Global;
 
@@ -15,12 +16,6 @@ pub enum Trap {
     /// More than 256 accesses, or more than 256 given values.
     Many,
 }
-
-/// The most accesses of one run. Before a further one the run traps with `Many`.
-pub const MOST_ACCESSES: usize = 256;
-
-/// The most values that a run gives. Before a further one it traps with `Many`.
-pub const MOST_GIVEN: usize = 256;
 
 /// The values that a run gave, in order.
 pub type Gives = Few<Value, 0, MOST_GIVEN>;

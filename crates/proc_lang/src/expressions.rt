@@ -2,6 +2,7 @@
 ghost use Rattle.std.specs.Prelude.{◌≡◌, map, IfOk};
 ghost use Rattle.proc_lang.specs.TermOf.{term_of};
 
+use crate::operators::Shape;
 use aria_base::{Duplicate, Memory, Txt};
 use std::alloc::Global;
 use std::marker::Model;
@@ -110,34 +111,22 @@ impl Duplicate for Exprs {
 pub fn copy_expr(alloc: Global, expr: &Expr) -> Result<Expr, Memory>
     ensures { IfOk result (λ copy. term_of copy ≡ term_of expr.now) }
 {
-    match expr {
-        Expr::Num(number) => Ok(Expr::Num(*number)),
-        Expr::Text(text) => Ok(Expr::Text(text.duplicate(alloc)?)),
-        Expr::Reg(register) => Ok(Expr::Reg(*register)),
-        Expr::Arg(argument) => Ok(Expr::Arg(*argument)),
-        Expr::Item(item) => Ok(Expr::Item(*item)),
-        Expr::Len(argument) => Ok(Expr::Len(*argument)),
-        Expr::Me => Ok(Expr::Me),
-        Expr::Add(a, b) => Ok(Expr::Add(copy_box(alloc, a)?, copy_box(alloc, b)?)),
-        Expr::Sub(a, b) => Ok(Expr::Sub(copy_box(alloc, a)?, copy_box(alloc, b)?)),
-        Expr::Mul(a, b) => Ok(Expr::Mul(copy_box(alloc, a)?, copy_box(alloc, b)?)),
-        Expr::Div(a, b) => Ok(Expr::Div(copy_box(alloc, a)?, copy_box(alloc, b)?)),
-        Expr::Mod(a, b) => Ok(Expr::Mod(copy_box(alloc, a)?, copy_box(alloc, b)?)),
-        Expr::MulDiv(a, b, c) => Ok(Expr::MulDiv(
+    match expr.shape() {
+        Shape::Num(number) => Ok(Expr::Num(number)),
+        Shape::Text(text) => Ok(Expr::Text(text.duplicate(alloc)?)),
+        Shape::Me => Ok(Expr::Me),
+        Shape::Named(source, number) => Ok(source.of(number)),
+        Shape::Unary(operator, a) => Ok(operator.of(copy_box(alloc, a)?)),
+        Shape::Binary(operator, a, b) => {
+            let a = copy_box(alloc, a)?;
+            Ok(operator.of(a, copy_box(alloc, b)?))
+        }
+        Shape::MulDiv(a, b, c) => Ok(Expr::MulDiv(
             copy_box(alloc, a)?,
             copy_box(alloc, b)?,
             copy_box(alloc, c)?,
         )),
-        Expr::Eq(a, b) => Ok(Expr::Eq(copy_box(alloc, a)?, copy_box(alloc, b)?)),
-        Expr::Ne(a, b) => Ok(Expr::Ne(copy_box(alloc, a)?, copy_box(alloc, b)?)),
-        Expr::Lt(a, b) => Ok(Expr::Lt(copy_box(alloc, a)?, copy_box(alloc, b)?)),
-        Expr::Le(a, b) => Ok(Expr::Le(copy_box(alloc, a)?, copy_box(alloc, b)?)),
-        Expr::And(a, b) => Ok(Expr::And(copy_box(alloc, a)?, copy_box(alloc, b)?)),
-        Expr::Or(a, b) => Ok(Expr::Or(copy_box(alloc, a)?, copy_box(alloc, b)?)),
-        Expr::Not(a) => Ok(Expr::Not(copy_box(alloc, a)?)),
-        Expr::Cat(a, b) => Ok(Expr::Cat(copy_box(alloc, a)?, copy_box(alloc, b)?)),
-        Expr::Front(a, b, most) => Ok(Expr::Front(copy_box(alloc, a)?, copy_box(alloc, b)?, *most)),
-        Expr::Show(a) => Ok(Expr::Show(copy_box(alloc, a)?)),
+        Shape::Front(a, b, most) => Ok(Expr::Front(copy_box(alloc, a)?, copy_box(alloc, b)?, most)),
     }
 }
 

@@ -26,9 +26,6 @@ pub const ARGUMENT: u8 = 6;
 /// An `if` or `each` lies in four blocks already, or an `each` in another one.
 pub const NESTING: u8 = 7;
 
-/// How many blocks a block may lie in. The body counts for none.
-pub const MOST_BLOCKS: usize = 4;
-
 /// Where a procedure first fails to be well typed, and why.
 #[derive(Clone, Copy, Debug, PartialEq, Eq)]
 pub struct Wrong {

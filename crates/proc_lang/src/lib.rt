@@ -12,18 +12,20 @@ mod catalogs;
 mod ends;
 mod expressions;
 mod flaws;
+mod limits;
+mod operators;
 mod procs;
 mod statements;
 
 pub use accesses::Access;
-pub use catalogs::{
-    Catalog, Checked, DEEPEST_EXPR, GREATEST_CODE, MOST_ARGS, MOST_COLUMNS, MOST_FRONT,
-    MOST_KEY_PARTS, MOST_PROCS, MOST_REGS, MOST_STATEMENTS, MOST_TABLES, table_named,
-};
-pub use ends::{End, Gives, MOST_ACCESSES, MOST_GIVEN, Trap};
+pub use catalogs::{Catalog, Checked, table_named};
+pub use ends::{End, Gives, Trap};
 pub use expressions::{Expr, Exprs, copy_expr};
-pub use flaws::{
-    ARGUMENT, COLUMNS, KEY_LENGTH, KIND, MOST_BLOCKS, NESTING, REGISTER, UNKNOWN_TABLE, Wrong,
+pub use flaws::{ARGUMENT, COLUMNS, KEY_LENGTH, KIND, NESTING, REGISTER, UNKNOWN_TABLE, Wrong};
+pub use limits::{
+    DEEPEST_EXPR, GREATEST_CODE, MOST_ACCESSES, MOST_ARGS, MOST_BLOCKS, MOST_COLUMNS, MOST_FRONT,
+    MOST_GIVEN, MOST_KEY_PARTS, MOST_PROCS, MOST_REGS, MOST_STATEMENTS, MOST_TABLES,
 };
+pub use operators::{BinaryOp, Shape, Source, UnaryOp};
 pub use procs::{ArgKind, ArgKinds, Path, PathPart, Proc};
 pub use statements::{Block, Regs, Stmt, copy_stmt};

@@ -13,7 +13,7 @@ use Rattle.aria_base.specs.declared.keys.Part.TheVariants as part
 use Rattle.aria_base.specs.declared.schemas.Table.{Table}
 use Rattle.aria_base.specs.declared.values.Value.{Value}
 use Rattle.aria_base.specs.declared.values.Kind.{Kind}
-use Rattle.proc_lang.specs.declared.catalogs.TheConstants.{MOST_KEY_PARTS, MOST_COLUMNS}
+use Rattle.proc_lang.specs.declared.limits.TheConstants.{MOST_KEY_PARTS, MOST_COLUMNS}
 use Rattle.proc_lang.specs.declared.flaws.TheConstants.{UNKNOWN_TABLE, KEY_LENGTH, COLUMNS, KIND}
 use Rattle.batch_rules.specs.Trees.{Reads, Writes}
 use Rattle.proc_lang.specs.Terms.{Term}

@@ -10,8 +10,10 @@ use Rattle.batch_rules.specs.Trees.{Ends}
 use Rattle.proc_lang.specs.declared.ends.Trap.TheVariants.{Zero}
 use Rattle.proc_lang.specs.declared.procs.ArgKind.TheVariants as arg
 use Rattle.proc_lang.specs.declared.procs.Proc.{Proc}
-use Rattle.proc_lang.specs.Terms.{Num, Text, Reg, Item, Add, Div, Eq}
-use Rattle.proc_lang.specs.Steps.{Steps, NoMore, More, Let, Get, Put, Del, Each, Give}
+use Rattle.proc_lang.specs.declared.operators.Source.TheVariants.{Reg, Item}
+use Rattle.proc_lang.specs.declared.operators.BinaryOp.TheVariants.{Add, Div, Eq}
+use Rattle.proc_lang.specs.Terms.{Num, Text, Named, Binary}
+use Rattle.proc_lang.specs.Steps.{Traps, Steps, NoMore, More, Let, Read, Put, Del, Each, Give}
 use Rattle.proc_lang.specs.Catalogs.{args_fit}
 use Rattle.proc_sound.specs.Careful.{careful_value, careful_script}
 use Rattle.proc_sound.specs.Laws.{Suits}
@@ -28,16 +30,16 @@ account = record { table = 0; parts = part.Int (pos 7) ∷ [] }
 
 -- ---- stuck
 
-mixed : (r : Request) → careful_value r [] [] (Add (Num (pos 1)) (Text [])) ≡ None
+mixed : (r : Request) → careful_value r [] [] (Binary Add (Num (pos 1)) (Text [])) ≡ None
 mixed r = refl
 
-unlike : (r : Request) → careful_value r [] [] (Eq (Num (pos 1)) (Text [])) ≡ None
+unlike : (r : Request) → careful_value r [] [] (Binary Eq (Num (pos 1)) (Text [])) ≡ None
 unlike r = refl
 
-unset : (r : Request) → careful_value r [] (None ∷ []) (Reg 0) ≡ None
+unset : (r : Request) → careful_value r [] (None ∷ []) (Named Reg 0) ≡ None
 unset r = refl
 
-no_item : (r : Request) → careful_value r (pos 5 ∷ []) [] (Item 1) ≡ None
+no_item : (r : Request) → careful_value r (pos 5 ∷ []) [] (Named Item 1) ≡ None
 no_item r = refl
 
 text_into_number : (r : Request) → careful_script accounts (by (More (Let 0 (Text [])) NoMore)) r ≡ Ends None
@@ -50,16 +52,16 @@ other_row : (r : Request) → careful_script accounts (by (More (Put 0 (Num (pos
 other_row r = refl
 
 -- a register is set in a loop alone: the loop may go over no tuple
-set_in_loop : (r : Request) → r.call.args ≡ given.List [] ∷ [] → careful_script accounts (by (More (Each 0 (More (Let 0 (Item 1)) NoMore)) (More (Give (Reg 0)) NoMore))) r ≡ Ends None
+set_in_loop : (r : Request) → r.call.args ≡ given.List [] ∷ [] → careful_script accounts (by (More (Each 0 (More (Let 0 (Named Item 1)) NoMore)) (More (Give (Named Reg 0)) NoMore))) r ≡ Ends None
 set_in_loop r e = rw e refl
 
 -- ---- not stuck
 
-by_zero : (r : Request) → careful_value r [] [] (Div (Num (pos 1)) (Num (pos 0))) ≡ Some (Err Zero)
+by_zero : (r : Request) → careful_value r [] [] (Binary Div (Num (pos 1)) (Num (pos 0))) ≡ Some (Err Zero)
 by_zero r = refl
 
 abbrev copying : Proc
-copying = by (More (Get 0 (Num (pos 7) ∷ []) (0 ∷ [])) (More (Each 0 (More (Put 0 (Item 0 ∷ []) (Add (Reg 0) (Item 1) ∷ [])) NoMore)) NoMore))
+copying = by (More (Read Traps 0 (Num (pos 7) ∷ []) (0 ∷ [])) (More (Each 0 (More (Put 0 (Named Item 0 ∷ []) (Binary Add (Named Reg 0) (Named Item 1) ∷ [])) NoMore)) NoMore))
 
 copying_suits : (r : Request) → args_fit copying.args r.call.args ≡ true → Suits accounts copying r
 copying_suits r fits = record { shapes = refl; typed = refl; args = fits }

@@ -8,7 +8,7 @@ use Rattle.std.proofs.lemmas.List.{map-append}
 use Rattle.std.proofs.lemmas.Option.{slice_get-get_or, get_or_from_slice_get}
 use Rattle.std.proofs.lemmas.Result.{IfOk-weaker}
 use Rattle.aria_base.specs.Kinds.{value_kind}
-use Rattle.aria_base.specs.declared.texts.TheConstants.{LONGEST_TEXT}
+use Rattle.aria_base.specs.declared.limits.TheConstants.{LONGEST_TEXT}
 use Rattle.aria_base.specs.declared.calls.Arg.{Arg}
 use Rattle.aria_base.specs.declared.calls.Arg.TheVariants as arg
 use Rattle.aria_base.specs.declared.calls.Request.{Request}
@@ -20,13 +20,19 @@ use Rattle.proc_lang.specs.declared.ends.Trap.TheVariants.{Overflow, Zero, Long}
 use Rattle.proc_lang.specs.declared.flaws.TheConstants.{KIND, ARGUMENT, REGISTER}
 use Rattle.proc_lang.specs.declared.procs.ArgKind.{ArgKind}
 use Rattle.proc_lang.specs.declared.procs.ArgKind.TheVariants as kind
+use Rattle.proc_lang.specs.declared.operators.Source.{Source}
+use Rattle.proc_lang.specs.declared.operators.Source.TheVariants as source
+use Rattle.proc_lang.specs.declared.operators.UnaryOp.{UnaryOp}
+use Rattle.proc_lang.specs.declared.operators.UnaryOp.TheVariants as unary
+use Rattle.proc_lang.specs.declared.operators.BinaryOp.{BinaryOp}
+use Rattle.proc_lang.specs.declared.operators.BinaryOp.TheVariants as binary
 use Rattle.proc_lang.specs.Terms.{Term}
 use Rattle.proc_lang.specs.Terms as term
 use Rattle.proc_lang.specs.Values.{Got, got, both, int_of, text_of, is_true, truth, same_value, number, divided, remainder, quotient, joined, front, is_i64, value_of_arg, tuples_of}
-use Rattle.proc_lang.specs.Meaning.{value_of, values_after}
-use Rattle.proc_lang.specs.Typing.{Typed, Scope, Set, found, wanted, plain_kind, width_of, argument_width, by_one, by_two, by_three, by_equals, same_kind, kind_of, kinds_after}
+use Rattle.proc_lang.specs.Meaning.{by_unary, by_binary, named_value, value_of, values_after}
+use Rattle.proc_lang.specs.Typing.{Typed, Scope, Set, found, wanted, plain_kind, width_of, argument_width, by_one, by_two, by_three, by_equals, same_kind, named_kind, unary_kind, binary_kind, kind_of, kinds_after}
 use Rattle.proc_lang.specs.Catalogs.{arg_fits, args_fit}
-use Rattle.proc_sound.specs.Careful.{Sure, there, and_then, pair, as_int, as_text, as_plain, as_list, alike, on_int, on_ints, on_three, on_texts, on_equals, careful_value, careful_values}
+use Rattle.proc_sound.specs.Careful.{Sure, there, and_then, pair, as_int, as_text, as_plain, as_list, alike, on_int, on_ints, on_three, on_texts, on_equals, careful_unary, careful_binary, careful_named, careful_value, careful_values}
 use Rattle.proc_sound.specs.Laws.{shape_fits}
 use Rattle.proc_sound.proofs.Lists.{same_kind-decides, kind_at, IsSet}
 use Rattle.proc_sound.proofs.Results.{got_ok, wanted_ok, found_is, IsSure, then_sure, pair_sure, Sound}
@@ -118,6 +124,27 @@ remainder_is x y = cond_both (int_eq y (pos 0)) (Err Zero) (Ok (value.Int (x -�
 joined_is : (x y : List ℕ) → IfOk (joined x y) (Is Text)
 joined_is x y = cond_both (nat_le (length (x ++ y)) LONGEST_TEXT) (Ok (value.Text (x ++ y))) (Err Long) (λ r. IfOk r (Is Text)) (λ e. refl) (λ e. tt)
 
+-- ---- operators, by their names
+
+unary_sound : (o : UnaryOp) (k : Typed Kind) {c : Sure Value} {v : Got Value} → Sound Is k c v → Sound Is (unary_kind o k) (and_then c (careful_unary o)) (got v (λ v. Ok (by_unary o v)))
+unary_sound unary.Not = int_sound Int (λ x. Ok (truth (not (is_true (value.Int x))))) (λ x. refl)
+unary_sound unary.Show = int_sound Text (λ x. Ok (value.Text (signed_decimal x))) (λ x. refl)
+
+binary_sound : (o : BinaryOp) (ka kb : Typed Kind) {ca cb : Sure Value} {va vb : Got Value} → Sound Is ka ca va → Sound Is kb cb vb
+    → Sound Is (binary_kind o (both ka kb)) (and_then (pair ca cb) (careful_binary o)) (got (both va vb) (by_binary o))
+binary_sound binary.Add = ints_sound (λ x y. number (x +ℤ y)) (λ x y. number_is (x +ℤ y))
+binary_sound binary.Sub = ints_sound (λ x y. number (x -ℤ y)) (λ x y. number_is (x -ℤ y))
+binary_sound binary.Mul = ints_sound (λ x y. number (x *ℤ y)) (λ x y. number_is (x *ℤ y))
+binary_sound binary.Div = ints_sound divided divided_is
+binary_sound binary.Mod = ints_sound remainder remainder_is
+binary_sound binary.Eq = equals_sound (λ same. Ok (truth same)) (λ same. refl)
+binary_sound binary.Ne = equals_sound (λ same. Ok (truth (not same))) (λ same. refl)
+binary_sound binary.Lt = ints_sound (λ x y. Ok (truth (int_lt x y))) (λ x y. refl)
+binary_sound binary.Le = ints_sound (λ x y. Ok (truth (int_le x y))) (λ x y. refl)
+binary_sound binary.And = ints_sound (λ x y. Ok (truth (is_true (value.Int x) && is_true (value.Int y)))) (λ x y. refl)
+binary_sound binary.Or = ints_sound (λ x y. Ok (truth (is_true (value.Int x) || is_true (value.Int y)))) (λ x y. refl)
+binary_sound binary.Cat = texts_sound joined joined_is
+
 -- ---- arguments, items and registers
 
 argument_sound : (ks : List ArgKind) (given : List Arg) (n : ℕ) → args_fit ks given ≡ true → Sound Is (got (found ARGUMENT (slice_get ks n)) plain_kind) (and_then (there (slice_get given n)) as_plain) (Ok (value_of_arg (slice_get given n)))
@@ -179,30 +206,21 @@ module _ {s : Scope} {r : Request} {item : List ℤ} (c : Context s r item) {set
             rw (regs.held n e, there_is.1, get_or_from_slice_get plain n there_is.0 (value.Int (pos 0)) there_is.1) (record { same = refl; value = there_is.2 })) (found_is REGISTER (slice_get s.regs n)));
       }
 
+  named_sound : (from : Source) (n : ℕ) → Sound Is (named_kind s set from n) (careful_named r item careful from n) (Ok (named_value r item plain from n))
+  named_sound source.Reg n = register_sound n
+  named_sound source.Arg n = argument_sound s.args r.call.args n c.args
+  named_sound source.Item n = item_sound s.tuple item n c.tuple
+  named_sound source.Len n = length_sound (argument_width s n) (tuples_sound s.args r.call.args n c.args)
+
   pub sound : (t : Term) → Sound Is (kind_of s set t) (careful_value r item careful t) (value_of r item plain t)
   sound (term.Num z) = record { holds = record { same = refl; value = refl } }
   sound (term.Text bytes) = record { holds = record { same = refl; value = refl } }
-  sound (term.Reg n) = register_sound n
-  sound (term.Arg n) = argument_sound s.args r.call.args n c.args
-  sound (term.Item n) = item_sound s.tuple item n c.tuple
-  sound (term.Len n) = length_sound (argument_width s n) (tuples_sound s.args r.call.args n c.args)
   sound term.Me = record { holds = record { same = refl; value = refl } }
-  sound (term.Add a b) = ints_sound (λ x y. number (x +ℤ y)) (λ x y. number_is (x +ℤ y)) _ _ (sound a) (sound b)
-  sound (term.Sub a b) = ints_sound (λ x y. number (x -ℤ y)) (λ x y. number_is (x -ℤ y)) _ _ (sound a) (sound b)
-  sound (term.Mul a b) = ints_sound (λ x y. number (x *ℤ y)) (λ x y. number_is (x *ℤ y)) _ _ (sound a) (sound b)
-  sound (term.Div a b) = ints_sound divided divided_is _ _ (sound a) (sound b)
-  sound (term.Mod a b) = ints_sound remainder remainder_is _ _ (sound a) (sound b)
+  sound (term.Named from n) = named_sound from n
+  sound (term.Unary o a) = unary_sound o _ (sound a)
+  sound (term.Binary o a b) = binary_sound o _ _ (sound a) (sound b)
   sound (term.MulDiv a b c) = three_sound (λ x y z. divided (x *ℤ y) z) (λ x y z. divided_is (x *ℤ y) z) _ _ _ (sound a) (sound b) (sound c)
-  sound (term.Eq a b) = equals_sound (λ same. Ok (truth same)) (λ same. refl) _ _ (sound a) (sound b)
-  sound (term.Ne a b) = equals_sound (λ same. Ok (truth (not same))) (λ same. refl) _ _ (sound a) (sound b)
-  sound (term.Lt a b) = ints_sound (λ x y. Ok (truth (int_lt x y))) (λ x y. refl) _ _ (sound a) (sound b)
-  sound (term.Le a b) = ints_sound (λ x y. Ok (truth (int_le x y))) (λ x y. refl) _ _ (sound a) (sound b)
-  sound (term.And a b) = ints_sound (λ x y. Ok (truth (is_true (value.Int x) && is_true (value.Int y)))) (λ x y. refl) _ _ (sound a) (sound b)
-  sound (term.Or a b) = ints_sound (λ x y. Ok (truth (is_true (value.Int x) || is_true (value.Int y)))) (λ x y. refl) _ _ (sound a) (sound b)
-  sound (term.Not a) = int_sound Int (λ x. Ok (truth (not (is_true (value.Int x))))) (λ x. refl) _ (sound a)
-  sound (term.Cat a b) = texts_sound joined joined_is _ _ (sound a) (sound b)
   sound (term.Front a b n) = texts_sound (λ x y. Ok (front x y n)) (λ x y. refl) _ _ (sound a) (sound b)
-  sound (term.Show a) = int_sound Text (λ x. Ok (value.Text (signed_decimal x))) (λ x. refl) _ (sound a)
 
 -- ---- lists of expressions
 

@@ -14,7 +14,7 @@ use Rattle.aria_base.specs.declared.keys.Key.{Key}
 use Rattle.aria_base.specs.declared.schemas.Table.{Table}
 use Rattle.aria_base.specs.declared.values.Kind.{Kind}
 use Rattle.aria_base.specs.declared.values.Kind.TheVariants.{Int, Text}
-use Rattle.proc_lang.specs.declared.catalogs.TheConstants.{MOST_KEY_PARTS, MOST_COLUMNS}
+use Rattle.proc_lang.specs.declared.limits.TheConstants.{MOST_KEY_PARTS, MOST_COLUMNS}
 use Rattle.proc_lang.specs.declared.ends.End.TheVariants as end
 use Rattle.proc_lang.specs.declared.procs.Proc.{Proc}
 use Rattle.proc_lang.specs.Values.{blank}

@@ -14,16 +14,17 @@ use Rattle.aria_base.specs.declared.values.Kind.TheVariants.{Int}
 use Rattle.proc_lang.specs.declared.ends.End.{End}
 use Rattle.proc_lang.specs.declared.ends.End.TheVariants as end
 use Rattle.proc_lang.specs.declared.ends.Trap.TheVariants.{Absent}
-use Rattle.proc_lang.specs.declared.flaws.TheConstants.{KIND, NESTING, MOST_BLOCKS}
+use Rattle.proc_lang.specs.declared.flaws.TheConstants.{KIND, NESTING}
+use Rattle.proc_lang.specs.declared.limits.TheConstants.{MOST_BLOCKS}
 use Rattle.proc_lang.specs.Terms.{Term}
-use Rattle.proc_lang.specs.Steps.{Step, Steps, NoMore, More}
+use Rattle.proc_lang.specs.Steps.{Absence, Traps, Fails, Blanks, Step, Steps, NoMore, More}
 use Rattle.proc_lang.specs.Steps as step
 use Rattle.proc_lang.specs.Values.{Got, got, is_true, tuples_of}
 use Rattle.proc_lang.specs.Meaning.{Frame, Run, value_of, key_from, row_from, step_run, steps_run}
 use Rattle.proc_lang.specs.Meaning as plain
 use Rattle.proc_lang.specs.Typing.{Typed, Scope, Set, Reached, Flaw, wanted, same_kind, kind_of, kinds_after, argument_width, agree, keyed, shaped, at_place, passed, tests, goes_over, inside, inside_each, set_in_both, typed_step, typed_steps}
 use Rattle.proc_lang.specs.Typing as typing
-use Rattle.proc_sound.specs.Careful.{Sure, Careful, Next, with, and_then, as_int, reads, list_argument, gives, careful_value, careful_key, careful_row, set_one, set_all, blank_all, read_or, find_in, for_each, careful_step, careful_steps}
+use Rattle.proc_sound.specs.Careful.{Sure, Careful, Next, with, and_then, as_int, reads, list_argument, gives, careful_value, careful_key, careful_row, set_one, set_all, blank_all, read_or, find_in, row_or, for_each, careful_step, careful_steps}
 use Rattle.proc_sound.proofs.Lists.{same_kind-decides, IsSet, IsSet-set_in_both}
 use Rattle.proc_sound.proofs.Results.{got_ok, wanted_ok, wanted_is, everywhere, both_ok, IsSure}
 use Rattle.proc_sound.proofs.Expressions.{as_int_is, Is, Tuples, Context, sound, tuples_sound}
@@ -120,6 +121,12 @@ module _ {s : Scope} {r : Request} {item : List ℤ} {W : ℕ → Type 0} {t : �
     };
   }
 
+  -- whatever it does where there is no row
+  row_goes : (absence : Absence) → IfOk (typing.tells s absence mid) (λ last. Goes s.tables W s.regs set last (λ next f. plain.reads (key_from r item f.regs t ks) (plain.row_or absence rs next) f) (λ next' s'. reads s.tables (careful_key r item s'.regs t ks) (row_or s.regs absence rs next') s'))
+  row_goes Traps = read_goes (end.Trap Absent)
+  row_goes (Fails code) = read_goes (end.Back code)
+  row_goes (Blanks flag) = IfOk-weaker (typing.set_one s flag Int mid) (Sets s.regs flag Int mid) _ (λ last sets. find_goes flag last sets) (sets_ok s flag Int mid)
+
 -- ---- writes
 
 module _ {s : Scope} {r : Request} {item : List ℤ} (c : Context s r item) (W : ℕ → Type 0) (set : Set) where
@@ -154,12 +161,8 @@ module _ (r : Request) where
                 with_like s.tables (Is k) (value_of r item i.frame.regs e) (λ v. setting n v next i.frame) (λ v. set_one s.regs n v next' i.state) (sure i) (λ v is. ((set_one_goes s.tables W sets v is).go next next' h).like i);
           };
         }) (sets_ok s n k at.set)))
-    step_goes W s item at c (step.Get t ks rs) = passed_ok _ at (typing.reads s t ks rs at.set) (IfOk-weaker (typing.reads s t ks rs at.set) (ReadsRow s r item W t ks rs at.set) _ (λ set h. read_goes h (end.Trap Absent)) (reads_ok c W at.set t ks rs))
-    step_goes W s item at c (step.Need t ks rs code) = passed_ok _ at (typing.reads s t ks rs at.set) (IfOk-weaker (typing.reads s t ks rs at.set) (ReadsRow s r item W t ks rs at.set) _ (λ set h. read_goes h (end.Back code)) (reads_ok c W at.set t ks rs))
-    step_goes W s item at c (step.Find t ks rs flag) =
-        let Q = λ (set : Set). Goes s.tables W s.regs at.set set (step_run r (step.Find t ks rs flag) item) (careful_step s.tables s.regs r (step.Find t ks rs flag) item) in
-        passed_ok Q at (got (typing.reads s t ks rs at.set) (typing.set_one s flag Int)) (got_ok (typing.reads s t ks rs at.set) (typing.set_one s flag Int) (ReadsRow s r item W t ks rs at.set) Q (reads_ok c W at.set t ks rs) (λ mid h.
-        IfOk-weaker (typing.set_one s flag Int mid) (Sets s.regs flag Int mid) Q (λ last sets. find_goes h flag last sets) (sets_ok s flag Int mid)))
+    step_goes W s item at c (step.Read absence t ks rs) =
+        passed_ok _ at (got (typing.reads s t ks rs at.set) (typing.tells s absence)) (got_ok (typing.reads s t ks rs at.set) (typing.tells s absence) (ReadsRow s r item W t ks rs at.set) _ (reads_ok c W at.set t ks rs) (λ mid h. row_goes h absence))
     step_goes W s item at c (step.Put t ks es) = passed_ok _ at (typing.writes s t ks es at.set) (writes_ok c W at.set t ks es)
     step_goes W s item at c (step.Del t ks) = passed_ok _ at (typing.deletes s t ks at.set) (deletes_ok c W at.set t ks)
     step_goes W s item at c (step.If e a b) =

@@ -25,11 +25,17 @@ use Rattle.batch_rules.specs.Trees.{Tree, Ends, Reads, Writes}
 use Rattle.proc_lang.specs.declared.ends.End.{End}
 use Rattle.proc_lang.specs.declared.ends.End.TheVariants as end
 use Rattle.proc_lang.specs.declared.ends.Trap.TheVariants.{Absent, Many}
-use Rattle.proc_lang.specs.declared.ends.TheConstants.{MOST_ACCESSES, MOST_GIVEN}
+use Rattle.proc_lang.specs.declared.limits.TheConstants.{MOST_ACCESSES, MOST_GIVEN}
+use Rattle.proc_lang.specs.declared.operators.Source.{Source}
+use Rattle.proc_lang.specs.declared.operators.Source.TheVariants as source
+use Rattle.proc_lang.specs.declared.operators.UnaryOp.{UnaryOp}
+use Rattle.proc_lang.specs.declared.operators.UnaryOp.TheVariants as unary
+use Rattle.proc_lang.specs.declared.operators.BinaryOp.{BinaryOp}
+use Rattle.proc_lang.specs.declared.operators.BinaryOp.TheVariants as binary
 use Rattle.proc_lang.specs.declared.procs.Proc.{Proc}
 use Rattle.proc_lang.specs.Terms.{Term}
 use Rattle.proc_lang.specs.Terms as term
-use Rattle.proc_lang.specs.Steps.{Step, Steps, NoMore, More}
+use Rattle.proc_lang.specs.Steps.{Absence, Traps, Fails, Blanks, Step, Steps, NoMore, More}
 use Rattle.proc_lang.specs.Steps as step
 use Rattle.proc_lang.specs.Values.{Got, is_true, truth, blank, number, divided, remainder, joined, front, me_of}
 use Rattle.proc_lang.specs.Meaning.{part_of}
@@ -105,32 +111,43 @@ plain_argument r n = and_then (there (slice_get r.call.args n)) as_plain
 abbrev pub list_argument : Request → ℕ → Sure (List (List ℤ))
 list_argument r n = and_then (there (slice_get r.call.args n)) as_list
 
+-- ---- operators
+
+abbrev pub careful_unary : UnaryOp → Value → Sure Value
+careful_unary unary.Not = on_int (λ x. Ok (truth (not (is_true (value.Int x)))))
+careful_unary unary.Show = on_int (λ x. Ok (value.Text (signed_decimal x)))
+
+abbrev pub careful_binary : BinaryOp → Value × Value → Sure Value
+careful_binary binary.Add = on_ints (λ x y. number (x +ℤ y))
+careful_binary binary.Sub = on_ints (λ x y. number (x -ℤ y))
+careful_binary binary.Mul = on_ints (λ x y. number (x *ℤ y))
+careful_binary binary.Div = on_ints divided
+careful_binary binary.Mod = on_ints remainder
+careful_binary binary.Eq = on_equals (λ same. Ok (truth same))
+careful_binary binary.Ne = on_equals (λ same. Ok (truth (not same)))
+careful_binary binary.Lt = on_ints (λ x y. Ok (truth (int_lt x y)))
+careful_binary binary.Le = on_ints (λ x y. Ok (truth (int_le x y)))
+careful_binary binary.And = on_ints (λ x y. Ok (truth (is_true (value.Int x) && is_true (value.Int y))))
+careful_binary binary.Or = on_ints (λ x y. Ok (truth (is_true (value.Int x) || is_true (value.Int y))))
+careful_binary binary.Cat = on_texts joined
+
 -- ---- expressions: the request, the current tuple of an `each`, and the registers; one that is not set is None
+
+abbrev pub careful_named : Request → List ℤ → List (Option Value) → Source → ℕ → Sure Value
+careful_named r item regs source.Reg n = there (slice_index_or regs n None)
+careful_named r item regs source.Arg n = plain_argument r n
+careful_named r item regs source.Item n = and_then (there (slice_get item n)) (λ z. Some (Ok (value.Int z)))
+careful_named r item regs source.Len n = and_then (list_argument r n) (λ tuples. Some (Ok (value.Int (pos (length tuples)))))
 
 abbrev pub careful_value : Request → List ℤ → List (Option Value) → Term → Sure Value
 careful_value r item regs (term.Num z) = Some (Ok (value.Int z))
 careful_value r item regs (term.Text bytes) = Some (Ok (value.Text bytes))
-careful_value r item regs (term.Reg n) = there (slice_index_or regs n None)
-careful_value r item regs (term.Arg n) = plain_argument r n
-careful_value r item regs (term.Item n) = and_then (there (slice_get item n)) (λ z. Some (Ok (value.Int z)))
-careful_value r item regs (term.Len n) = and_then (list_argument r n) (λ tuples. Some (Ok (value.Int (pos (length tuples)))))
 careful_value r item regs term.Me = Some (Ok (me_of r.q))
-careful_value r item regs (term.Add a b) = and_then (pair (careful_value r item regs a) (careful_value r item regs b)) (on_ints (λ x y. number (x +ℤ y)))
-careful_value r item regs (term.Sub a b) = and_then (pair (careful_value r item regs a) (careful_value r item regs b)) (on_ints (λ x y. number (x -ℤ y)))
-careful_value r item regs (term.Mul a b) = and_then (pair (careful_value r item regs a) (careful_value r item regs b)) (on_ints (λ x y. number (x *ℤ y)))
-careful_value r item regs (term.Div a b) = and_then (pair (careful_value r item regs a) (careful_value r item regs b)) (on_ints divided)
-careful_value r item regs (term.Mod a b) = and_then (pair (careful_value r item regs a) (careful_value r item regs b)) (on_ints remainder)
+careful_value r item regs (term.Named from n) = careful_named r item regs from n
+careful_value r item regs (term.Unary o a) = and_then (careful_value r item regs a) (careful_unary o)
+careful_value r item regs (term.Binary o a b) = and_then (pair (careful_value r item regs a) (careful_value r item regs b)) (careful_binary o)
 careful_value r item regs (term.MulDiv a b c) = and_then (pair (pair (careful_value r item regs a) (careful_value r item regs b)) (careful_value r item regs c)) (on_three (λ x y z. divided (x *ℤ y) z))
-careful_value r item regs (term.Eq a b) = and_then (pair (careful_value r item regs a) (careful_value r item regs b)) (on_equals (λ same. Ok (truth same)))
-careful_value r item regs (term.Ne a b) = and_then (pair (careful_value r item regs a) (careful_value r item regs b)) (on_equals (λ same. Ok (truth (not same))))
-careful_value r item regs (term.Lt a b) = and_then (pair (careful_value r item regs a) (careful_value r item regs b)) (on_ints (λ x y. Ok (truth (int_lt x y))))
-careful_value r item regs (term.Le a b) = and_then (pair (careful_value r item regs a) (careful_value r item regs b)) (on_ints (λ x y. Ok (truth (int_le x y))))
-careful_value r item regs (term.And a b) = and_then (pair (careful_value r item regs a) (careful_value r item regs b)) (on_ints (λ x y. Ok (truth (is_true (value.Int x) && is_true (value.Int y)))))
-careful_value r item regs (term.Or a b) = and_then (pair (careful_value r item regs a) (careful_value r item regs b)) (on_ints (λ x y. Ok (truth (is_true (value.Int x) || is_true (value.Int y)))))
-careful_value r item regs (term.Not a) = and_then (careful_value r item regs a) (on_int (λ x. Ok (truth (not (is_true (value.Int x))))))
-careful_value r item regs (term.Cat a b) = and_then (pair (careful_value r item regs a) (careful_value r item regs b)) (on_texts joined)
 careful_value r item regs (term.Front a b n) = and_then (pair (careful_value r item regs a) (careful_value r item regs b)) (on_texts (λ x y. Ok (front x y n)))
-careful_value r item regs (term.Show a) = and_then (careful_value r item regs a) (on_int (λ x. Ok (value.Text (signed_decimal x))))
 
 -- the values of a list, from the left, behind those that are done
 abbrev pub careful_values : Request → List ℤ → List (Option Value) → List Value → List Term → Sure (List Value)
@@ -227,6 +244,11 @@ abbrev pub find_in : List Kind → List ℕ → ℕ → Next → State → Optio
 find_in kinds rs flag next s (Some row) = set_all kinds rs row (set_one kinds flag (value.Int (pos 1)) next) s
 find_in kinds rs flag next s None = blank_all kinds rs (set_one kinds flag (value.Int (pos 0)) next) s
 
+abbrev pub row_or : List Kind → Absence → List ℕ → Next → State → Option Cells → Careful
+row_or kinds Traps rs next = read_or kinds (end.Trap Absent) rs next
+row_or kinds (Fails code) rs next = read_or kinds (end.Back code) rs next
+row_or kinds (Blanks flag) rs next = find_in kinds rs flag next
+
 abbrev pub gives : Next → State → Value → Careful
 gives next s v = if nat_lt (length s.gives) MOST_GIVEN then next (record { regs = s.regs; gives = s.gives ++ v ∷ []; made = s.made }) else Ends (Some (end.Trap Many))
 
@@ -238,9 +260,7 @@ module _ (tables : List Table) (kinds : List Kind) (r : Request) where
   abbrev mutual
     pub careful_step : Step → List ℤ → Next → Next
     careful_step (step.Let n e) item next s = with (careful_value r item s.regs e) (λ v. set_one kinds n v next s)
-    careful_step (step.Get t ks rs) item next s = reads tables (careful_key r item s.regs t ks) (read_or kinds (end.Trap Absent) rs next) s
-    careful_step (step.Need t ks rs code) item next s = reads tables (careful_key r item s.regs t ks) (read_or kinds (end.Back code) rs next) s
-    careful_step (step.Find t ks rs flag) item next s = reads tables (careful_key r item s.regs t ks) (find_in kinds rs flag next) s
+    careful_step (step.Read absence t ks rs) item next s = reads tables (careful_key r item s.regs t ks) (row_or kinds absence rs next) s
     careful_step (step.Put t ks es) item next s = writes tables (careful_key r item s.regs t ks) (careful_row r item s.regs es) next s
     careful_step (step.Del t ks) item next s = writes tables (careful_key r item s.regs t ks) (Some (Ok None)) next s
     careful_step (step.If e a b) item next s = with (and_then (careful_value r item s.regs e) as_int) (λ n. if is_true (value.Int n) then careful_steps a item next s else careful_steps b item next s)

@@ -8,7 +8,7 @@ use Rattle.aria_base.specs.declared.calls.Request.{Request}
 use Rattle.batch_rules.specs.Trees.{trace_of, end_of, left_by}
 use Rattle.batch_rules.specs.Touches.{map_after}
 use Rattle.proc_lang.specs.declared.procs.Proc.{Proc}
-use Rattle.proc_lang.specs.declared.catalogs.TheConstants.{MOST_KEY_PARTS, MOST_COLUMNS}
+use Rattle.proc_lang.specs.declared.limits.TheConstants.{MOST_KEY_PARTS, MOST_COLUMNS}
 use Rattle.proc_lang.specs.Meaning.{Run, is_done}
 use Rattle.proc_lang.specs.Typing.{IsWellTyped}
 use Rattle.proc_lang.specs.Catalogs.{is_between, args_fit}

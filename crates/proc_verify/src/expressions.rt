@@ -3,14 +3,14 @@ ghost use Rattle.std.specs.Prelude.{◌≡◌, IfOk, Ok};
 ghost use Rattle.aria_base.specs.declared.values.Kind.TheVariants as kind;
 ghost use Rattle.proc_lang.specs.TermOf.{term_of};
 ghost use Rattle.proc_lang.specs.Values.{both};
-ghost use Rattle.proc_lang.specs.Typing.{by_equals, by_one, by_three, by_two, kind_of, kinds_after, register_kind, same_kind};
+ghost use Rattle.proc_lang.specs.Typing.{binary_kind, by_equals, by_one, by_three, by_two, kind_of, kinds_after, named_kind, register_kind, same_kind, unary_kind};
 ghost use Rattle.proc_verify.specs.Scopes.{seen};
 
 use crate::causes::{Typed, wanted};
 use crate::registers::SetRegisters;
 use crate::scopes::Scope;
 use aria_base::{Kind, Kinds, Memory};
-use proc_lang::{Expr, Exprs, KIND, REGISTER};
+use proc_lang::{BinaryOp, Expr, Exprs, KIND, REGISTER, Shape, Source, UnaryOp};
 
 /// Whether the kinds are one.
 pub fn same_kind(kind: Kind, other: Kind) -> bool
@@ -66,41 +66,59 @@ fn by_equals(operands: (Kind, Kind)) -> Typed<Kind>
     Ok(Kind::Int)
 }
 
+/// The kind of what is named by a number.
+fn named_kind(scope: &Scope, set: &SetRegisters, source: Source, number: u32) -> Typed<Kind>
+    ensures { result ≡ named_kind (seen scope.now) set.now source number }
+{
+    match source {
+        Source::Reg => register_kind(scope, set, number),
+        Source::Arg => scope.argument_kind(number),
+        Source::Item => scope.item_kind(number),
+        Source::Len => {
+            scope.argument_width(number)?;
+            Ok(Kind::Int)
+        }
+    }
+}
+
+/// What an operator makes of an operand of this kind.
+fn unary_kind(operator: UnaryOp, operand: Kind) -> Typed<Kind>
+    ensures { result ≡ unary_kind operator (Ok operand) }
+{
+    match operator {
+        UnaryOp::Not => by_one(Kind::Int, Kind::Int, operand),
+        UnaryOp::Show => by_one(Kind::Int, Kind::Text, operand),
+    }
+}
+
+/// What an operator makes of operands of these kinds.
+fn binary_kind(operator: BinaryOp, operands: (Kind, Kind)) -> Typed<Kind>
+    ensures { result ≡ binary_kind operator (Ok operands) }
+{
+    match operator {
+        BinaryOp::Eq | BinaryOp::Ne => by_equals(operands),
+        BinaryOp::Cat => by_two(Kind::Text, Kind::Text, operands),
+        _ => by_two(Kind::Int, Kind::Int, operands),
+    }
+}
+
 /// The kind of the expression's value. A node's own register, argument or item is looked at first,
 /// then its operands from the left, then their kinds.
 #[cycle(finding)]
 pub fn kind_of(scope: &Scope, set: &SetRegisters, expr: &Expr) -> Typed<Kind>
     ensures { result ≡ kind_of (seen scope.now) set.now (term_of expr.now) }
 {
-    match expr {
-        Expr::Num(_) | Expr::Me => Ok(Kind::Int),
-        Expr::Text(_) => Ok(Kind::Text),
-        Expr::Reg(register) => register_kind(scope, set, *register),
-        Expr::Arg(argument) => scope.argument_kind(*argument),
-        Expr::Item(item) => scope.item_kind(*item),
-        Expr::Len(argument) => {
-            scope.argument_width(*argument)?;
-            Ok(Kind::Int)
-        }
-        Expr::Add(a, b)
-        | Expr::Sub(a, b)
-        | Expr::Mul(a, b)
-        | Expr::Div(a, b)
-        | Expr::Mod(a, b)
-        | Expr::Lt(a, b)
-        | Expr::Le(a, b)
-        | Expr::And(a, b)
-        | Expr::Or(a, b) => by_two(Kind::Int, Kind::Int, two_kinds(scope, set, a, b)?),
-        Expr::MulDiv(a, b, c) => {
+    match expr.shape() {
+        Shape::Num(_) | Shape::Me => Ok(Kind::Int),
+        Shape::Text(_) => Ok(Kind::Text),
+        Shape::Named(source, number) => named_kind(scope, set, source, number),
+        Shape::Unary(operator, a) => unary_kind(operator, kind_of(scope, set, a)?),
+        Shape::Binary(operator, a, b) => binary_kind(operator, two_kinds(scope, set, a, b)?),
+        Shape::MulDiv(a, b, c) => {
             let factors = two_kinds(scope, set, a, b)?;
             by_three(factors, kind_of(scope, set, c)?)
         }
-        Expr::Eq(a, b) | Expr::Ne(a, b) => by_equals(two_kinds(scope, set, a, b)?),
-        Expr::Not(a) => by_one(Kind::Int, Kind::Int, kind_of(scope, set, a)?),
-        Expr::Cat(a, b) | Expr::Front(a, b, _) => {
-            by_two(Kind::Text, Kind::Text, two_kinds(scope, set, a, b)?)
-        }
-        Expr::Show(a) => by_one(Kind::Int, Kind::Text, kind_of(scope, set, a)?),
+        Shape::Front(a, b, _) => by_two(Kind::Text, Kind::Text, two_kinds(scope, set, a, b)?),
     }
 }
 

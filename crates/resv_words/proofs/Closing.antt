@@ -23,16 +23,16 @@ tells closed words small above tids are =
       later = AreAbove-words closed.old closed.tag closed.keys closed.marks words small above are;
     }
 
--- `row` is what the table held, its first word being no key's
+-- `row` is what the table held, its last word being no key's
 pub closing : (laid : Laid) (seat : Marker) (key_tag id : ℕ) (v : View) (row : List ℕ) (slots : List (Unit {0})) (words : List ℕ)
     → key_tag ≡ laid.tag → laid.tag < 2 ^ 49 → AreAbove laid.tag laid.old → All HasTid v.marks → v.share ≡ all_shares → v.marks ≡ seat.marks
     → Final (Seen (Kept laid.old key_tag) id v) row slots → length row ≡ 2 * laid.keys + 1 → length words ≡ 2 * laid.keys
-    → ((k : ℕ) → k < 2 * laid.keys → get_elem? row (k + 1) ≡ some (get_or words k 0))
+    → ((k : ℕ) → k < 2 * laid.keys → get_elem? row k ≡ some (get_or words k 0))
     → Tells (closed_of laid seat) words
 closing laid seat key_tag id v row slots words same_tag small above tids whole same_marks final row_length words_length read =
     let final' = subst (λ (tag : ℕ). Final (Seen (Kept laid.old tag) id v) row slots) same_tag final in
     let are : AreWords laid.old laid.tag laid.keys v.marks words = record {
       two_a_key = words_length;
-      each = λ place lt. sym (get_or-get_elem row (place + 1) (get_or words place 0) (read place lt)) ∙ closes laid.old laid.tag id v row slots whole small above tids final' place (omega arith);
+      each = λ place lt. sym (get_or-get_elem row place (get_or words place 0) (read place lt)) ∙ closes laid.old laid.tag id v row slots whole small above tids final' place (omega arith);
     } in
     subst (λ (marks : List Mark). Tells (closed_of laid record seat { marks = marks }) words) same_marks (tells (closed_of laid record seat { marks = v.marks }) words small above tids are)

@@ -1,5 +1,5 @@
 -- Each kind of step keeps the rule, and closing gives the words of all marks.
-use Rattle.std.proofs.Common.{◌≡◌, ◌≢◌, ℕ, ◌+◌, ◌-◌, ◌/◌, ◌%◌, ◌^◌, ◌<◌, ◌≤◌, ◌⊎◌, inl, inr, ⊎_elim, min, Bool, List, [], ◌∷◌, ◌++◌, length, get_or, set, subst, sym, refl, ap, ◌∙◌, arith, length-set, get_or-set_same, get_or-set_other, mod-eq_of_lt, All, true, false}
+use Rattle.std.proofs.Common.{◌≡◌, ◌≢◌, ℕ, ◌/◌, ◌%◌, ◌^◌, ◌<◌, ◌≤◌, ◌⊎◌, inl, inr, ⊎_elim, min, Bool, List, [], ◌∷◌, ◌++◌, length, get_or, set, subst, sym, refl, ap, ◌∙◌, arith, length-set, get_or-set_same, get_or-set_other, mod-eq_of_lt, All, true, false}
 use Rattle.std.proofs.lemmas.Bool.{cases_eq}
 use Rattle.std.proofs.Math.Nat.{mul-add-mod_self_right}
 use mathlib.Core.Option.{some, none}
@@ -9,7 +9,8 @@ use Rattle.atomic_table.proofs.Lists.{set_else}
 use Rattle.aria_base.proofs.Reserved.{unmarked, word_of-least}
 use Rattle.aria_base.proofs.Shares.{each-set, each-push, sum_by-set, sum_by-set_two, sum_by-set_push}
 use Rattle.aria_base.specs.declared.marks.Mark.{Mark}
-use Rattle.aria_base.specs.Reserved.{tag_span, greatest_tid, number_under, place_of, word_of, AreAbove, HasTid, IsMarked}
+use Rattle.aria_base.specs.declared.limits.TheConstants.{MOST_REQUESTS, TAG_SPAN}
+use Rattle.aria_base.specs.Reserved.{number_under, place_of, word_of, AreAbove, HasTid, IsMarked}
 use Rattle.resv_words.specs.declared.rules.View.{View}
 use Rattle.aria_base.specs.Shares.{all_shares}
 use Rattle.resv_words.specs.Rule.{mark, view, IsPut, IsLeastPut, Idle, Kept, marked, one_less, one, sum_of, spent_view}
@@ -18,7 +19,7 @@ use Rattle.resv_words.proofs.Puts.{set_there, marked_left, marked_right, marked_
 abbrev share_of : View → ℕ
 share_of v = v.share
 
--- a mark, at the word after its place, with the number of its TID
+-- a mark, at the word of its place, with the number of its TID
 module _ (old : List ℕ) (tag : ℕ) (views : List View) (id : ℕ) (v : View) (m : Mark) (at : get_elem? views id ≡ some v) where
   abbrev with_mark : View
   with_mark = view v.share (v.marks ++ m ∷ [])
@@ -49,24 +50,24 @@ module _ (old : List ℕ) (tag : ℕ) (views : List View) (id : ℕ) (v : View) 
   mark_else place word else is = least_kept tag place old views after word (mark_there place) (λ n put. ⊎_elim (λ before. before) (λ here. absurd (else here.0)) (mark_back place n put)) is
 
   -- all words after the step, which lowers the one at the mark's place
-  mark_words : (words : List ℕ) → ((place : ℕ) → place + 1 < length words → IsLeastPut old tag place views (get_or words (place + 1) 0))
-      → (place : ℕ) → place + 1 < length (set words (place_of m + 1) (min (get_or words (place_of m + 1) 0) (number_under tag m.tid)))
-      → IsLeastPut old tag place after (get_or (set words (place_of m + 1) (min (get_or words (place_of m + 1) 0) (number_under tag m.tid))) (place + 1) 0)
+  mark_words : (words : List ℕ) → ((place : ℕ) → place < length words → IsLeastPut old tag place views (get_or words place 0))
+      → (place : ℕ) → place < length (set words (place_of m) (min (get_or words (place_of m) 0) (number_under tag m.tid)))
+      → IsLeastPut old tag place after (get_or (set words (place_of m) (min (get_or words (place_of m) 0) (number_under tag m.tid))) place 0)
   mark_words words are place lt =
-      let next : ℕ = min (get_or words (place_of m + 1) 0) (number_under tag m.tid) in
-      let within : place + 1 < length words = omega (arith, length-set words (place_of m + 1) next) in
+      let next : ℕ = min (get_or words (place_of m) 0) (number_under tag m.tid) in
+      let within : place < length words = omega (arith, length-set words (place_of m) next) in
       ⊎_elim
       (λ here.
-      let within' : place_of m + 1 < length words = omega arith in
-      subst (λ (p : ℕ). IsLeastPut old tag p after (get_or (set words (place_of m + 1) next) (p + 1) 0)) here
-      (subst (IsLeastPut old tag (place_of m) after) (sym (get_or-set_same words (place_of m + 1) next 0 within')) (mark_here _ (are (place_of m) within'))))
+      let within' : place_of m < length words = omega arith in
+      subst (λ (p : ℕ). IsLeastPut old tag p after (get_or (set words (place_of m) next) p 0)) here
+      (subst (IsLeastPut old tag (place_of m) after) (sym (get_or-set_same words (place_of m) next 0 within')) (mark_here _ (are (place_of m) within'))))
       (λ else.
-      subst (IsLeastPut old tag place after) (sym (get_or-set_other words (place_of m + 1) (place + 1) next 0 (λ e. else (omega arith)))) (mark_else place _ else (are place within)))
+      subst (IsLeastPut old tag place after) (sym (get_or-set_other words (place_of m) place next 0 (λ e. else (omega arith)))) (mark_else place _ else (are place within)))
       (cases_eq (place_of m) place)
 
 -- A mark keeps the rule
 pub marks : (old : List ℕ) (tag slots id : ℕ) (me : Me (Unit {0}) View) (m : Mark) → 0 < me.0.share
-    → Allows (Kept old tag) slots id me (place_of m + 1) (λ n. min n (number_under tag m.tid)) (λ _ me'. me' ≡ (view me.0.share (me.0.marks ++ m ∷ []), me.1))
+    → Allows (Kept old tag) slots id me (place_of m) (λ n. min n (number_under tag m.tid)) (λ _ me'. me' ≡ (view me.0.share (me.0.marks ++ m ∷ []), me.1))
 marks old tag slots id me m has_share s kept homes at small = (
   view me.0.share (me.0.marks ++ m ∷ []),
   keeps,
@@ -79,17 +80,17 @@ marks old tag slots id me m has_share s kept homes at small = (
   refl,
 )
 
-key_again : (key : ℕ) (writes : Bool) (tid : ℕ) → key ≡ (place_of (mark tid key writes) + 1 - 1) / 2
+key_again : (key : ℕ) (writes : Bool) (tid : ℕ) → key ≡ (place_of (mark tid key writes)) / 2
 key_again key true tid = omega arith
 key_again key false tid = omega arith
 
 -- from the word and the number of the step both the key and the TID are told
-pub marks_key : (old : List ℕ) (tag slots id : ℕ) (me : Me (Unit {0}) View) (tid key : ℕ) (writes : Bool) (word number : ℕ) → 0 < me.0.share → tid ≤ greatest_tid
-    → word ≡ place_of (mark tid key writes) + 1 → number ≡ number_under tag tid
+pub marks_key : (old : List ℕ) (tag slots id : ℕ) (me : Me (Unit {0}) View) (tid key : ℕ) (writes : Bool) (word number : ℕ) → 0 < me.0.share → tid ≤ MOST_REQUESTS
+    → word ≡ place_of (mark tid key writes) → number ≡ number_under tag tid
     → Allows (Kept old tag) slots id me word (λ n. min n number) (marked writes (step slots word number 0 none) me)
 marks_key old tag slots id me tid key writes word number has_share within word_is number_is =
     subst (λ (w : ℕ). Allows (Kept old tag) slots id me w (λ n. min n number) (marked writes (step slots w number 0 none) me)) (sym word_is)
-    (subst (λ (k : ℕ). Allows (Kept old tag) slots id me (place_of m + 1) (λ n. min n k) (marked writes (step slots (place_of m + 1) k 0 none) me)) (sym number_is)
+    (subst (λ (k : ℕ). Allows (Kept old tag) slots id me (place_of m) (λ n. min n k) (marked writes (step slots (place_of m) k 0 none) me)) (sym number_is)
     (λ s kept homes at small.
     let allowed = marks old tag slots id me m has_share s kept homes at small in
     (allowed.0, allowed.1, allowed.2, allowed.3, allowed.4 ∙ (λ i. (view me.0.share (me.0.marks ++ mark (tid_again i) (key_again key writes tid i) writes ∷ []), me.1)))))
@@ -97,8 +98,8 @@ marks_key old tag slots id me tid key writes word number has_share within word_i
     m : Mark
     m = mark tid key writes
 
-    tid_again : tid ≡ number_under tag tid % tag_span
-    tid_again = sym (mul-add-mod_self_right tag tag_span tid ∙ mod-eq_of_lt (omega arith))
+    tid_again : tid ≡ number_under tag tid % TAG_SPAN
+    tid_again = sym (mul-add-mod_self_right tag TAG_SPAN tid ∙ mod-eq_of_lt (omega arith))
 
 -- what is put, where a new seat has the marks of another
 module _ (tag : ℕ) (views : List View) (id : ℕ) (v : View) (at : get_elem? views id ≡ some v) where
@@ -156,10 +157,10 @@ joins old tag id v other w has_share s kept at apart at' = record {
 
 -- where one seat has all shares, each word is that of its marks
 pub closes : (old : List ℕ) (tag id : ℕ) (v : View) (words : List ℕ) (xs : List (Unit {0})) → v.share ≡ all_shares → tag < 2 ^ 49 → AreAbove tag old → All HasTid v.marks
-    → Final (Seen (Kept old tag) id v) words xs → (place : ℕ) → place + 1 < length words → get_or words (place + 1) 0 ≡ word_of old tag v.marks place
+    → Final (Seen (Kept old tag) id v) words xs → (place : ℕ) → place < length words → get_or words place 0 ≡ word_of old tag v.marks place
 closes old tag id v words xs whole small above tids (s, (kept, at), words_are, count, values) place lt =
-    let lt' : place + 1 < length s.words = omega (arith, ap length words_are) in
-    let is : IsLeastPut old tag place s.views (get_or words (place + 1) 0) = subst (λ ws. IsLeastPut old tag place s.views (get_or ws (place + 1) 0)) words_are (kept.words place lt') in
-    word_of-least old tag place v.marks (get_or words (place + 1) 0) small above tids
+    let lt' : place < length s.words = omega (arith, ap length words_are) in
+    let is : IsLeastPut old tag place s.views (get_or words place 0) = subst (λ ws. IsLeastPut old tag place s.views (get_or ws place 0)) words_are (kept.words place lt') in
+    word_of-least old tag place v.marks (get_or words place 0) small above tids
     (λ t marked. is.least (number_under tag t) (id, v, t, at, marked, refl))
     (⊎_elim (λ start. inl start) (λ put. inr (put_alone tag place s.views id v at (kept.shares ∙ sym whole) kept.idle _ put)) is.made)

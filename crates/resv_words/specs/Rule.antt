@@ -4,7 +4,8 @@ use mathlib.Core.Option.{some}
 use lib.ListN.{get_elem?}
 use Rattle.atomic_table.specs.Table.{State, Step, Me}
 use Rattle.aria_base.specs.declared.marks.Mark.{Mark}
-use Rattle.aria_base.specs.Reserved.{tag_span, number_under, start_of, IsMarked}
+use Rattle.aria_base.specs.declared.limits.TheConstants.{TAG_SPAN}
+use Rattle.aria_base.specs.Reserved.{number_under, start_of, IsMarked}
 use Rattle.aria_base.specs.Shares.{all_shares}
 use Rattle.resv_words.specs.declared.rules.View.{View}
 
@@ -30,7 +31,7 @@ Idle v = v.share ≡ 0 → v.marks ≡ []
 
 pub record Kept (old : List ℕ) (tag : ℕ) (s : State (Unit {0}) View) : Type 0 where
   pub shares : sum_by (λ v. v.share) s.views ≡ all_shares
-  pub words : (place : ℕ) → place + 1 < length s.words → IsLeastPut old tag place s.views (slice_index s.words (place + 1))
+  pub words : (place : ℕ) → place < length s.words → IsLeastPut old tag place s.views (slice_index s.words place)
   pub idle : (seat : ℕ) (v : View) → get_elem? s.views seat ≡ some v → Idle v
 
 abbrev pub first_view : View
@@ -38,7 +39,7 @@ first_view = view all_shares []
 
 -- the step lowered the word of a place to a number, from which both the key and the TID can be told
 abbrev pub marked : Bool → Step (Unit {0}) → Me (Unit {0}) View → ℕ → Me (Unit {0}) View → Type 0
-marked writes st me found me' = me' ≡ (view me.0.share (me.0.marks ++ mark (st.first % tag_span) ((st.word - 1) / 2) writes ∷ []), me.1)
+marked writes st me found me' = me' ≡ (view me.0.share (me.0.marks ++ mark (st.first % TAG_SPAN) (st.word / 2) writes ∷ []), me.1)
 
 abbrev pub one_less : View → View
 one_less v = view (v.share - 1) v.marks

@@ -1,5 +1,6 @@
 ghost use Rattle.std.specs.Prelude.{◌≡◌, ◌+◌, ◌-◌, ◌*◌, ◌^◌, ◌<◌, ◌≤◌, [], ◌++◌, length, true, false, IfOk, OnOk, OnErr};
-ghost use Rattle.aria_base.specs.Reserved.{greatest_tid, number_under, AreAbove};
+ghost use Rattle.aria_base.specs.declared.limits.TheConstants.{MOST_REQUESTS};
+ghost use Rattle.aria_base.specs.Reserved.{number_under, AreAbove};
 ghost use Rattle.aria_base.specs.Shares.{all_shares};
 ghost use Rattle.resv_words.specs.Seats.{most_keys, with_mark, closed_of, Tells};
 
@@ -17,8 +18,8 @@ const TAG_SPAN: u64 = 16_384;
 /// a seat of its own.
 #[derive(Drop)]
 pub struct Words {
-    // The words of key k are 2k + 1, for the requests that write it, and 2k + 2, for those that
-    // read it. Word 0 is no key's: seats are split and joined on it.
+    // The words of key k are 2k, for the requests that write it, and 2k + 1, for those that read it. The
+    // last word is no key's: without keys too there is a word 0, on which seats are split and joined.
     table: Table<(), View, Origin, LeastNumbers, Global>,
     keys: u32,
     tag: u64,
@@ -99,7 +100,6 @@ impl Words {
         };
         let word_count = 2 * keys as usize + 1;
         old.reserve_exact(word_count - old.len())?;
-        old.insert(0, 0)?;
         old.resize(word_count, u64::MAX)?;
         let (table, seat) = Table::of_words(alloc, &old, &origin)?;
         Ok((
@@ -116,11 +116,11 @@ impl Words {
     /// Marks the key as read by the request at place `tid` of the batch.
     pub fn mark_read(&self, seat: &mut WordSeat, tid: u32, key: u32)
         requires own { seat.old.table ≡ self.now.table }
-        requires tid { (1 ≤ tid) × (tid ≤ greatest_tid) }
+        requires tid { (1 ≤ tid) × (tid ≤ MOST_REQUESTS) }
         requires key { key < self.now.keys }
         ensures { seat.new ≡ with_mark seat.old tid key false }
     {
-        let word = 2 * key as usize + 2;
+        let word = 2 * key as usize + 1;
         let number = self.number_of(tid);
         self.table
             .shared
@@ -130,11 +130,11 @@ impl Words {
     /// Marks the key as written by the request at place `tid` of the batch.
     pub fn mark_write(&self, seat: &mut WordSeat, tid: u32, key: u32)
         requires own { seat.old.table ≡ self.now.table }
-        requires tid { (1 ≤ tid) × (tid ≤ greatest_tid) }
+        requires tid { (1 ≤ tid) × (tid ≤ MOST_REQUESTS) }
         requires key { key < self.now.keys }
         ensures { seat.new ≡ with_mark seat.old tid key true }
     {
-        let word = 2 * key as usize + 1;
+        let word = 2 * key as usize;
         let number = self.number_of(tid);
         self.table
             .shared
@@ -172,11 +172,14 @@ impl Words {
     {
         let laid = Snapshot::of(&self);
         let last = Snapshot::of(&seat);
-        let mut words = Vec::from_elem(self.alloc, 0, 2 * self.keys as usize)?;
+        let count = 2 * self.keys as usize;
+
+        // With room for the last word too, so that the next `over` fills the block up in place.
+        let mut words = Vec::with_capacity(self.alloc, count + 1)?;
         let Words { table, tag, .. } = self;
         let closed = table.close_with(seat.seat);
-        for (place, word) in words.iter_mut().enumerate() {
-            *word = closed.word(place + 1);
+        for place in 0..count {
+            words.push(closed.word(place)).unwrap();
         }
         closed.free();
         Ok(Closed {
@@ -188,7 +191,7 @@ impl Words {
     }
 
     fn number_of(&self, tid: u32) -> u64
-        requires { tid ≤ greatest_tid }
+        requires { tid ≤ MOST_REQUESTS }
         ensures { result ≡ number_under self.now.tag tid }
     {
         self.tag * TAG_SPAN + u64::from(tid)

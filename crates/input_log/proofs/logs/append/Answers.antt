@@ -1,10 +1,10 @@
 use Rattle.std.proofs.Common.{◌≡◌, ℕ, ◌+◌, ◌^◌, ◌<◌, ◌≤◌, List, [], ◌∷◌, length, Option, option_map, sym, ◌∙◌, ap, subst, arith}
 use Rattle.std.specs.Prelude.{IfSome}
-use Rattle.disk_model.specs.Files.{File, untouched, put, loosened}
-use Rattle.disk_model.specs.Histories.{current, EachImage, HasImage, IsStable}
-use Rattle.disk_model.specs.Spans.{within_then, within_more}
-use Rattle.input_log.specs.Layout.{log_of, with_record, EndsAt, IsWithOrWithout}
-use Rattle.input_log.proofs.Stages.{each_more, room_behind, room_at, stage_record, stage_gate, stage_done, stage_ends, stable_untouched, one_more_is}
+use Rattle.disk_model.specs.Files.{File, untouched, put}
+use Rattle.disk_model.specs.Histories.{current, EachImage, IsStable}
+use Rattle.disk_model.proofs.Spans.{stable_untouched}
+use Rattle.input_log.specs.Layout.{log_of, with_record, EndsAt}
+use Rattle.input_log.proofs.Stages.{room_behind, room_at, stage_done, stage_ends, stage_bytes, record_leaves, gate_leaves, one_more_is}
 use Rattle.input_log.proofs.logs.append.Goals as goal
 
 pub write_synced-requires-clause-within : goal.write_synced-requires-clause-within
@@ -14,10 +14,8 @@ write_synced-requires-clause-within g c =
 
 pub returns-in_err-write_synced-clause-images : goal.returns-in_err-write_synced-clause-images
 returns-in_err-write_synced-clause-images g c =
-    let told = current (g.D.Disk.history c.args.disk.now) c.args.end.now.file in
     let reads = g.met.D.Disk.reads c.args.disk.now (g.D.Disk.history c.args.disk.now).now c.args.end.now.file in
-    within_more _ _ _ _ (λ t. EachImage t (IsWithOrWithout told c.args.payload.now)) c.write_synced.ensures.images
-    (λ t each. each_more t _ _ (stage_record told c.args.end.now.at c.args.end.now.batches c.args.payload.now reads c.requires.ends (length c.deref.result.now)) each)
+    record_leaves _ _ (g.D.Disk.history c.write_synced.new.disk) _ _ _ _ reads c.requires.ends _ c.write_synced.ensures.images
 
 pub write_synced-requires-2-clause-within : goal.write_synced-requires-2-clause-within
 write_synced-requires-2-clause-within g c =
@@ -34,9 +32,7 @@ returns-in_err-write_synced-2-clause-images g c =
     let bytes_are = c.deref.ensures.value ∙ c.in_ok-record.ensures in
     let staged_is = c.in_ok-write_synced.ensures.written ∙ ap (λ (l : List ℕ). option_map (λ f. untouched (put f.seen (c.args.end.now.at + 1) l)) told) bytes_are in
     let small : length c.args.payload.now < 256 ^ 4 = omega arith in
-    within_then _ _ _ _ _ _ (λ t. EachImage t (IsWithOrWithout told c.args.payload.now)) c.write_synced.ensures.images c.write_synced-2.ensures.images
-    (λ t each. each_more t _ _ (stage_record told c.args.end.now.at c.args.end.now.batches c.args.payload.now reads c.requires.ends (length c.deref.result.now)) each)
-    (λ t each. each_more t _ _ (λ image has. stage_gate told c.args.end.now.at c.args.end.now.batches c.args.payload.now reads c.requires.ends small image (subst (λ (o : Option File). HasImage (option_map (loosened c.args.end.now.at 1) o) image) staged_is has)) each)
+    gate_leaves _ (g.D.Disk.history c.write_synced.new.disk) _ _ _ _ _ reads c.requires.ends _ small c.write_synced.ensures.images staged_is c.write_synced-2.ensures.images
 
 pub returns-clause-images : goal.returns-clause-images
 returns-clause-images g c =
@@ -45,9 +41,17 @@ returns-clause-images g c =
     let bytes_are = c.deref.ensures.value ∙ c.in_ok-record.ensures in
     let staged_is = c.in_ok-write_synced.ensures.written ∙ ap (λ (l : List ℕ). option_map (λ f. untouched (put f.seen (c.args.end.now.at + 1) l)) told) bytes_are in
     let small : length c.args.payload.now < 256 ^ 4 = omega arith in
-    within_then _ _ _ _ _ _ (λ t. EachImage t (IsWithOrWithout told c.args.payload.now)) c.write_synced.ensures.images c.write_synced-2.ensures.images
-    (λ t each. each_more t _ _ (stage_record told c.args.end.now.at c.args.end.now.batches c.args.payload.now reads c.requires.ends (length c.deref.result.now)) each)
-    (λ t each. each_more t _ _ (λ image has. stage_gate told c.args.end.now.at c.args.end.now.batches c.args.payload.now reads c.requires.ends small image (subst (λ (o : Option File). HasImage (option_map (loosened c.args.end.now.at 1) o) image) staged_is has)) each)
+    gate_leaves _ (g.D.Disk.history c.write_synced.new.disk) _ _ _ _ _ reads c.requires.ends _ small c.write_synced.ensures.images staged_is c.write_synced-2.ensures.images
+
+pub returns-clause-bytes : goal.returns-clause-bytes
+returns-clause-bytes g c =
+    let told = current (g.D.Disk.history c.args.disk.now) c.args.end.now.file in
+    let reads = g.met.D.Disk.reads c.args.disk.now (g.D.Disk.history c.args.disk.now).now c.args.end.now.file in
+    let bytes_are = c.deref.ensures.value ∙ c.in_ok-record.ensures in
+    let staged_is = c.in_ok-write_synced.ensures.written ∙ ap (λ (l : List ℕ). option_map (λ f. untouched (put f.seen (c.args.end.now.at + 1) l)) told) bytes_are in
+    c.in_ok-write_synced-2.ensures.written
+    ∙ ap (λ (o : Option File). option_map (λ f. untouched (put f.seen c.args.end.now.at (1 ∷ []))) o) staged_is
+    ∙ stage_bytes told c.args.end.now.at c.args.end.now.batches c.args.payload.now reads c.requires.ends
 
 pub returns-clause-stored : goal.returns-clause-stored
 returns-clause-stored g c =

@@ -1,6 +1,7 @@
 use Rattle.std.proofs.Common.{[], ◌∷◌}
 use Rattle.disk_model.specs.Files.{put}
-use Rattle.input_log.proofs.Stages.{fresh_ends, stable_untouched}
+use Rattle.disk_model.proofs.Spans.{stable_untouched}
+use Rattle.input_log.proofs.Stages.{fresh_ends}
 use Rattle.input_log.proofs.logs.fresh.Goals as goal
 
 pub returns-clause-ends : goal.returns-clause-ends

@@ -2,7 +2,7 @@ use Rattle.std.proofs.Common.{◌≡◌, ℕ, ◌+◌, ◌<◌, List, length, dr
 use Rattle.std.specs.Prelude.{IfSome}
 use Rattle.disk_model.specs.Files.{File}
 use Rattle.disk_model.specs.Histories.{current}
-use Rattle.disk_model.specs.Spans.{keeps_then}
+use Rattle.disk_model.proofs.Spans.{still_now, still_then}
 use Rattle.input_log.specs.declared.logs.Payload.{Payload}
 use Rattle.input_log.specs.Layout.{next_of, next_is}
 use Rattle.input_log.proofs.Scans.{Goes, goes_on}
@@ -12,8 +12,7 @@ pub loop-payloads-preserved : goal.loop-payloads-preserved
 loop-payloads-preserved g c =
     let told = current (g.D.Disk.history c.args.disk.now) c.args.file in
     let before = current (g.D.Disk.history c.loop-payloads.disk) c.args.file in
-    let keeps = c.loop-payloads.invariant.keeps in
-    let told_is = keeps.each (g.D.Disk.history c.loop-payloads.disk).now keeps.later (omega arith) in
+    let told_is = still_now _ _ c.loop-payloads.invariant.still c.args.file in
     let found = subst (λ (r : Option (List ℕ)). IfSome before (λ f. next_of (drop c.loop-payloads.at f.seen) ≡ next_is r)) c.in-Some.is c.in_ok-bytes.ensures.next in
     let next = subst (λ (o : Option File). IfSome o (λ f. next_of (drop c.loop-payloads.at f.seen) ≡ next_is (Some c.in-Some.bytes))) told_is found in
     let within = subst (λ (r : Option (List ℕ)). IfSome r (λ payload. c.loop-payloads.at + 5 + length payload < c.in_ok-len.len)) c.in-Some.is c.in_ok-bytes.ensures.within in
@@ -22,7 +21,7 @@ loop-payloads-preserved g c =
     let goes = goes_on told c.loop-payloads.payloads.items c.loop-payloads.at c.in-Some.bytes c.loop-payloads.invariant.goes next in
     record {
       within = omega (arith, within, size);
-      keeps = keeps_then _ _ _ _ keeps c.in_ok-bytes.ensures.keeps;
+      still = still_then _ _ _ c.loop-payloads.invariant.still c.in_ok-bytes.ensures.still;
       size = c.loop-payloads.invariant.size;
       goes = subst (λ (at : ℕ). Goes told c.push.new.self.items at) place (subst (λ (ps : List Payload). Goes told ps (c.loop-payloads.at + 5 + length c.in-Some.bytes)) (sym c.in_ok-push.ensures.items) goes);
     }

@@ -1,4 +1,4 @@
-use Rattle.disk_model.specs.Images.{left_images}
+use Rattle.disk_model.proofs.Images.{left_images}
 use Rattle.disk_model.proofs.mem_disks.MemDisk.stopped.Goals as goal
 
 pub returns-in_err-left-clause-image : goal.returns-in_err-left-clause-image

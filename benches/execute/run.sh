@@ -1,0 +1,27 @@
+#!/usr/bin/env bash
+# Proves, builds and runs the benchmark of `execute`: run.sh [COMMIT]. With a commit its crates are
+# measured beside those of this folder, in turns.
+set -euo pipefail
+here=$(cd "$(dirname "$0")" && pwd)
+source "$here/../workspace.sh"
+built=$(mktemp -d)
+trap 'rm -rf "$built"' EXIT
+
+# build TOP NAME: the program over the crates that lie in TOP.
+build() (
+    lay_out "$1/benches/execute" none \
+        'execute_bench: anyhow exec_phase cat_builtin tbl_snapshot tbl_rows proc_lang aria_base' \
+        aria_base batch_rules proc_lang proc_verify cat_builtin proc_exec tbl_rows tbl_snapshot exec_phase
+    "${RT:-rt}" run -- 0 1 1 > build.log 2>&1 || { cat build.log; exit 1; }
+    cp out/execute_bench "$built/$2"
+)
+
+if [ $# -gt 0 ]; then
+    mkdir "$built/top"
+    git -C "$here" archive --format=tar "$1" -- crates crates.txt | tar -x -C "$built/top"
+    mkdir -p "$built/top/benches"
+    cp -r "$here" "$built/top/benches/"
+    build "$built/top" before
+fi
+build "$here/../.." after
+python3 "$here/measure.py" "$built"

@@ -1,0 +1,136 @@
+// The front of a slot: its fields as bytes, and what may be wrong with them.
+ghost use Rattle.std.specs.Prelude.{◌≡◌, ◌≤◌};
+ghost use Rattle.checkpoint.specs.Heads.{fields_of, head_in, head_bytes};
+ghost use Rattle.checkpoint.specs.Damage.{faults, first_fault, wrong_generation};
+
+use batch_rules::verdicts::Rule;
+use byteorder::{ByteOrder, LittleEndian};
+
+/// How many bytes stand before the body, the gate among them.
+pub const FRONT: usize = 40;
+
+/// 'ARIA' as a number, the first byte the lowest.
+const MAGIC: u32 = 0x4149_5241;
+
+/// The most batches and requests.
+const MOST: u64 = 1 << 62;
+
+/// The greatest fallback.
+const MOST_FALLBACK: u8 = 101;
+
+/// What stands at the front of a checkpoint.
+#[derive(Clone, Copy, Debug, PartialEq, Eq)]
+pub struct Head {
+    pub format: u8,
+    pub rule: Rule,
+    pub fallback: u32,
+    pub generation: u64,
+    pub batches: u64,
+    pub requests: u64,
+}
+
+/// What the bytes at the front say, whether it can be or not.
+#[derive(Clone, Copy)]
+pub struct Fields {
+    pub magic: u32,
+    pub format: u8,
+    pub rule: u8,
+    pub fallback: u8,
+    pub generation: u64,
+    pub batches: u64,
+    pub requests: u64,
+    pub body: u64,
+}
+
+impl Head {
+    /// The bytes between the gate and a body of so many bytes.
+    pub fn bytes(&self, body: u64) -> [u8; 39]
+        requires { self.now.fallback ≤ 101 }
+        ensures { result ≡ head_bytes self.now body }
+    {
+        let mut front = [0; FRONT - 1];
+        front[..4].copy_from_slice(b"ARIA");
+        front[4] = self.format;
+        front[5] = match self.rule {
+            Rule::Plain => 0,
+            Rule::Reorder => 1,
+        };
+        front[6] = self.fallback as u8;
+        LittleEndian::write_u64(&mut front[7..], self.generation);
+        LittleEndian::write_u64(&mut front[15..], self.batches);
+        LittleEndian::write_u64(&mut front[23..], self.requests);
+        LittleEndian::write_u64(&mut front[31..], body);
+        front
+    }
+}
+
+impl Fields {
+    pub fn of(front: &[u8; 40]) -> Fields
+        ensures { result ≡ fields_of front.now }
+    {
+        Fields {
+            magic: LittleEndian::read_u32(&front[1..]),
+            format: front[5],
+            rule: front[6],
+            fallback: front[7],
+            generation: LittleEndian::read_u64(&front[8..]),
+            batches: LittleEndian::read_u64(&front[16..]),
+            requests: LittleEndian::read_u64(&front[24..]),
+            body: LittleEndian::read_u64(&front[32..]),
+        }
+    }
+
+    /// The offset of the first thing that is wrong with them in this slot.
+    pub fn first_fault(&self, slot: u8) -> Option<u64>
+        ensures { result ≡ first_fault (faults slot self.now) }
+    {
+        if self.magic != MAGIC {
+            return Some(1);
+        }
+        if self.format != 1 && self.format != 2 {
+            return Some(5);
+        }
+        if self.rule > 1 {
+            return Some(6);
+        }
+        if self.fallback > MOST_FALLBACK {
+            return Some(7);
+        }
+        if self.wrong_generation(slot) {
+            return Some(8);
+        }
+        if self.batches > MOST {
+            return Some(16);
+        }
+        if self.requests > MOST {
+            return Some(24);
+        }
+        None
+    }
+
+    fn wrong_generation(&self, slot: u8) -> bool
+        ensures { result ≡ wrong_generation slot self.now }
+    {
+        if self.generation == 0 || self.generation % 2 != u64::from(slot) {
+            return true;
+        }
+        self.generation.saturating_sub(self.batches) > u64::from(self.format)
+    }
+
+    pub fn head(&self) -> Head
+        ensures { result ≡ head_in self.now }
+    {
+        Head {
+            format: self.format,
+            rule: if self.rule == 0 {
+                Rule::Plain
+            } else {
+                Rule::Reorder
+            },
+            fallback: u32::from(self.fallback),
+            generation: self.generation,
+            batches: self.batches,
+            requests: self.requests,
+        }
+    }
+}

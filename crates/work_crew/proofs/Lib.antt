@@ -1,0 +1,3 @@
+mod Draws
+mod Fills
+pub mod Lists

@@ -1,0 +1,93 @@
+// What places come to, each for itself.
+ghost use Rattle.std.specs.Prelude.{◌≡◌, ◌≤◌, ◌<◌, ℕ, IfOk};
+ghost use Rattle.work_crew.specs.Gathered.{AreGiven, IsGathered};
+
+use crate::crews::carry_out;
+use crate::outputs::{Done, all_of, empty_slots, fill};
+use crate::works::Work;
+use aria_base::{Memory, Pace, Place};
+use std::alloc::Global;
+use std::thread::Threads;
+
+/// What each place of a list comes to.
+pub trait Task {
+    type Output: Drop + Send;
+
+    /// How many places there are.
+    ghost count: { Self → ℕ };
+
+    /// This is what the place comes to.
+    ghost gives: { Self → ℕ → Self.Output → Type 0 };
+
+    /// How many places there are.
+    fn len(&self) -> u32
+        ensures { result ≡ count self.now };
+
+    /// The kind of step that a run is.
+    fn step(&self) -> Place;
+
+    /// What the place comes to.
+    fn run(&self, place: u32) -> Result<Self::Output, Memory>
+        requires { place < count self.now }
+        ensures { IfOk result (λ output. gives self.now place output) };
+}
+
+// The work in which each hand keeps the outputs of its places.
+#[derive(Drop)]
+struct Gathering<'a, T> {
+    alloc: Global,
+    task: &'a T,
+}
+
+impl<'a, T: Task> Work for Gathering<'a, T> {
+    type Hand = Vec<Done<T::Output>>;
+
+    ghost count = { λ g. T.count g.task.now };
+
+    ghost did = { λ g hand _ places. IsGathered (T.gives g.task.now) hand.items places };
+
+    fn len(&self) -> u32 {
+        self.task.len()
+    }
+
+    fn step(&self) -> Place {
+        self.task.step()
+    }
+
+    fn run(&self, hand: &mut Vec<Done<T::Output>>, place: u32) -> Result<(), Memory> {
+        let output = self.task.run(place)?;
+        hand.push(Done { place, output })?;
+        Ok(())
+    }
+
+    fn split(&self, _hand: &mut Vec<Done<T::Output>>) -> Result<Vec<Done<T::Output>>, Memory> {
+        Ok(Vec::new(self.alloc))
+    }
+
+    fn join(
+        &self,
+        hand: &mut Vec<Done<T::Output>>,
+        mut other: Vec<Done<T::Output>>,
+    ) -> Result<(), Memory> {
+        hand.append(&mut other)?;
+        Ok(())
+    }
+}
+
+/// What all places come to, in their order. The workers are those of [`carry_out`].
+pub fn gather<T: Task + Sync, P: Pace + Sync, R: Threads + Sync>(
+    rt: &R,
+    alloc: Global,
+    task: &T,
+    workers: u32,
+    pace: &P,
+) -> Result<Vec<T::Output>, Memory>
+    requires workers { (1 ≤ workers) × (workers ≤ 64) }
+    ensures { IfOk result (λ outputs. AreGiven (T.gives task.now) (T.count task.now) outputs.items) }
+{
+    let gathering = Gathering { alloc, task };
+    let done = carry_out(rt, alloc, &gathering, Vec::new(alloc), workers, pace)?;
+    let mut slots = empty_slots(alloc, task.len() as usize)?;
+    fill(&mut slots, done);
+    all_of(alloc, slots)
+}
