@@ -1,7 +1,7 @@
 // Whole scripts against answers worked out by hand.
 use crate::{DONE, NO_MEMORY, READ_FAULT, REFUSED, USAGE, WRITE_FAULT, aria};
 use aria_base::{MemSink, MemSource, Memory};
-use std::alloc::Global;
+use std::alloc::{AllocError, Global};
 use std::test::Fail;
 
 const HEAD: &str = "catalog bank\nrow acct 1 = 10\nrow acct 2 = 20\nrow acct 3 = 30\n";
@@ -10,6 +10,9 @@ const RING: &str = "tx copy 1 2\ntx copy 2 3\ntx copy 3 1\nend 1\n";
 
 const RING_ANSWER: &str =
     "batch 1\n1 ok 10\n2 wait raw 1\n3 wait raw 2\norder 1\nend 1\nstate 1\nrow acct 1 = 10\nrow acct 2 = 10\nrow acct 3 = 30\nend state\n";
+
+/// How many bytes a sink takes, more than any of these runs writes.
+const ROOM: usize = 100_000;
 
 /// A run: its words, the two parts of its script, how many bytes the source gives at a time, and
 /// which call of the source and of the sink fails, 0 for none.
@@ -46,7 +49,7 @@ fn run(alloc: Global, case: &Case) -> Result<(u8, Vec<u8>), Memory> {
     let fails = Vec::from_array(alloc, [case.failing_take])?;
     let mut input = MemSource::new(script, case.piece.max(1), fails);
     let fails = Vec::from_array(alloc, [case.failing_give])?;
-    let mut out = MemSink::new(alloc, 1000, fails)?;
+    let mut out = MemSink::new(alloc, ROOM, fails)?;
     let status = aria(alloc, &words, &mut input, &mut out);
     if status == NO_MEMORY {
         return Err(Memory);
@@ -100,6 +103,30 @@ fn batches_are_answered_by_the_plain_rule(rt: HostRuntime) -> Result<(), Fail> {
             assert!(rt; right, "at {batches:?}");
         }
     }
+    Ok(())
+}
+
+/// A batch of so many requests that put 7 into account 1, and its answer: the first finishes, and the
+/// others wait for it.
+fn sets_of_one_account(alloc: Global, count: u32) -> Result<(String, String), AllocError> {
+    let mut batch = String::new(alloc);
+    let mut answer = String::from_str(alloc, "batch 1\n1 ok 7\n")?;
+    for q in 1..=count {
+        batch.push_str("tx set 1 7\n")?;
+        if q > 1 {
+            answer.push_str(format!(in alloc; "{q} wait waw 1\n")?.as_str())?;
+        }
+    }
+    batch.push_str("end 1\n")?;
+    answer.push_str("order 1\nend 1\nstate 1\nrow acct 1 = 7\nrow acct 2 = 20\nrow acct 3 = 30\nend state\n")?;
+    Ok((batch, answer))
+}
+
+#[test]
+fn thousands_of_requests_are_answered(rt: HostRuntime) -> Result<(), Fail> {
+    let (batch, answer) = sets_of_one_account(rt.alloc(), 4_000)?;
+    let right = ends(rt.alloc(), &plain(batch.as_str(), 4096), DONE, answer.as_str())?;
+    assert!(rt; right);
     Ok(())
 }
 
