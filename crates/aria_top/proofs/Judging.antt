@@ -1,5 +1,5 @@
 -- A batch without a late fold, by the outcomes that the engine has in its hands.
-use Rattle.std.proofs.Common.{◌≡◌, refl, ap, sym, ◌∙◌, ℕ, ◌+◌, ◌*◌, ◌<◌, ◌≤◌, zero, suc, List, [], ◌∷◌, ◌++◌, map, length, Bool, false, not, ◌&&◌, nat_lt, nat_le, if◌then◌else◌, arith}
+use Rattle.std.proofs.Common.{◌≡◌, refl, ap, sym, ◌∙◌, ℕ, ◌+◌, ◌*◌, ◌<◌, ◌≤◌, zero, suc, List, [], ◌∷◌, ◌++◌, map, length, Bool, false, not, ◌&&◌, nat_lt, nat_le, if◌then◌else◌, slice_index_or, arith}
 use Rattle.std.specs.List.{filter}
 use Rattle.std.proofs.lemmas.Bool.{lt-leb}
 use Rattle.std.proofs.Math.Bool.{and-false}
@@ -96,7 +96,7 @@ module _ (tree : Request → Tree Key Cells End) (start : Database) where
 
   waiting-same : (ds : List (Judged Request)) → map (λ e. e.judged.request) (carried (settled by ds [])) ≡ waiting_after (map decided_of ds)
   waiting-same ds = ap (λ es. map (λ e. e.judged.request) (carried es)) (settled-alone by ds)
-      ∙ ap (map (λ e. e.judged.request)) (sym (filter-map (alone by) (λ d. waits d.verdict) is_carried ds (λ k d below. carried-is _)))
+      ∙ ap (map (λ e. e.judged.request)) (sym (filter-map (alone by) (λ d. waits d.verdict) is_carried ds (λ k d below. carried-is (slice_index_or ds k d))))
       ∙ map-map (λ e. e.judged.request) (alone by) (filter (λ d. waits d.verdict) ds)
       ∙ sym (ap (map (λ d. d.request)) (sym (filter-map decided_of (λ d. waits d.verdict) (λ d. waits d.verdict) ds (λ k d below. refl))) ∙ map-map (λ d. d.request) decided_of (filter (λ d. waits d.verdict) ds))
 

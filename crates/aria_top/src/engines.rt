@@ -1,7 +1,8 @@
 // One batch: the requests run on the rows that the batch before left, the rule decides which of
 // them finish, and their writes are installed.
-ghost use Rattle.std.specs.Prelude.{◌≡◌, ◌+◌, ◌<◌, ◌≤◌, ◌^◌, ◌++◌, [], List, length, map, IfOk, OnOk};
+ghost use Rattle.std.specs.Prelude.{◌≡◌, ◌+◌, ◌<◌, ◌≤◌, ◌^◌, ◌++◌, [], List, length, map, IfOk, OnOk, None};
 ghost use Rattle.batch_rules.specs.Touches.{overwritten};
+ghost use Rattle.batch_rules.specs.Trees.{set_at};
 ghost use Rattle.batch_core.specs.Steps.{step, answer};
 ghost use Rattle.proc_lang.specs.Catalogs.{run_of};
 ghost use Rattle.aria_top.specs.Engines.{state_of, executed_at, rows_after, waiting_after};
@@ -9,7 +10,7 @@ ghost use Rattle.aria_top.specs.Out.{handed};
 ghost use Rattle.aria_base.specs.declared.limits.TheConstants.{MOST_REQUESTS};
 
 use crate::batches::{Decided, decide_all, lines_of, number_calls, order_of};
-use aria_base::{Call, Changes, Memory, Request};
+use aria_base::{Call, Changes, Key, Memory, Request};
 use batch_core::Answer;
 use dep_rules::{Rule, Verdict};
 use exec_phase::execute;
@@ -116,10 +117,15 @@ fn install(tables: &mut Tables, changes: Changes) -> Result<(), Memory>
     while let Some((key, row)) = changes.pop() {
         match row {
             Some(row) => tables.put(key, row)?,
-            None => {
-                tables.delete(&key);
-            }
+            None => remove(tables, key),
         }
     }
     Ok(())
+}
+
+/// Deletes the row at the key, if there is one.
+fn remove(tables: &mut Tables, key: Key)
+    ensures { tables.new ≡ set_at tables.old key None }
+{
+    tables.delete(&key);
 }

@@ -1,4 +1,4 @@
-use Rattle.std.proofs.Common.{◌≡◌, refl, ap, sym, ◌∙◌, List, [], ◌∷◌, ◌++◌, Option, Some}
+use Rattle.std.proofs.Common.{◌≡◌, refl, ap, sym, ◌∙◌, List, [], ◌∷◌, ◌++◌, Option, Some, None}
 use Rattle.aria_base.specs.Orders.{Cells, Database}
 use Rattle.aria_base.specs.declared.keys.Key.{Key}
 use Rattle.batch_rules.specs.Trees.{set_at}
@@ -23,6 +23,6 @@ loop-key-preserved-in-Continue-1 c =
 
 pub loop-key-preserved : goal.loop-key-preserved
 loop-key-preserved c =
-    made c.loop-key.tables c.delete.new.self c.loop-key.changes.items c.pop.new.self.items c.in-Some.key c.in-Some.row _
-    c.in-Some.ensures.items c.in-None.is c.delete.ensures.deleted
+    made c.loop-key.tables c.remove.new.tables c.loop-key.changes.items c.pop.new.self.items c.in-Some.key c.in-Some.row None
+    c.in-Some.ensures.items c.in-None.is c.remove.ensures
     ∙ c.loop-key.invariant
