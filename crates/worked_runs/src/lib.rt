@@ -12,8 +12,8 @@
 //! `expressions` and `statements` hold the examples. `catalogs` makes the catalogue, the rows and the
 //! request of one, and `words` puts into words what it comes to. `runs` runs the examples on
 //! snapshots, some within declared keys. `windows` has a window of its own and looks at what is asked
-//! of it. `calls` has the names of a catalogue, and calls that it does not take. `threads` lends one
-//! catalogue to two threads.
+//! of it. `calls` has the names of a catalogue, and calls that it does not take. `workers` runs
+//! requests by several workers.
 //!
 //! `typings`, `handmade` and `copies` are the tests of `proc_verify`, `proc_lang` and `proc_exec` that
 //! need no run. They stand here because a crate with tests is proved twice, and those are dear.
@@ -34,10 +34,10 @@ mod runs;
 #[cfg(test)]
 mod statements;
 #[cfg(test)]
-mod threads;
-#[cfg(test)]
 mod typings;
 #[cfg(test)]
 mod windows;
 #[cfg(test)]
 mod words;
+#[cfg(test)]
+mod workers;

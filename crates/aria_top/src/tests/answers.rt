@@ -118,14 +118,21 @@ fn sets_of_one_account(alloc: Global, count: u32) -> Result<(String, String), Al
         }
     }
     batch.push_str("end 1\n")?;
-    answer.push_str("order 1\nend 1\nstate 1\nrow acct 1 = 7\nrow acct 2 = 20\nrow acct 3 = 30\nend state\n")?;
+    answer.push_str(
+        "order 1\nend 1\nstate 1\nrow acct 1 = 7\nrow acct 2 = 20\nrow acct 3 = 30\nend state\n",
+    )?;
     Ok((batch, answer))
 }
 
 #[test]
 fn thousands_of_requests_are_answered(rt: HostRuntime) -> Result<(), Fail> {
     let (batch, answer) = sets_of_one_account(rt.alloc(), 4_000)?;
-    let right = ends(rt.alloc(), &plain(batch.as_str(), 4096), DONE, answer.as_str())?;
+    let right = ends(
+        rt.alloc(),
+        &plain(batch.as_str(), 4096),
+        DONE,
+        answer.as_str(),
+    )?;
     assert!(rt; right);
     Ok(())
 }
