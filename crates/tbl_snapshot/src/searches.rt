@@ -5,7 +5,7 @@ ghost use Rattle.std.specs.Option.{option_copied};
 ghost use Rattle.aria_base.specs.Orders.{key_cmp};
 ghost use Rattle.batch_rules.specs.Touches.{is_among};
 
-use aria_base::{Duplicate, Key, Memory, Row, copy_key, same_key};
+use aria_base::{Duplicate, Key, Memory, Row, contains_key, same_key};
 use std::alloc::Global;
 
 /// The place of a key's write.
@@ -20,10 +20,10 @@ pub(crate) fn note(alloc: Global, reads: &mut Vec<Key>, key: &Key) -> Result<(),
     ensures noted { OnOk result (reads.new.items ≡ (if is_among key_cmp reads.old.items key.now then reads.old.items else reads.old.items ++ key.now ∷ [])) }
     ensures kept { OnErr result (reads.new.items ≡ reads.old.items) }
 {
-    if has(reads, key) {
+    if contains_key(reads.as_slice(), key) {
         return Ok(());
     }
-    let key = copy_key(alloc, key)?;
+    let key = key.duplicate(alloc)?;
     reads.push(key)?;
     Ok(())
 }
@@ -36,10 +36,4 @@ pub(crate) fn copy_found(alloc: Global, found: Option<&Row>) -> Result<Option<Ro
         Some(row) => Ok(Some(row.duplicate(alloc)?)),
         None => Ok(None),
     }
-}
-
-fn has(keys: &Vec<Key>, key: &Key) -> bool
-    ensures { result ≡ is_among key_cmp keys.now.items key.now }
-{
-    keys.iter().any(|item| same_key(key, item))
 }
