@@ -1,0 +1,5 @@
+pub mod Builds
+pub mod Lines
+pub mod Rows
+pub mod Shapes
+pub mod Tables
