@@ -11,4 +11,5 @@ is_zero zero = true
 is_zero (suc n) = false
 
 abbrev pub so_far : Text → List CommandRow → ℕ → App
-so_far name rows i = record { top = record (top_for name) { is_leaf = is_zero i }; subs = map shape_for (map cmd_of (take i rows)) }
+so_far name rows i =
+    record { top = record (top_for name) { is_leaf = is_zero i }; subs = map shape_for (map cmd_of (take i rows)) }

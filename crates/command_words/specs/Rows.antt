@@ -7,13 +7,22 @@ use Rattle.command_words.specs.declared.rows.OptionRow.{OptionRow}
 use Rattle.command_words.specs.declared.rows.CommandRow.{CommandRow}
 use Rattle.command_words.specs.declared.lines.GivenRow.{GivenRow}
 use Rattle.command_words.specs.declared.lines.LineRow.{LineRow}
+use Rattle.command_words.specs.declared.options.Number.{Number}
+use Rattle.command_words.specs.declared.options.Choice.{Choice as Words}
 use Rattle.command_words.specs.Lines.{Opt, Cmd, Given, Line, text_in}
+use Rattle.command_words.specs.Values.{Choice, Range}
 
 abbrev pub opt_of : OptionRow → Opt
 opt_of r = record { name = r.name.now; is_flag = r.is_flag }
 
 abbrev pub cmd_of : CommandRow → Cmd
 cmd_of r = record { name = r.name.now; options = map opt_of r.options.now }
+
+abbrev pub range_of : Number → Range
+range_of n = record { name = n.name.now; low = n.low; high = n.high; usual = n.usual }
+
+abbrev pub choice_of : {T : Type 0} → Words T → Choice T
+choice_of c = record { name = c.name.now; usual = (c.usual.0.now, c.usual.1); other = (c.other.0.now, c.other.1) }
 
 abbrev pub given_of : GivenRow → Given
 given_of r = record { opt = opt_of r.option; text = r.text.now }

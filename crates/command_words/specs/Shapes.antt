@@ -17,7 +17,8 @@ abbrev pub shape_for : Cmd → Shape
 shape_for c = record (new_shape c.name) { rules = map rule_for c.options }
 
 abbrev pub top_for : List ℕ → Shape
-top_for name = record (new_shape name) { no_binary_name = true; disable_help_flag = true; disable_help_subcommand = true; is_leaf = false }
+top_for name =
+    record (new_shape name) { no_binary_name = true; disable_help_flag = true; disable_help_subcommand = true; is_leaf = false }
 
 abbrev pub app_for : List ℕ → List Cmd → App
 app_for name cmds = record { top = top_for name; subs = map shape_for cmds }

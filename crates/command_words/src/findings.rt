@@ -33,7 +33,7 @@ fn memory_of(_error: Error) -> Memory
 }
 
 /// What `clap` makes of the words; none where they are not of the line form.
-pub fn matches<'a>(
+pub(crate) fn matches<'a>(
     alloc: Global,
     rows: &[CommandRow<'a>],
     words: &'a [String],
@@ -51,7 +51,7 @@ pub fn matches<'a>(
 }
 
 /// The text of an option of the line.
-pub fn text<'a>(found: &ArgMatches<'a>, name: &str) -> Option<&'a str>
+pub(crate) fn text<'a>(found: &ArgMatches<'a>, name: &str) -> Option<&'a str>
     ensures { (l : Line) → IsRead l found.now → option_map (λ s. s.now) result ≡ text_in l name.now }
 {
     let (_, inner) = found.subcommand()?;

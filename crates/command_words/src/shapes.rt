@@ -1,4 +1,4 @@
-// The table of commands as `clap` has it: one command, a subcommand for each row, and for each option an argument whose value is a text.
+// The table of commands as `clap` has it: a subcommand for each row, and for each option an argument whose value is a text.
 ghost use Rattle.std.specs.Prelude.{◌≡◌, [], ◌<◌, length, map, IfErr, IfOk, false};
 ghost use Rattle.clap.specs.Words.{app_of, kind_of, rule_of, shape_of};
 ghost use Rattle.clap.specs.declared.builder.command.Command.TheViews.{out-Command as fields_of};
