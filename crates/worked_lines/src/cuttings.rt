@@ -1,4 +1,7 @@
 // Texts cut into pieces, and what is refused of them.
+ghost use Rattle.std.specs.Prelude.{◌<◌};
+
+use crate::words::same;
 use aria_base::Bytes;
 use script_text::{Kind8, Lines, LinesRefused};
 use std::alloc::Global;
@@ -47,25 +50,29 @@ fn barred(
 {
     let mut out = Vec::new(alloc);
     let mut lines = Lines::new(alloc, limit, longest);
-    match feed_all(&mut lines, text, size, &mut out) {
-        Ok(()) => {}
-        Err(LinesRefused::Memory) => return Err(Fail::new("there is memory")),
-        Err(LinesRefused::Line(refusal)) => {
-            let word = match refusal.kind {
-                Kind8::Long => "long",
-                Kind8::Size => "size",
-                _ => "another kind",
-            };
-            let line = refusal.line;
-            out.extend_from_slice(format!(in alloc; "{word} {line}")?.as_bytes())?;
-            return Ok(out);
-        }
+    if let Err(refused) = feed_all(&mut lines, text, size, &mut out) {
+        add_refusal(alloc, refused, &mut out)?;
+        return Ok(out);
     }
     if let Some(last) = lines.finish() {
         out.extend_from_slice(last.as_slice())?;
         out.extend_from_slice(b"|")?;
     }
     Ok(out)
+}
+
+fn add_refusal(alloc: Global, refused: LinesRefused, out: &mut Vec<u8>) -> Result<(), Fail> {
+    let LinesRefused::Line(refusal) = refused else {
+        return Err(Fail::new("there is memory"));
+    };
+    let word = match refusal.kind {
+        Kind8::Long => "long",
+        Kind8::Size => "size",
+        _ => "another kind",
+    };
+    let line = refusal.line;
+    out.extend_from_slice(format!(in alloc; "{word} {line}")?.as_bytes())?;
+    Ok(())
 }
 
 #[test]
@@ -75,7 +82,7 @@ fn cutting_makes_no_difference(rt: HostRuntime) -> Result<(), Fail> {
             return Err(Fail::new("pieces have bytes"));
         }
         let found = barred(rt.alloc(), 1000, 4096, TEXT.as_bytes(), size)?;
-        assert_eq!(rt; found.as_slice(), BARRED.as_bytes(), "{size}");
+        same(&rt, &size, &found.as_slice(), &BARRED.as_bytes());
     }
     Ok(())
 }
@@ -107,7 +114,7 @@ const BOUNDED: [(u64, u32, &str, &str); 14] = [
 fn first_byte_past_a_bound_refuses(rt: HostRuntime) -> Result<(), Fail> {
     for (limit, longest, text, said) in BOUNDED {
         let found = barred(rt.alloc(), limit, longest, text.as_bytes(), 1)?;
-        assert_eq!(rt; found.as_slice(), said.as_bytes(), "{text}");
+        same(&rt, &text, &found.as_slice(), &said.as_bytes());
     }
     Ok(())
 }
@@ -135,33 +142,39 @@ fn lines_end_at_4096_bytes(rt: HostRuntime) -> Result<(), Fail> {
         text.extend_from_slice(behind.as_bytes())?;
         let found = barred(rt.alloc(), 1_000_000, 4096, &text, 1000)?;
         match wanted {
-            Some(wanted) => assert_eq!(rt; found.len(), wanted.wrapping_add(1), "{length}"),
-            None => assert_eq!(rt; found.as_slice(), b"long 1".as_slice(), "{length}"),
+            Some(wanted) => same(&rt, &length, &found.len(), &wanted.wrapping_add(1)),
+            None => same(&rt, &length, &found.as_slice(), &b"long 1".as_slice()),
         }
     }
     Ok(())
 }
 
+/// Feeds a piece whose third line is too long, and bars the lines before it.
+fn refuse(lines: &mut Lines, out: &mut Vec<u8>) -> Result<(), Fail> {
+    if lines.feed(b"c\nd\n012345\ne").is_ok() {
+        return Err(Fail::new("the third line is too long"));
+    }
+    let before = lines.before(b"c\nd\n012345\ne")?;
+    bar(out, before.as_slice())?;
+    Ok(())
+}
+
 #[test]
 fn refusals_change_nothing(rt: HostRuntime) -> Result<(), Fail> {
-    let alloc = rt.alloc();
-    let mut lines = Lines::new(alloc, 100, 5);
-    let mut out = Vec::new(alloc);
-    let first = lines.feed(b"ab")?;
-    bar(&mut out, first.as_slice())?;
-    for _ in 0..2 {
-        if lines.feed(b"c\nd\n012345\ne").is_ok() {
-            return Err(Fail::new("the third line is too long"));
-        }
-        let before = lines.before(b"c\nd\n012345\ne")?;
-        bar(&mut out, before.as_slice())?;
+    let mut lines = Lines::new(rt.alloc(), 100, 5);
+    let mut out = Vec::new(rt.alloc());
+    feed_all(&mut lines, b"ab", 2, &mut out)?;
+    refuse(&mut lines, &mut out)?;
+    refuse(&mut lines, &mut out)?;
+    feed_all(&mut lines, b"c\n01234", 7, &mut out)?;
+    if let Some(last) = lines.finish() {
+        out.extend_from_slice(last.as_slice())?;
     }
-    let rest = lines.feed(b"c\n01234")?;
-    bar(&mut out, rest.as_slice())?;
-    assert_eq!(&rt; out.as_slice(), b"abc|d|abc|d|abc|".as_slice());
-    match lines.finish() {
-        Some(last) => assert_eq!(&rt; last.as_slice(), b"01234".as_slice()),
-        None => return Err(Fail::new("bytes are left")),
-    }
+    same(
+        &rt,
+        &"bars",
+        &out.as_slice(),
+        &b"abc|d|abc|d|abc|01234".as_slice(),
+    );
     Ok(())
 }

@@ -1,5 +1,8 @@
 // Lines, and what each comes to.
-use crate::catalogs::{catalog, outcome};
+use crate::catalogs::catalog;
+use crate::words::{outcome, same};
+use std::alloc::Global;
+use std::process::Abort;
 use std::test::Fail;
 
 /// Lines that say something, or are skipped.
@@ -171,20 +174,31 @@ const STRANGE: [(&[u8], &str); 16] = [
     (b"tx none\x80", "byte"),
 ];
 
+fn each(rt: &impl Abort, alloc: Global, lines: &[(&str, &str)]) -> Result<(), Fail> {
+    let catalog = catalog(alloc)?;
+    for (line, said) in lines {
+        let found = outcome(alloc, &catalog, line.as_bytes())?;
+        same(rt, line, &found.as_slice(), &said.as_bytes());
+    }
+    Ok(())
+}
+
 #[test]
-fn each_line_comes_to_what_is_said(rt: HostRuntime) -> Result<(), Fail> {
+fn lines_that_are_taken(rt: HostRuntime) -> Result<(), Fail> {
+    each(&rt, rt.alloc(), &TAKEN)
+}
+
+#[test]
+fn lines_that_are_refused(rt: HostRuntime) -> Result<(), Fail> {
+    each(&rt, rt.alloc(), &REFUSED)
+}
+
+#[test]
+fn lines_of_strange_bytes(rt: HostRuntime) -> Result<(), Fail> {
     let catalog = catalog(rt.alloc())?;
-    for (line, said) in TAKEN {
-        let found = outcome(rt.alloc(), &catalog, line.as_bytes())?;
-        assert_eq!(rt; found.as_slice(), said.as_bytes(), "{line}");
-    }
-    for (line, said) in REFUSED {
-        let found = outcome(rt.alloc(), &catalog, line.as_bytes())?;
-        assert_eq!(rt; found.as_slice(), said.as_bytes(), "{line}");
-    }
     for (line, said) in STRANGE {
         let found = outcome(rt.alloc(), &catalog, line)?;
-        assert_eq!(rt; found.as_slice(), said.as_bytes());
+        same(&rt, &line, &found.as_slice(), &said.as_bytes());
     }
     Ok(())
 }

@@ -9,8 +9,9 @@
 //! row acct 1 2 = 3                    argument
 //! ```
 //!
-//! `cuttings` feeds texts in pieces of many sizes, and looks at both bounds of a text. `catalogs` makes
-//! the catalogue of the lines.
+//! `long_lines` has texts and names at their longest. `cuttings` feeds texts in pieces of many sizes, and
+//! looks at both bounds of a text. `catalogs` makes the catalogue of the lines, and `words` puts into
+//! words what a line comes to.
 #![tactic(auto)]
 
 #[cfg(test)]
@@ -21,3 +22,5 @@ mod cuttings;
 mod forms;
 #[cfg(test)]
 mod long_lines;
+#[cfg(test)]
+mod words;
