@@ -12,8 +12,7 @@
 //! `expressions` and `statements` hold the examples. `catalogs` makes the catalogue, the rows and the
 //! request of one, and `words` puts into words what it comes to. `runs` runs the examples on
 //! snapshots, some within declared keys. `windows` has a window of its own and looks at what is asked
-//! of it. `calls` has the names of a catalogue, and calls that it does not take. `threads` lends one
-//! catalogue to two threads.
+//! of it. `calls` has the names of a catalogue, and calls that it does not take.
 //!
 //! `typings`, `handmade` and `copies` are the tests of `proc_verify`, `proc_lang` and `proc_exec` that
 //! need no run. They stand here because a crate with tests is proved twice, and those are dear.
@@ -33,8 +32,6 @@ mod handmade;
 mod runs;
 #[cfg(test)]
 mod statements;
-#[cfg(test)]
-mod threads;
 #[cfg(test)]
 mod typings;
 #[cfg(test)]
