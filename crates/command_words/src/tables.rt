@@ -1,0 +1,156 @@
+// The commands and their options.
+ghost use Rattle.std.specs.Prelude.{◌≡◌, map};
+ghost use Rattle.command_words.specs.Tables.{commands};
+ghost use Rattle.command_words.specs.Rows.{cmd_of};
+
+use crate::rows::{CommandRow, OptionRow};
+
+macro_rules! valued {
+    ($name:literal) => {
+        OptionRow {
+            name: $name,
+            is_flag: false,
+        }
+    };
+}
+
+macro_rules! flag {
+    ($name:literal) => {
+        OptionRow {
+            name: $name,
+            is_flag: true,
+        }
+    };
+}
+
+static OF_ONCE: [OptionRow<'static>; 7] = [
+    valued!("workers"),
+    valued!("replicas"),
+    valued!("rule"),
+    valued!("fallback"),
+    valued!("state"),
+    flag!("drain"),
+    flag!("batons"),
+];
+
+static OF_INIT: [OptionRow<'static>; 3] = [valued!("rule"), valued!("fallback"), flag!("over")];
+
+static OF_RUN: [OptionRow<'static>; 6] = [
+    valued!("workers"),
+    valued!("replicas"),
+    valued!("checkpoint"),
+    valued!("state"),
+    flag!("drain"),
+    flag!("batons"),
+];
+
+static OF_REPLAY: [OptionRow<'static>; 4] = [
+    valued!("workers"),
+    valued!("replicas"),
+    valued!("state"),
+    flag!("batons"),
+];
+
+static OF_NONE: [OptionRow<'static>; 0] = [];
+
+static OF_GEN: [OptionRow<'static>; 12] = [
+    valued!("kind"),
+    valued!("number"),
+    valued!("batches"),
+    valued!("size"),
+    valued!("keys"),
+    valued!("ops"),
+    valued!("reads"),
+    valued!("updates"),
+    valued!("hot"),
+    valued!("warehouses"),
+    valued!("customers"),
+    valued!("items"),
+];
+
+static OF_BENCH: [OptionRow<'static>; 18] = [
+    valued!("kind"),
+    valued!("number"),
+    valued!("batches"),
+    valued!("size"),
+    valued!("keys"),
+    valued!("ops"),
+    valued!("reads"),
+    valued!("updates"),
+    valued!("hot"),
+    valued!("warehouses"),
+    valued!("customers"),
+    valued!("items"),
+    valued!("workers"),
+    valued!("replicas"),
+    valued!("rule"),
+    valued!("fallback"),
+    flag!("drain"),
+    flag!("batons"),
+];
+
+static OF_MIX: [OptionRow<'static>; 8] = [
+    valued!("number"),
+    valued!("batches"),
+    valued!("size"),
+    valued!("warehouses"),
+    valued!("customers"),
+    valued!("items"),
+    valued!("workers"),
+    valued!("rule"),
+];
+
+static OF_NODES: [OptionRow<'static>; 4] = [
+    valued!("nodes"),
+    valued!("rule"),
+    valued!("state"),
+    flag!("drain"),
+];
+
+/// The commands of the program.
+pub fn commands() -> [CommandRow<'static>; 10]
+    ensures { map cmd_of result ≡ commands }
+{
+    [
+        CommandRow {
+            name: "once",
+            options: OF_ONCE.as_slice(),
+        },
+        CommandRow {
+            name: "init",
+            options: OF_INIT.as_slice(),
+        },
+        CommandRow {
+            name: "run",
+            options: OF_RUN.as_slice(),
+        },
+        CommandRow {
+            name: "replay",
+            options: OF_REPLAY.as_slice(),
+        },
+        CommandRow {
+            name: "check",
+            options: OF_NONE.as_slice(),
+        },
+        CommandRow {
+            name: "gen",
+            options: OF_GEN.as_slice(),
+        },
+        CommandRow {
+            name: "bench",
+            options: OF_BENCH.as_slice(),
+        },
+        CommandRow {
+            name: "audit",
+            options: OF_NONE.as_slice(),
+        },
+        CommandRow {
+            name: "mix",
+            options: OF_MIX.as_slice(),
+        },
+        CommandRow {
+            name: "nodes",
+            options: OF_NODES.as_slice(),
+        },
+    ]
+}
