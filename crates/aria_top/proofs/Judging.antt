@@ -11,12 +11,11 @@ use Rattle.aria_base.specs.declared.keys.Key.{Key}
 use Rattle.aria_base.specs.declared.calls.Call.{Call}
 use Rattle.aria_base.specs.declared.calls.Request.{Request}
 use Rattle.batch_rules.specs.declared.verdicts.Rule.{Rule}
-use Rattle.batch_rules.specs.declared.verdicts.Verdict.{Verdict}
 use Rattle.batch_rules.specs.declared.verdicts.Verdict.TheVariants as verdict
 use Rattle.batch_rules.specs.Touches.{installed}
 use Rattle.batch_rules.specs.Trees.{Tree}
 use Rattle.batch_rules.specs.Verdicts.{by_keys, finishes, waits}
-use Rattle.batch_rules.specs.Batches.{Carrier, Judged, Entry, placed, judge, judged, finishing, late_runs, is_carried, ordered, carried, touching, fate_after, settled, after_commit, late_results, late_rest, on_start}
+use Rattle.batch_rules.specs.Batches.{Carrier, Judged, placed, judge, judged, finishing, late_runs, is_carried, ordered, carried, touching, fate_after, settled, after_commit, late_results, late_rest, on_start}
 use Rattle.batch_rules.proofs.Carriers.{judged-through, placed-map}
 use Rattle.batch_rules.proofs.Fates.{alone, settled-alone, none_late}
 use Rattle.batch_rules.proofs.Installs.{installed-map}

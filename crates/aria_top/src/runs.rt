@@ -1,14 +1,18 @@
 // A whole script: its rows, its batches, the listing.
-ghost use Rattle.std.specs.Prelude.{◌≡◌, ◌<◌, ◌≤◌, ◌++◌, [], IfOk};
+ghost use Rattle.std.specs.Prelude.{◌≡◌, ◌+◌, ◌<◌, ◌≤◌, ◌^◌, ◌++◌, [], length, IfOk};
 ghost use Rattle.std.specs.FinMap as fin;
 ghost use Rattle.cat_builtin.specs.Bank.{accounts, bank};
-ghost use Rattle.aria_top.specs.Out.{out_of, rows_from, calls_in};
+ghost use Rattle.batch_core.specs.Steps.{step, answer};
+ghost use Rattle.answer_text.specs.Answers.{answer_text};
+ghost use Rattle.aria_top.specs.Bank.{bank_run};
+ghost use Rattle.aria_top.specs.Engines.{state_of};
+ghost use Rattle.aria_top.specs.Out.{out_of, rows_from, calls_in, handed};
 ghost use Rattle.aria_top.specs.declared.scripts.TheConstants.{MOST_CALLS};
 
 use crate::engines::{Engine, run_batch};
 use crate::scripts::Script;
 use answer_text::{append_answer, append_state};
-use aria_base::{Items, Key, Memory, Row};
+use aria_base::{Call, Items, Key, Memory, Row};
 use cat_builtin::builtin;
 use proc_lang::Catalog;
 use std::alloc::Global;
@@ -29,13 +33,34 @@ pub fn run_script(alloc: Global, script: Script) -> Result<Vec<u8>, Memory>
     };
     let mut out = Vec::new(alloc);
     for calls in batches.into_vec() {
-        let (next, answer) = run_batch(alloc, &catalog, engine, calls.into_vec())?;
-        append_answer(&mut out, catalog.schema(), &answer)?;
-        engine = next;
+        engine = answer_batch(alloc, &catalog, engine, calls.into_vec(), &mut out)?;
     }
     let listed = engine.tables.rows()?;
     append_state(&mut out, catalog.schema(), &listed, engine.batches)?;
     Ok(out)
+}
+
+/// Runs a batch of the bank and appends its answer.
+fn answer_batch(
+    alloc: Global,
+    catalog: &Catalog,
+    engine: Engine,
+    calls: Vec<Call>,
+    out: &mut Vec<u8>,
+) -> Result<Engine, Memory>
+    requires bank { catalog.now ≡ bank }
+    requires room { length engine.waiting.items ≤ engine.requests }
+    requires numbers { engine.requests + length calls.items ≤ MOST_CALLS }
+    requires batches { engine.batches + 1 < 2 ^ 64 }
+    ensures answer { IfOk result (λ _. out.new.items ≡ out.old.items ++ answer_text accounts (answer bank_run (state_of engine) (handed calls.items))) }
+    ensures state { IfOk result (λ next. state_of next ≡ step bank_run (state_of engine) (handed calls.items)) }
+    ensures room { IfOk result (λ next. length next.waiting.items ≤ next.requests) }
+    ensures requests { IfOk result (λ next. next.requests ≡ engine.requests + length calls.items) }
+    ensures batches { IfOk result (λ next. next.batches ≡ engine.batches + 1) }
+{
+    let (next, answer) = run_batch(alloc, catalog, engine, calls)?;
+    append_answer(out, catalog.schema(), &answer)?;
+    Ok(next)
 }
 
 /// The catalogue of the bank, which is built in.
