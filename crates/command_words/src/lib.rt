@@ -34,3 +34,6 @@ pub use settings::{
     Workload,
 };
 pub use tables::commands;
+
+#[cfg(test)]
+mod tests;
