@@ -30,7 +30,8 @@ catalog_of rest = option_map item.Catalog (option_and_then word_of (only rest))
 abbrev pub with_row : List ℕ → List Part → Option (List Value) → Option Item
 with_row table parts None = None
 with_row table parts (Some values) =
-    if nat_le FEWEST_PARTS (length parts) && nat_le (length parts) MOST_PARTS && nat_le (length values) MOST_COLUMNS then Some (item.Row table parts values) else None
+    if nat_le FEWEST_PARTS (length parts) && nat_le (length parts) MOST_PARTS && nat_le (length values) MOST_COLUMNS
+    then Some (item.Row table parts values) else None
 
 abbrev pub row_after : List ℕ → List Part → List (List ℕ) → Option Item
 row_after table parts [] = None
@@ -81,8 +82,8 @@ item_of (kind ∷ rest) =
     else (if bytes_eq kind (codes "report") then report_of rest
     else None)))))
 
--- a line without bytes, of spaces (32) alone, or that begins with `#` (35) is skipped; `:` (58) begins a piece; no other line begins
--- with a space
+-- a line without bytes, of spaces (32) alone, or that begins with `#` (35) is skipped; `:` (58) begins a piece; no other line
+-- begins with a space
 abbrev pub line_item : List ℕ → Option Item
 line_item [] = Some item.Skip
 line_item (b ∷ bs) =

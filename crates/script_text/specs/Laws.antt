@@ -29,11 +29,13 @@ lead front s = record { lines = front ++ s.lines; feed = s.feed; fault = s.fault
 
 pub record LinesOfTexts : Type 0 where
   -- a text gives the same lines however it is cut: the second piece goes on where the first one ends
-  pub cut : (feed : Feed) (a b : List ℕ) → (scan feed a).fault ≡ None → scan feed (a ++ b) ≡ lead (scan feed a).lines (scan (scan feed a).feed b)
+  pub cut : (feed : Feed) (a b : List ℕ) → (scan feed a).fault ≡ None
+      → scan feed (a ++ b) ≡ lead (scan feed a).lines (scan (scan feed a).feed b)
   -- what follows on a refused byte is not looked at
   pub ends : (feed : Feed) (a b : List ℕ) → ((scan feed a).fault ≡ None → ⊥) → scan feed (a ++ b) ≡ scan feed a
   -- where no byte is past a bound, the lines are those between the line feeds
-  pub whole : (limit longest : ℕ) (text : List ℕ) → (scan (blank limit longest) text).fault ≡ None → all_lines (scan (blank limit longest) text) ≡ lines_of text
+  pub whole : (limit longest : ℕ) (text : List ℕ) → (scan (blank limit longest) text).fault ≡ None
+      → all_lines (scan (blank limit longest) text) ≡ lines_of text
 
 -- the test of what fits a table is the schema's relation
 pub record RowsFit : Type 0 where

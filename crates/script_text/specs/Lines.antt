@@ -39,7 +39,8 @@ with_feed feed = record feed { taken = feed.taken + 1; count = feed.count + 1; b
 abbrev pub with_byte : Feed → ℕ → Feed
 with_byte feed b = record feed { taken = feed.taken + 1; begun = feed.begun ++ b ∷ [] }
 
--- the lines that bytes complete before the first one that is past a bound; what is known there; and the refusal of that byte's line
+-- the lines that bytes complete before the first one that is past a bound; what is known there; and the refusal of that byte's
+-- line
 pub record Scan : Type 0 where
   pub lines : List (List ℕ)
   pub feed : Feed

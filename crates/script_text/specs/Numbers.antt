@@ -36,4 +36,6 @@ not_below_zero n = fitted (pos n)
 -- `-` (45) stands before it where it is below zero, and nothing else does
 abbrev pub number_of : List ℕ → Option ℤ
 number_of [] = None
-number_of (b ∷ bs) = if b == 45 then option_and_then below_zero (natural_of bs) else option_and_then not_below_zero (natural_of (b ∷ bs))
+number_of (b ∷ bs) =
+    if b == 45 then option_and_then below_zero (natural_of bs)
+    else option_and_then not_below_zero (natural_of (b ∷ bs))

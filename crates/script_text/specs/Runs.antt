@@ -4,8 +4,8 @@ use Rattle.script_text.specs.declared.refusals.Kind8.{Kind8}
 use Rattle.script_text.specs.declared.refusals.Kind8.TheVariants.{Long, Size}
 use Rattle.script_text.specs.Lines.{Feed}
 
--- which bound is passed first by so many bytes of a line, and by its line feed where that counts in `whole`: the line has room for so
--- many more, and of the text so many are left
+-- which bound is passed first by so many bytes of a line, and by its line feed where that counts in `whole`: the line has room
+-- for so many more, and of the text so many are left
 abbrev pub first_past : ℕ → ℕ → ℕ → ℕ → Option Kind8
 first_past room left run whole =
     if nat_lt room run && nat_le room left then Some Long

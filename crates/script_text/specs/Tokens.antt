@@ -22,7 +22,8 @@ all_of f xs = all_after f [] xs
 
 -- what stands before this last byte
 abbrev pub before_last : ℕ → List ℕ → Option (List ℕ)
-before_last b bytes = if nat_le 1 (length bytes) && slice_index bytes (length bytes - 1) == b then Some (take (length bytes - 1) bytes) else None
+before_last b bytes =
+    if nat_le 1 (length bytes) && slice_index bytes (length bytes - 1) == b then Some (take (length bytes - 1) bytes) else None
 
 -- ---- a text, between quotes (34)
 

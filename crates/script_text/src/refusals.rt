@@ -2,9 +2,9 @@
 ghost use Rattle.script_text.specs.declared.refusals.LinesRefused.TheVariants as refused;
 ghost use Rattle.std.specs.Prelude.{◌≡◌};
 
-use aria_base::{Bytes, Memory};
+use aria_base::Memory;
 use proc_lang::{Path, Wrong};
-use std::alloc::{AllocError, AllocFailed};
+use std::alloc::AllocError;
 
 /// The first line of a script that is refused, and why.
 #[derive(Debug, Drop, PartialEq, Eq)]
@@ -78,14 +78,6 @@ impl From<AllocError> for LinesRefused {
     ghost from_gives = { λ _ made. made ≡ refused.Memory };
 
     fn from(_: AllocError) -> LinesRefused {
-        LinesRefused::Memory
-    }
-}
-
-impl From<AllocFailed<Bytes>> for LinesRefused {
-    ghost from_gives = { λ _ made. made ≡ refused.Memory };
-
-    fn from(_: AllocFailed<Bytes>) -> LinesRefused {
         LinesRefused::Memory
     }
 }
