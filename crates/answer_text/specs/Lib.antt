@@ -1,4 +1,4 @@
 pub mod Answers
+pub mod Notices
 pub mod Refusals
 pub mod States
-pub mod Tokens

@@ -1,31 +1,42 @@
-ghost use Rattle.std.specs.Prelude.{◌≡◌, ◌<◌, ◌++◌, length, All, IfOk, OnOk};
+// The lines of an answer.
+ghost use Rattle.std.specs.Prelude.{◌≡◌, ◌++◌, flat_map, IfOk, OnOk};
 ghost use Rattle.answer_text.specs.Answers.{trap_word, end_text, wait_text, reply_text, line_text, order_text, answer_text};
 
-use crate::tokens::{append_counted, append_key, append_number, append_tokens};
+use crate::notices::append_counted;
 use aria_base::{Memory, Schema};
 use batch_core::{Answer, Line, Order, Reply, Wait};
-use proc_lang::{End, Trap};
+use proc_lang::{Catalog, End, Trap};
+use script_text::{append_key, append_number, append_tokens};
 use std::alloc::Global;
 
-/// The lines of an answer.
-pub fn print_answer(alloc: Global, schema: &Schema, answer: &Answer) -> Result<Vec<u8>, Memory>
-    ensures { IfOk result (λ text. text.items ≡ answer_text schema.now answer.now) }
+/// The lines of an answer. A key is printed with its table's name in the catalogue, and without a name
+/// where the catalogue has no such table.
+pub fn print_answer(alloc: Global, catalog: &Catalog, answer: &Answer) -> Result<Vec<u8>, Memory>
+    ensures { IfOk result (λ text. text.items ≡ answer_text catalog.now.tables answer.now) }
 {
     let mut out = Vec::new(alloc);
-    append_answer(&mut out, schema, answer)?;
+    append_answer(&mut out, catalog, answer)?;
     Ok(out)
 }
 
-/// Appends the lines of an answer. After want of memory a part of them may stand in `out`.
-pub fn append_answer(out: &mut Vec<u8>, schema: &Schema, answer: &Answer) -> Result<(), Memory>
-    ensures { OnOk result (out.new.items ≡ out.old.items ++ answer_text schema.now answer.now) }
+/// Appends these lines. After want of memory a part of them may stand in `out`.
+pub fn append_answer(out: &mut Vec<u8>, catalog: &Catalog, answer: &Answer) -> Result<(), Memory>
+    ensures { OnOk result (out.new.items ≡ out.old.items ++ answer_text catalog.now.tables answer.now) }
 {
     append_counted(out, b"batch ", answer.number)?;
-    for line in answer.lines.as_slice() {
-        append_line(out, schema, line)?;
-    }
+    append_lines(out, catalog.schema(), answer.lines.as_slice())?;
     append_order(out, &answer.order)?;
     append_counted(out, b"end ", answer.number)
+}
+
+/// Appends the requests' lines.
+fn append_lines(out: &mut Vec<u8>, tables: &Schema, lines: &[Line]) -> Result<(), Memory>
+    ensures { OnOk result (out.new.items ≡ out.old.items ++ flat_map (line_text tables.now) lines.now) }
+{
+    for line in lines {
+        append_line(out, tables, line)?;
+    }
+    Ok(())
 }
 
 /// Appends the line of the serial order.
@@ -39,24 +50,24 @@ fn append_order(out: &mut Vec<u8>, order: &Order) -> Result<(), Memory>
 }
 
 /// Appends a request's line.
-fn append_line(out: &mut Vec<u8>, schema: &Schema, line: &Line) -> Result<(), Memory>
-    ensures { OnOk result (out.new.items ≡ out.old.items ++ line_text schema.now line.now) }
+fn append_line(out: &mut Vec<u8>, tables: &Schema, line: &Line) -> Result<(), Memory>
+    ensures { OnOk result (out.new.items ≡ out.old.items ++ line_text tables.now line.now) }
 {
     append_number(out, line.q)?;
-    append_reply(out, schema, &line.reply)?;
+    append_reply(out, tables, &line.reply)?;
     out.push(b'\n')?;
     Ok(())
 }
 
 /// Appends what became of a request, behind a space.
-fn append_reply(out: &mut Vec<u8>, schema: &Schema, reply: &Reply) -> Result<(), Memory>
-    ensures { OnOk result (out.new.items ≡ out.old.items ++ reply_text schema.now reply.now) }
+fn append_reply(out: &mut Vec<u8>, tables: &Schema, reply: &Reply) -> Result<(), Memory>
+    ensures { OnOk result (out.new.items ≡ out.old.items ++ reply_text tables.now reply.now) }
 {
     match reply {
         Reply::Ended(end) => append_end(out, end),
         Reply::Waits(wait) => {
             out.extend_from_slice(b" wait ")?;
-            append_wait(out, schema, wait)
+            append_wait(out, tables, wait)
         }
     }
 }
@@ -96,8 +107,8 @@ fn word_of(trap: Trap) -> &'static [u8]
 }
 
 /// Appends why a request waits.
-fn append_wait(out: &mut Vec<u8>, schema: &Schema, wait: &Wait) -> Result<(), Memory>
-    ensures { OnOk result (out.new.items ≡ out.old.items ++ wait_text schema.now wait.now) }
+fn append_wait(out: &mut Vec<u8>, tables: &Schema, wait: &Wait) -> Result<(), Memory>
+    ensures { OnOk result (out.new.items ≡ out.old.items ++ wait_text tables.now wait.now) }
 {
     match wait {
         Wait::Waw(waw) => {
@@ -116,7 +127,7 @@ fn append_wait(out: &mut Vec<u8>, schema: &Schema, wait: &Wait) -> Result<(), Me
         }
         Wait::Moved(key) => {
             out.extend_from_slice(b"moved ")?;
-            append_key(out, schema, key)
+            append_key(out, tables, key)
         }
     }
 }

@@ -11,16 +11,19 @@
 //! state 1               the rows after one batch
 //! row acct 1 = 10       a table, the parts of a key, `=`, the columns
 //! end state
+//! refused 9 gap 3 2     line 9 ends batch 3, where the next one is batch 2
 //! ```
+//!
+//! A row, a key and a value are printed as `script_text` writes them into scripts. A call `append_..`
+//! appends to a buffer of the caller's, and a call `print_..` to one of its own.
 #![tactic(auto)]
 
-pub mod answers;
-pub mod refusals;
-pub mod states;
-#[cfg(test)]
-mod tests;
-mod tokens;
+mod answers;
+mod notices;
+mod refusals;
+mod states;
 
 pub use answers::{append_answer, print_answer};
-pub use refusals::{Refused, refused_line};
+pub use notices::{Refused, append_at, append_damaged, append_kept, ready_line, refused_line};
+pub use refusals::{append_refusal, print_refusal};
 pub use states::{append_state, print_state};

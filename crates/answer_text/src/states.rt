@@ -1,50 +1,54 @@
-ghost use Rattle.std.specs.Prelude.{◌≡◌, ◌<◌, ◌++◌, map, IfOk, OnOk};
+// The listing of a state.
+ghost use Rattle.std.specs.Prelude.{◌≡◌, ◌++◌, flat_map, map, IfOk, OnOk};
 ghost use Rattle.std.specs.Map.Iter.{deref_pair};
 ghost use Rattle.answer_text.specs.States.{row_text, state_text};
 
-use crate::tokens::{append_counted, append_key, append_tokens};
+use crate::notices::append_counted;
 use aria_base::{Key, Memory, Row, Schema};
+use proc_lang::Catalog;
+use script_text::append_row;
 use std::alloc::Global;
+use tbl_rows::Tables;
 
-/// The listing of these rows, in their order, as the state after so many batches.
+/// The listing of all rows in the order of their keys, as the state after so many batches. A key is
+/// printed with its table's name in the catalogue, and without a name where the catalogue has no such
+/// table.
 pub fn print_state(
     alloc: Global,
-    schema: &Schema,
-    rows: &[(&Key, &Row)],
+    catalog: &Catalog,
+    tables: &Tables,
     batches: u64,
 ) -> Result<Vec<u8>, Memory>
-    ensures { IfOk result (λ text. text.items ≡ state_text schema.now (map deref_pair rows.now) batches) }
+    ensures { IfOk result (λ text. text.items ≡ state_text catalog.now.tables tables.now batches) }
 {
     let mut out = Vec::new(alloc);
-    append_state(&mut out, schema, rows, batches)?;
+    append_state(&mut out, catalog, tables, batches)?;
     Ok(out)
 }
 
 /// Appends that listing. After want of memory a part of it may stand in `out`.
 pub fn append_state(
     out: &mut Vec<u8>,
-    schema: &Schema,
-    rows: &[(&Key, &Row)],
+    catalog: &Catalog,
+    tables: &Tables,
     batches: u64,
 ) -> Result<(), Memory>
-    ensures { OnOk result (out.new.items ≡ out.old.items ++ state_text schema.now (map deref_pair rows.now) batches) }
+    ensures { OnOk result (out.new.items ≡ out.old.items ++ state_text catalog.now.tables tables.now batches) }
 {
+    let rows = tables.rows()?;
     append_counted(out, b"state ", batches)?;
-    for (key, row) in rows {
-        append_row(out, schema, key, row)?;
-    }
+    append_rows(out, catalog.schema(), &rows)?;
     out.extend_from_slice(b"end state\n")?;
     Ok(())
 }
 
-/// Appends a row's line.
-fn append_row(out: &mut Vec<u8>, schema: &Schema, key: &Key, row: &Row) -> Result<(), Memory>
-    ensures { OnOk result (out.new.items ≡ out.old.items ++ row_text schema.now (key.now, row.now)) }
+/// Appends the lines of these rows.
+fn append_rows(out: &mut Vec<u8>, tables: &Schema, rows: &[(&Key, &Row)]) -> Result<(), Memory>
+    ensures { OnOk result (out.new.items ≡ out.old.items ++ flat_map (row_text tables.now) (map deref_pair rows.now)) }
 {
-    out.extend_from_slice(b"row ")?;
-    append_key(out, schema, key)?;
-    out.extend_from_slice(b" =")?;
-    append_tokens(out, row.as_slice())?;
-    out.push(b'\n')?;
+    for (key, row) in rows {
+        append_row(out, tables, key, row)?;
+        out.push(b'\n')?;
+    }
     Ok(())
 }

@@ -8,8 +8,8 @@ use Rattle.batch_rules.specs.declared.verdicts.Rule.TheVariants.{Plain}
 use Rattle.batch_core.specs.Steps.{State, Handed, step, answer}
 use Rattle.answer_text.specs.Answers.{answer_text}
 use Rattle.answer_text.specs.States.{state_text}
-use Rattle.answer_text.specs.Refusals.{refused_text}
-use Rattle.answer_text.specs.declared.refusals.Refused.TheVariants.{Usage, Form}
+use Rattle.answer_text.specs.Notices.{refused_text}
+use Rattle.answer_text.specs.declared.notices.Refused.TheVariants.{Usage, Form}
 use Rattle.cat_builtin.specs.Bank.{accounts}
 use Rattle.aria_top.specs.Bank.{bank_run}
 use Rattle.aria_top.specs.Words.{is_line}
@@ -38,7 +38,7 @@ start_of rows = record { rule = Plain; percent = never; rows = rows_from fin.emp
 
 -- the answers of batches one after the other, and the listing of what they leave
 abbrev pub text_from : State → List (List Call) → List ℕ
-text_from state [] = state_text accounts (fin.entries state.rows) state.batches
+text_from state [] = state_text accounts state.rows state.batches
 text_from state (calls ∷ rest) = answer_text accounts (answer bank_run state (handed calls)) ++ text_from (step bank_run state (handed calls)) rest
 
 abbrev pub out_of : Script → List ℕ

@@ -35,8 +35,7 @@ pub fn run_script(alloc: Global, script: Script) -> Result<Vec<u8>, Memory>
     for calls in batches.into_vec() {
         engine = answer_batch(alloc, &catalog, engine, calls.into_vec(), &mut out)?;
     }
-    let listed = engine.tables.rows()?;
-    append_state(&mut out, catalog.schema(), &listed, engine.batches)?;
+    append_state(&mut out, &catalog, &engine.tables, engine.batches)?;
     Ok(out)
 }
 
@@ -59,7 +58,7 @@ fn answer_batch(
     ensures batches { IfOk result (λ next. next.batches ≡ engine.batches + 1) }
 {
     let (next, answer) = run_batch(alloc, catalog, engine, calls)?;
-    append_answer(out, catalog.schema(), &answer)?;
+    append_answer(out, catalog, &answer)?;
     Ok(next)
 }
 

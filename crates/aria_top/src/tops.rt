@@ -14,7 +14,7 @@ use crate::laws::each_is_serial;
 use crate::runs::run_script;
 use crate::scripts::read_script;
 use crate::usages::is_plain_once;
-use answer_text::refusals::{Refused, refused_line};
+use answer_text::{Refused, refused_line};
 use aria_base::{Memory, Sink, Source};
 use std::alloc::Global;
 

@@ -1,0 +1,75 @@
+// Lines that stand alone: what a command begins with, and why it does nothing.
+ghost use Rattle.std.specs.Prelude.{◌≡◌, ◌++◌, OnOk};
+ghost use Rattle.answer_text.specs.Notices.{counted, at_text, kept_text, ready_text, refused_text, damaged_text};
+
+use aria_base::Memory;
+use script_text::append_number;
+
+/// Why a command does nothing.
+#[derive(Clone, Copy, Debug, PartialEq, Eq)]
+pub enum Refused {
+    /// The words are no command.
+    Usage,
+    /// The input does not have the form that is read today.
+    Form,
+    /// The disk holds no store.
+    NoStore,
+    /// The disk holds a store already.
+    StoreExists,
+}
+
+/// The line that says so. No memory.
+pub fn refused_line(refused: Refused) -> &'static [u8]
+    ensures { result.now ≡ refused_text refused }
+{
+    match refused {
+        Refused::Usage => b"refused usage\n",
+        Refused::Form => b"refused form\n",
+        Refused::NoStore => b"refused store none\n",
+        Refused::StoreExists => b"refused store exists\n",
+    }
+}
+
+/// Appends the line that says that the store is damaged: in this file, from 0 to 3, at this byte. After
+/// want of memory a part of the line may stand in `out`, here and in each call below.
+pub fn append_damaged(out: &mut Vec<u8>, file: u8, at: u64) -> Result<(), Memory>
+    ensures { OnOk result (out.new.items ≡ out.old.items ++ damaged_text file at) }
+{
+    out.extend_from_slice(b"refused store ")?;
+    append_number(out, file)?;
+    append_counted(out, b" ", at)
+}
+
+/// The line that says that the store is made. No memory.
+pub fn ready_line() -> &'static [u8]
+    ensures { result.now ≡ ready_text }
+{
+    b"ready\n"
+}
+
+/// Appends the line that says how many batches stand in the store.
+pub fn append_at(out: &mut Vec<u8>, batches: u64) -> Result<(), Memory>
+    ensures { OnOk result (out.new.items ≡ out.old.items ++ at_text batches) }
+{
+    append_counted(out, b"at ", batches)
+}
+
+/// Appends the line that says that the store has the batch with this number, so that it is not run.
+pub fn append_kept(out: &mut Vec<u8>, number: u64) -> Result<(), Memory>
+    ensures { OnOk result (out.new.items ≡ out.old.items ++ kept_text number) }
+{
+    out.extend_from_slice(b"batch ")?;
+    append_number(out, number)?;
+    out.extend_from_slice(b" kept\n")?;
+    Ok(())
+}
+
+/// Appends a line that is a word, with the space behind it, and a number.
+pub fn append_counted(out: &mut Vec<u8>, word: &[u8], number: u64) -> Result<(), Memory>
+    ensures { OnOk result (out.new.items ≡ out.old.items ++ counted word.now number) }
+{
+    out.extend_from_slice(word)?;
+    append_number(out, number)?;
+    out.push(b'\n')?;
+    Ok(())
+}
