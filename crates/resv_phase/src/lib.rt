@@ -14,5 +14,7 @@
 mod markings;
 mod marks;
 mod reservations;
+#[cfg(test)]
+mod tests;
 
 pub use reservations::reserve;
