@@ -1,6 +1,6 @@
 ghost use Rattle.std.specs.Prelude.{◌≡◌, ◌≤◌, ◌<◌, length, vec_len, map, All};
 ghost use Rattle.aria_base.specs.declared.limits.TheConstants.{MOST_REQUESTS};
-ghost use Rattle.dep_rules.specs.Sheets.{AllBelow, reads_at, writes_at, IsTid};
+ghost use Rattle.dep_rules.specs.Sheets.{AllBelow, IsSheet, reads_at, writes_at, IsTid};
 
 use std::marker::Model;
 
@@ -40,11 +40,13 @@ impl Numbered {
         }
     }
 
-    /// How many requests there are, and so the greatest TID. No memory.
+    /// How many requests there are, and so the greatest TID. No memory. Its caller knows then of the lists
+    /// all that [`Numbered::of`] was told.
     pub fn len(&self) -> u32
         ensures reads { result ≡ length self.now.reads }
         ensures writes { result ≡ length self.now.writes }
         ensures count { result ≤ MOST_REQUESTS }
+        ensures sheet { IsSheet self.now }
     {
         self.reads.len() as u32
     }

@@ -1,3 +1,3 @@
-mod Draws
+pub mod Draws
 mod Fills
 pub mod Lists

@@ -10,9 +10,10 @@ use std::alloc::Global;
 use std::thread::{Threads, join};
 use work_claim::{ClaimSeat, Claims};
 
-/// The first hand after the work, with all that the workers made: each place was run once. No more
-/// threads are started than there are places, and none for one worker. A worker whose thread cannot
-/// be started does its part on the thread that was to start it.
+/// The first hand after the work, with all that the workers made: each place was run once. The pace is
+/// told of each draw, and by the work of what a run does. No more threads are started than there are
+/// places, and none for one worker. A worker whose thread cannot be started does its part on the thread
+/// that was to start it.
 pub fn carry_out<W: Work + Sync, P: Pace + Sync, R: Threads + Sync>(
     rt: &R,
     alloc: Global,
@@ -98,8 +99,7 @@ fn labour<W: Work, P: Pace>(
             break;
         };
         least = u64::from(place) + 1;
-        pace.at(who, work.step());
-        work.run(&mut hand, place)?;
+        work.run(&mut hand, place, who)?;
     }
     Ok((seat, hand))
 }

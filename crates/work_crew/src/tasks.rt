@@ -23,7 +23,7 @@ pub trait Task {
     fn len(&self) -> u32
         ensures { result ≡ count self.now };
 
-    /// The kind of step that a run is.
+    /// The kind of step that a run is, of which the pace is told before each.
     fn step(&self) -> Place;
 
     /// What the place comes to.
@@ -34,12 +34,13 @@ pub trait Task {
 
 // The work in which each hand keeps the outputs of its places.
 #[derive(Drop)]
-struct Gathering<'a, T> {
+struct Gathering<'a, T, P> {
     alloc: Global,
     task: &'a T,
+    pace: &'a P,
 }
 
-impl<'a, T: Task> Work for Gathering<'a, T> {
+impl<'a, T: Task, P: Pace> Work for Gathering<'a, T, P> {
     type Hand = Vec<Done<T::Output>>;
 
     ghost count = { λ g. T.count g.task.now };
@@ -50,11 +51,8 @@ impl<'a, T: Task> Work for Gathering<'a, T> {
         self.task.len()
     }
 
-    fn step(&self) -> Place {
-        self.task.step()
-    }
-
-    fn run(&self, hand: &mut Vec<Done<T::Output>>, place: u32) -> Result<(), Memory> {
+    fn run(&self, hand: &mut Vec<Done<T::Output>>, place: u32, who: u32) -> Result<(), Memory> {
+        self.pace.at(who, self.task.step());
         let output = self.task.run(place)?;
         hand.push(Done { place, output })?;
         Ok(())
@@ -74,7 +72,8 @@ impl<'a, T: Task> Work for Gathering<'a, T> {
     }
 }
 
-/// What all places come to, in their order. The workers are those of [`carry_out`].
+/// What all places come to, in their order. The workers are those of [`carry_out`], and the pace is told
+/// of each run as the step that the task names.
 pub fn gather<T: Task + Sync, P: Pace + Sync, R: Threads + Sync>(
     rt: &R,
     alloc: Global,
@@ -85,7 +84,7 @@ pub fn gather<T: Task + Sync, P: Pace + Sync, R: Threads + Sync>(
     requires workers { (1 ≤ workers) × (workers ≤ 64) }
     ensures { IfOk result (λ outputs. AreGiven (T.gives task.now) (T.count task.now) outputs.items) }
 {
-    let gathering = Gathering { alloc, task };
+    let gathering = Gathering { alloc, task, pace };
     let done = carry_out(rt, alloc, &gathering, Vec::new(alloc), workers, pace)?;
     let mut slots = empty_slots(alloc, task.len() as usize)?;
     fill(&mut slots, done);

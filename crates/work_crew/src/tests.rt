@@ -84,11 +84,7 @@ impl Work for Lists {
         self.count
     }
 
-    fn step(&self) -> Place {
-        Place::Mark
-    }
-
-    fn run(&self, hand: &mut Vec<u32>, place: u32) -> Result<(), Memory> {
+    fn run(&self, hand: &mut Vec<u32>, place: u32, _who: u32) -> Result<(), Memory> {
         hand.push(place)?;
         Ok(())
     }

@@ -2,7 +2,7 @@
 ghost use Rattle.std.specs.Prelude.{◌≡◌, ℕ, ◌+◌, ◌-◌, ◌<◌, List, [], ◌∷◌, ◌++◌, IfOk, OnOk};
 ghost use Rattle.work_crew.specs.Hands.{HasDone, MaySplit};
 
-use aria_base::{Memory, Place};
+use aria_base::Memory;
 
 /// A work on the places 0, 1, .. of a list. What a worker makes of the places that it runs is kept by
 /// its hand. The first hand has all shares; each other one is split off it with one of them, and gives
@@ -21,11 +21,8 @@ pub trait Work {
     fn len(&self) -> u32
         ensures { result ≡ count self.now };
 
-    /// The kind of step that a run is.
-    fn step(&self) -> Place;
-
-    /// Runs a place.
-    fn run(&self, hand: &mut Self::Hand, place: u32) -> Result<(), Memory>
+    /// Runs a place, as the worker `who`. It tells the pace of its steps itself.
+    fn run(&self, hand: &mut Self::Hand, place: u32, who: u32) -> Result<(), Memory>
         requires place { place < count self.now }
         requires hand { HasDone (did self.now) hand.old }
         ensures { OnOk result ((shares : ℕ) (places : List ℕ) → did self.now hand.old shares places → did self.now hand.new shares (places ++ place ∷ [])) };
