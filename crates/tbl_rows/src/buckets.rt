@@ -118,7 +118,7 @@ impl Bucket {
         Ok(())
     }
 
-    /// Takes out the rows that belong to the next of so many buckets, as that bucket. Each of both gets
+    /// Takes out the rows that belong to the next of so many buckets, as that bucket. Each of the two gets
     /// room for the rows that it has: most of a table's memory is in its buckets.
     pub(crate) fn split(&mut self, level: u32, count: usize) -> Result<Bucket, Memory>
         requires level { level ≤ LAST_LEVEL }
