@@ -1,10 +1,11 @@
 -- What was read from the closed table tells of all marks.
-use Rattle.std.proofs.Common.{◌≡◌, ℕ, ◌+◌, ◌*◌, ◌^◌, ◌<◌, List, length, get_or, subst, sym, ◌∙◌, arith, All}
+use Rattle.std.proofs.Common.{◌≡◌, ℕ, ◌+◌, ◌*◌, ◌<◌, List, length, get_or, subst, sym, ◌∙◌, arith, All}
 use mathlib.Core.Option.{some}
 use lib.ListN.{get_elem?}
 use Rattle.atomic_table.specs.Table.{Final, Seen}
 use Rattle.aria_base.proofs.Shares.{get_or-get_elem}
 use Rattle.aria_base.proofs.Reserved.{StandFor-AreWords, AreWords-same, StandFor-same, AreAbove-words}
+use Rattle.aria_base.specs.declared.limits.TheConstants.{TAGS}
 use Rattle.aria_base.specs.declared.marks.Mark.{Mark}
 use Rattle.aria_base.specs.Reserved.{AreAbove, AreWords, HasTid}
 use Rattle.resv_words.specs.declared.rules.View.{View}
@@ -13,7 +14,7 @@ use Rattle.resv_words.specs.Rule.{Kept}
 use Rattle.resv_words.specs.Seats.{Laid, Marker, ClosedWords, closed_of, Tells}
 use Rattle.resv_words.proofs.Keeps.{closes}
 
-tells : (closed : ClosedWords) (words : List ℕ) → closed.tag < 2 ^ 49 → AreAbove closed.tag closed.old → All HasTid closed.marks → AreWords closed.old closed.tag closed.keys closed.marks words → Tells closed words
+tells : (closed : ClosedWords) (words : List ℕ) → closed.tag < TAGS → AreAbove closed.tag closed.old → All HasTid closed.marks → AreWords closed.old closed.tag closed.keys closed.marks words → Tells closed words
 tells closed words small above tids are =
     let stand = StandFor-AreWords closed.old closed.tag closed.keys closed.marks words small above tids are in
     record {
@@ -25,7 +26,7 @@ tells closed words small above tids are =
 
 -- `row` is what the table held, its last word being no key's
 pub closing : (laid : Laid) (seat : Marker) (key_tag id : ℕ) (v : View) (row : List ℕ) (slots : List (Unit {0})) (words : List ℕ)
-    → key_tag ≡ laid.tag → laid.tag < 2 ^ 49 → AreAbove laid.tag laid.old → All HasTid v.marks → v.share ≡ all_shares → v.marks ≡ seat.marks
+    → key_tag ≡ laid.tag → laid.tag < TAGS → AreAbove laid.tag laid.old → All HasTid v.marks → v.share ≡ all_shares → v.marks ≡ seat.marks
     → Final (Seen (Kept laid.old key_tag) id v) row slots → length row ≡ 2 * laid.keys + 1 → length words ≡ 2 * laid.keys
     → ((k : ℕ) → k < 2 * laid.keys → get_elem? row k ≡ some (get_or words k 0))
     → Tells (closed_of laid seat) words

@@ -1,5 +1,5 @@
 -- Each kind of step keeps the rule, and closing gives the words of all marks.
-use Rattle.std.proofs.Common.{◌≡◌, ◌≢◌, ℕ, ◌/◌, ◌%◌, ◌^◌, ◌<◌, ◌≤◌, ◌⊎◌, inl, inr, ⊎_elim, min, Bool, List, [], ◌∷◌, ◌++◌, length, get_or, set, subst, sym, refl, ap, ◌∙◌, arith, length-set, get_or-set_same, get_or-set_other, mod-eq_of_lt, All, true, false}
+use Rattle.std.proofs.Common.{◌≡◌, ◌≢◌, ℕ, ◌/◌, ◌%◌, ◌<◌, ◌≤◌, ◌⊎◌, inl, inr, ⊎_elim, min, Bool, List, [], ◌∷◌, ◌++◌, length, get_or, set, subst, sym, refl, ap, ◌∙◌, arith, length-set, get_or-set_same, get_or-set_other, mod-eq_of_lt, All, true, false}
 use Rattle.std.proofs.lemmas.Bool.{cases_eq}
 use Rattle.std.proofs.Math.Nat.{mul-add-mod_self_right}
 use mathlib.Core.Option.{some, none}
@@ -9,7 +9,7 @@ use Rattle.atomic_table.proofs.Lists.{set_else}
 use Rattle.aria_base.proofs.Reserved.{unmarked, word_of-least}
 use Rattle.aria_base.proofs.Shares.{each-set, each-push, sum_by-set, sum_by-set_two, sum_by-set_push}
 use Rattle.aria_base.specs.declared.marks.Mark.{Mark}
-use Rattle.aria_base.specs.declared.limits.TheConstants.{MOST_REQUESTS, TAG_SPAN}
+use Rattle.aria_base.specs.declared.limits.TheConstants.{MOST_REQUESTS, TAG_SPAN, TAGS}
 use Rattle.aria_base.specs.Reserved.{number_under, place_of, word_of, AreAbove, HasTid, IsMarked}
 use Rattle.resv_words.specs.declared.rules.View.{View}
 use Rattle.aria_base.specs.Shares.{all_shares}
@@ -156,7 +156,7 @@ joins old tag id v other w has_share s kept at apart at' = record {
 }
 
 -- where one seat has all shares, each word is that of its marks
-pub closes : (old : List ℕ) (tag id : ℕ) (v : View) (words : List ℕ) (xs : List (Unit {0})) → v.share ≡ all_shares → tag < 2 ^ 49 → AreAbove tag old → All HasTid v.marks
+pub closes : (old : List ℕ) (tag id : ℕ) (v : View) (words : List ℕ) (xs : List (Unit {0})) → v.share ≡ all_shares → tag < TAGS → AreAbove tag old → All HasTid v.marks
     → Final (Seen (Kept old tag) id v) words xs → (place : ℕ) → place < length words → get_or words place 0 ≡ word_of old tag v.marks place
 closes old tag id v words xs whole small above tids (s, (kept, at), words_are, count, values) place lt =
     let lt' : place < length s.words = omega (arith, ap length words_are) in

@@ -1,7 +1,8 @@
 -- What clauses see of the words, of a seat and of the closed words, and what is true of each.
-use Rattle.std.specs.Prelude.{◌≡◌, ℕ, ◌+◌, ◌*◌, ◌^◌, ◌<◌, ◌≤◌, Bool, List, [], ◌∷◌, ◌++◌, All}
+use Rattle.std.specs.Prelude.{◌≡◌, ℕ, ◌+◌, ◌*◌, ◌<◌, ◌≤◌, Bool, List, [], ◌∷◌, ◌++◌, All}
 use Rattle.atomic_table.specs.Seated.{TableId}
 use Rattle.atomic_table.specs.Table.{Me}
+use Rattle.aria_base.specs.declared.limits.TheConstants.{TAGS}
 use Rattle.aria_base.specs.declared.marks.Mark.{Mark}
 use Rattle.aria_base.specs.Reserved.{AreAbove, AreWords, StandFor, SameMarks, HasTid}
 use Rattle.resv_words.specs.declared.rules.View.{View}
@@ -45,7 +46,7 @@ pub record IsLaid (words slots keys key_tag tag : ℕ) (old : List ℕ) : Type 0
   pub no_slots : slots ≡ 0
   pub few_keys : keys ≤ most_keys
   pub same_tag : key_tag ≡ tag
-  pub small_tag : tag < 2 ^ 49
+  pub small_tag : tag < TAGS
   pub above : AreAbove tag old
 
 -- the seat is not spent, and its marks have TIDs of a batch

@@ -1,5 +1,5 @@
 ghost use Rattle.std.specs.Prelude.{◌≡◌, ◌+◌, ◌-◌, ◌*◌, ◌^◌, ◌<◌, ◌≤◌, [], ◌++◌, length, true, false, IfOk, OnOk, OnErr};
-ghost use Rattle.aria_base.specs.declared.limits.TheConstants.{MOST_REQUESTS};
+ghost use Rattle.aria_base.specs.declared.limits.TheConstants.{MOST_REQUESTS, TAGS};
 ghost use Rattle.aria_base.specs.Reserved.{number_under, AreAbove};
 ghost use Rattle.aria_base.specs.Shares.{all_shares};
 ghost use Rattle.resv_words.specs.Seats.{most_keys, with_mark, closed_of, Tells};
@@ -86,7 +86,7 @@ impl Words {
     ) -> Result<(Words, WordSeat), Memory>
         requires keys { keys ≤ most_keys }
         requires old { length old.items ≤ 2 * keys }
-        requires tag { tag < 2 ^ 49 }
+        requires tag { tag < TAGS }
         requires above { AreAbove tag old.items }
         ensures words { IfOk result (λ made. made.0 ≡ record { table = made.0.table; keys = keys; tag = tag; old = old.items }) }
         ensures seat { IfOk result (λ made. made.1 ≡ record { table = made.0.table; share = all_shares; marks = [] }) }

@@ -1,5 +1,5 @@
 -- Two maps as one, of which the second has no row where the first has one.
-use Rattle.std.proofs.Common.{◌≡◌, Bool, List, [], ◌∷◌, ◌++◌, Option, Some, None, cond, true, false, not, refl, sym, ap, subst, ◌∙◌}
+use Rattle.std.proofs.Common.{◌≡◌, Bool, [], ◌∷◌, ◌++◌, Option, Some, None, cond, true, false, not, refl, sym, ap, subst, ◌∙◌}
 use Rattle.std.specs.Bool.{MatchBool}
 use Rattle.std.specs.Borrow.{Bor}
 use Rattle.std.specs.Option.{IsSome, option_or, option_copied, is_some}
@@ -13,7 +13,7 @@ use Rattle.aria_base.specs.Orders.{key_cmp, Cells, Database}
 use Rattle.aria_base.specs.declared.keys.Key.{Key}
 use Rattle.aria_base.proofs.Orders.{key_cmp_total, key_cmp-IsAntisymmetric}
 use Rattle.tbl_rows.specs.Pools.{Entries, Adds, beside, IsApart, AllApart}
-use Rattle.tbl_rows.proofs.Searched.{same_key, find-append, or_none}
+use Rattle.tbl_rows.proofs.Searched.{same_key, find-append}
 use Rattle.tbl_rows.proofs.Listed.{apart-append, apart-entries, entries-permuted}
 
 listed-two : (near far : Database) → flat_map fin.entries (near ∷ far ∷ []) ≡ fin.entries near ++ fin.entries far

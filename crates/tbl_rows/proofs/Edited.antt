@@ -1,16 +1,14 @@
 -- A list of rows with their keys, and the map that it makes, where a row is set, added or removed.
-use Rattle.std.proofs.Common.{◌≡◌, ℕ, ◌+◌, ◌<◌, List, [], ◌∷◌, ◌++◌, length, Option, Some, None, Bool, cond, true, false, refl, sym, ap, subst, ◌∙◌, map, arith}
+use Rattle.std.proofs.Common.{◌≡◌, ℕ, ◌<◌, [], ◌∷◌, ◌++◌, length, Option, Some, None, Bool, cond, true, false, refl, sym, ap, subst, ◌∙◌}
 use Rattle.std.specs.Prelude.{slice_index_or, slice_set}
 use Rattle.std.specs.Option.{IsSome}
 use Rattle.std.specs.List.{position, filter, swap_remove}
-use Rattle.std.specs.List.Sorted.{IsPermutation}
 use Rattle.std.specs.Ordering.{eq_by_cmp}
 use Rattle.std.specs.declared.cmp.Ordering.TheVariants.{Equal}
 use Rattle.std.specs.FinMap as fin
 use Rattle.std.specs.FinMap.Entries.{find-where_key}
 use Rattle.std.proofs.Math.Seq.{map-set_same}
 use Rattle.std.proofs.lemmas.List.Sorted.{IsPermutation-swap_remove}
-use Rattle.std.specs.Map.{keys_of}
 use Rattle.std.specs.List.{IsDistinct}
 use Rattle.aria_base.specs.Orders.{key_cmp, Cells}
 use Rattle.aria_base.specs.declared.keys.Key.{Key}

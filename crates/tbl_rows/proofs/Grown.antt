@@ -1,8 +1,7 @@
 -- The buckets of a shard, one more of them: the rows are the same, and each stands in its bucket.
-use Rattle.std.proofs.Common.{◌≡◌, ◌≢◌, ℕ, ◌+◌, ◌*◌, ◌%◌, ◌^◌, ◌<◌, ◌≤◌, List, [], ◌∷◌, ◌++◌, length, Option, Some, None, Bool, cond, true, false, not, eqb, refl, sym, ap, subst, ◌∙◌, ◌⊎◌, inl, inr, ⊎_elim, arith}
+use Rattle.std.proofs.Common.{◌≡◌, ◌≢◌, ℕ, ◌+◌, ◌*◌, ◌%◌, ◌^◌, ◌<◌, ◌≤◌, List, [], ◌∷◌, ◌++◌, length, None, Bool, cond, true, false, not, refl, sym, ap, subst, ◌∙◌, ◌⊎◌, inl, inr, ⊎_elim, arith}
 use Rattle.std.specs.Prelude.{slice_index_or, slice_set}
 use Rattle.std.specs.Option.{IsSome}
-use Rattle.std.specs.declared.cmp.Ordering.TheVariants.{Equal}
 use Rattle.std.specs.FinMap as fin
 use Rattle.std.proofs.Math.ListN.{get_or-append}
 use Rattle.std.proofs.Math.Nat.{mod-eq_of_lt}
@@ -11,13 +10,13 @@ use Rattle.std.proofs.lemmas.Grind.{pow_more}
 use Rattle.std.proofs.lemmas.Nat.{pow_pos}
 use Rattle.std.proofs.lemmas.Bool.{cases_eq, eqb-true, eq-eqb, ne_eqb}
 use Rattle.std.proofs.lemmas.List.{get_or_default, get_or-set_same, get_or-set_other, length-set, length_push, get_or_push}
-use Rattle.aria_base.specs.Orders.{key_cmp, Cells, Database}
+use Rattle.aria_base.specs.Orders.{Cells, Database}
 use Rattle.aria_base.specs.declared.keys.Key.{Key}
 use Rattle.aria_base.proofs.Orders.{key_cmp_total, key_cmp-IsAntisymmetric}
 use Rattle.tbl_rows.specs.Pools.{slot, is_moved, pooled, IsSpread, IsPool}
 use Rattle.tbl_rows.specs.declared.homes.TheConstants.{LAST_LEVEL}
 use Rattle.tbl_rows.proofs.Slots.{slot-below, slot-moved, slot-stays, slot-round}
-use Rattle.tbl_rows.proofs.Spread.{get-pooled, spread-put, pooled-put, spread-deleted, pooled-deleted}
+use Rattle.tbl_rows.proofs.Spread.{get-pooled, spread-put, spread-deleted}
 
 -- ---- one bucket without rows
 

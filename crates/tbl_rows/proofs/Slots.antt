@@ -1,5 +1,5 @@
 -- Which bucket a hash has, before and after a bucket is split.
-use Rattle.std.proofs.Common.{◌≡◌, ℕ, ◌+◌, ◌-◌, ◌*◌, ◌/◌, ◌%◌, ◌^◌, ◌<◌, ◌≤◌, ◌⊎◌, inl, inr, ⊎_elim, Bool, true, false, cond, eqb, ltb, refl, sym, ap, subst, ◌∙◌, arith}
+use Rattle.std.proofs.Common.{◌≡◌, ℕ, ◌+◌, ◌-◌, ◌*◌, ◌/◌, ◌%◌, ◌^◌, ◌<◌, ◌≤◌, ◌⊎◌, inl, inr, ⊎_elim, true, false, cond, eqb, ltb, refl, sym, ap, ◌∙◌, arith}
 use Rattle.std.specs.Int.Bits.{bit_and}
 use Rattle.std.proofs.Math.Pow.{pow-lt}
 use Rattle.std.proofs.Math.Nat.{mod-eq_of_lt, mod-lt}
@@ -9,7 +9,7 @@ use Rattle.std.specs.Ordering.{eq_by_cmp}
 use Rattle.aria_base.specs.Orders.{key_cmp}
 use Rattle.aria_base.specs.declared.keys.Key.{Key}
 use Rattle.tbl_rows.specs.Hashes.{hash_of}
-use Rattle.tbl_rows.specs.Pools.{slot_at, slot, is_moved}
+use Rattle.tbl_rows.specs.Pools.{slot}
 use Rattle.tbl_rows.specs.declared.homes.TheConstants.{BUCKET_SHIFT}
 use Rattle.tbl_rows.proofs.Searched.{same_key}
 

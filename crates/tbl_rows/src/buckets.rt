@@ -1,6 +1,8 @@
 // One bucket of a shard: a few rows, in any order.
-ghost use Rattle.std.specs.Prelude.{◌≡◌, ◌^◌, ◌<◌, ◌≤◌, map, not, position, IfOk, IfErr, OnOk, OnErr};
+ghost use Rattle.std.specs.Prelude.{◌≡◌, ◌^◌, ◌<◌, ◌≤◌, length, map, not, position, IfOk, IfErr, OnOk, OnErr};
+ghost use Rattle.std.specs.List.{filter};
 ghost use Rattle.std.specs.Option.{option_copied};
+ghost use Rattle.std.specs.Vec.{vec_len, vec_capacity};
 ghost use Rattle.std.specs.Ordering.{eq_by_cmp};
 ghost use Rattle.std.specs.Map.Iter.{deref_pair};
 ghost use Rattle.std.specs.FinMap as fin;
@@ -12,7 +14,7 @@ ghost use Rattle.tbl_rows.specs.declared.homes.TheConstants.{LAST_LEVEL};
 use crate::entries::Entry;
 use crate::refusals::Refused;
 use aria_base::{Duplicate, Key, Memory, Row};
-use std::alloc::Global;
+use std::alloc::{AllocError, Global};
 use std::marker::Model;
 use std::mem;
 
@@ -82,7 +84,7 @@ impl Bucket {
                 Ok(false)
             }
             None => {
-                if self.entries.reserve(1).is_err() {
+                if make_room(&mut self.entries).is_err() {
                     return Err(Refused { key, row });
                 }
                 self.entries.push_reserved(Entry::new(hash, key, row));
@@ -116,8 +118,8 @@ impl Bucket {
         Ok(())
     }
 
-    /// Takes out the rows that belong to the next of so many buckets, as that bucket. Both get room for
-    /// as many rows as there were, which is what they will have when they are split.
+    /// Takes out the rows that belong to the next of so many buckets, as that bucket. Each of the two gets
+    /// room for the rows that it has: most of a table's memory is in its buckets.
     pub(crate) fn split(&mut self, level: u32, count: usize) -> Result<Bucket, Memory>
         requires level { level ≤ LAST_LEVEL }
         requires least { 2 ^ level ≤ count }
@@ -127,8 +129,9 @@ impl Bucket {
         ensures kept { OnErr result (self.new ≡ self.old) }
     {
         let alloc = *self.entries.allocator();
-        let mut stay = Vec::with_capacity(alloc, self.entries.len())?;
-        let mut moved = Vec::with_capacity(alloc, self.entries.len())?;
+        let leaving = count_moved(&self.entries, level, count);
+        let mut stay = Vec::with_capacity(alloc, self.entries.len() - leaving)?;
+        let mut moved = Vec::with_capacity(alloc, leaving)?;
         for entry in mem::replace(&mut self.entries, Vec::new(alloc)) {
             if entry.is_moved(level, count) {
                 moved.push_reserved(entry);
@@ -147,6 +150,32 @@ fn place_of(entries: &Vec<Entry>, hash: u64, key: &Key) -> Option<usize>
     ensures { result ≡ position (λ e. eq_by_cmp key_cmp key.now e.0) entries.now.items }
 {
     entries.iter().position(|entry| entry.is_at(hash, key))
+}
+
+/// Makes room for one more row. A list grows by a quarter, and not to its double, since a bucket is
+/// short and a table has many.
+fn make_room(entries: &mut Vec<Entry>) -> Result<(), AllocError>
+    ensures items { entries.new.items ≡ entries.old.items }
+    ensures room { OnOk result (vec_len entries.new < vec_capacity entries.new) }
+{
+    let len = entries.len();
+    if len < entries.capacity() {
+        return Ok(());
+    }
+    entries.reserve_exact(1 + len / 4)
+}
+
+/// How many of the rows move when the next of so many buckets is made.
+fn count_moved(entries: &Vec<Entry>, level: u32, count: usize) -> usize
+    requires level { level ≤ LAST_LEVEL }
+    requires least { 2 ^ level ≤ count }
+    requires most { count < 2 ^ 32 }
+    ensures { result ≡ length (filter (λ e. is_moved level count e.0) entries.now.items) }
+{
+    entries
+        .iter()
+        .filter(|entry| entry.is_moved(level, count))
+        .count()
 }
 
 impl Duplicate for Bucket {

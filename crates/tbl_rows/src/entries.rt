@@ -42,7 +42,11 @@ impl Entry {
         requires { hash ≡ hash_of key }
         ensures { result ≡ (key, row) }
     {
-        Entry { hash, key, row }
+        Entry {
+            hash,
+            key,
+            row: fitted(row),
+        }
     }
 
     /// The key.
@@ -82,7 +86,26 @@ impl Entry {
     pub(crate) fn set_row(&mut self, row: Row)
         ensures { self.new ≡ (self.old.0, row) }
     {
-        self.row = row;
+        self.row = fitted(row);
+    }
+}
+
+/// The same row, in a block of its size, if there is memory for one: it stays for long, and may come
+/// in a block that grew by doubling. The block is a new one, since one that shrinks where it lies leaves
+/// a piece that is of little use.
+fn fitted(row: Row) -> Row
+    ensures { result ≡ row }
+{
+    let mut values = row.into_vec();
+    if values.len() == values.capacity() {
+        return Row::from_vec(values);
+    }
+    match Vec::with_capacity(*values.allocator(), values.len()) {
+        Ok(mut exact) => match exact.append(&mut values) {
+            Ok(()) => Row::from_vec(exact),
+            Err(_) => Row::from_vec(values),
+        },
+        Err(_) => Row::from_vec(values),
     }
 }
 

@@ -47,11 +47,11 @@ fn tenfold(alloc: Global, count: i64) -> Result<Vec<(i64, i64)>, Fail> {
     Ok(pairs)
 }
 
-// The numbers in the keys and in the rows that the tables list.
+// The first numbers of the keys and of the rows that the tables list.
 fn listed(alloc: Global, tables: &Tables) -> Result<Vec<(i64, i64)>, Fail> {
     let mut pairs = Vec::new(alloc);
     for (key, row) in tables.rows()? {
-        if let ([Part::Int(key)], [Value::Int(row)]) = (key.parts.as_slice(), row.as_slice()) {
+        if let ([Part::Int(key), ..], [Value::Int(row)]) = (key.parts.as_slice(), row.as_slice()) {
             pairs.push((*key, *row))?;
         }
     }
@@ -129,6 +129,47 @@ fn a_copy_is_apart_from_its_source(rt: HostRuntime) -> Result<(), Fail> {
     assert!(rt; tables.rows()?.is_empty());
     let wanted = tenfold(alloc, 100)?;
     assert!(rt; listed(alloc, &copy)? == wanted);
+    Ok(())
+}
+
+// A key that has one hash with all others of this form. The second number is -2^64 over the golden
+// ratio, times the first, so that a hash of both forgets the first.
+fn crowded_key(alloc: Global, number: i64) -> Result<Key, Memory> {
+    pair_key(
+        alloc,
+        number,
+        number.wrapping_mul(7_046_029_254_386_353_131),
+    )
+}
+
+// The rows of these keys, put from the last to the first: far more than one bucket takes.
+fn crowded(alloc: Global, count: i64) -> Result<Tables, Fail> {
+    let mut tables = Tables::new(alloc)?;
+    for number in (0..count).rev() {
+        let tenfold = row(alloc, number.saturating_mul(10))?;
+        tables.put(crowded_key(alloc, number)?, tenfold)?;
+    }
+    Ok(tables)
+}
+
+// The last put of these found their bucket full, the first ones did not.
+#[test]
+fn keys_of_one_hash_are_rows_as_others_are(rt: HostRuntime) -> Result<(), Fail> {
+    let alloc = rt.alloc();
+    let mut tables = crowded(alloc, 200)?;
+    let wanted = tenfold(alloc, 200)?;
+    assert!(rt; listed(alloc, &tables)? == wanted);
+    for number in 0..200_i64 {
+        let tenfold = row(alloc, number.saturating_mul(10))?;
+        let key = crowded_key(alloc, number)?;
+        assert!(rt; tables.get(&key) == Some(&tenfold), "at {number}");
+    }
+    for number in 3..200_i64 {
+        let key = crowded_key(alloc, number)?;
+        assert!(rt; tables.delete(&key), "{number} was there");
+    }
+    let wanted = tenfold(alloc, 3)?;
+    assert!(rt; listed(alloc, &tables)? == wanted, "three are left");
     Ok(())
 }
 

@@ -1,4 +1,4 @@
-use Rattle.std.proofs.Common.{refl, ap, sym, ◌∙◌}
+use Rattle.std.proofs.Common.{ap, sym, ◌∙◌}
 use Rattle.std.specs.Option.{is_some}
 use Rattle.tbl_rows.proofs.Edited.{get-at, get-absent, apart-swap_remove, swap_remove-at, remove-absent}
 use Rattle.tbl_rows.proofs.buckets.Bucket.delete.Goals as goal

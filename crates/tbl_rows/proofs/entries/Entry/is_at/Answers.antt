@@ -1,4 +1,3 @@
-use Rattle.std.proofs.Common.{ap, ◌∙◌}
 use Rattle.tbl_rows.proofs.Slots.{hash_apart}
 use Rattle.tbl_rows.proofs.entries.Entry.is_at.Goals as goal
 

@@ -1,4 +1,4 @@
-use Rattle.std.proofs.Common.{◌≡◌, ◌+◌, ◌-◌, ◌*◌, ◌%◌, ◌^◌, ◌<◌, length, ap, ◌∙◌, arith}
+use Rattle.std.proofs.Common.{◌≡◌, ◌+◌, ◌-◌, ◌*◌, ◌%◌, ◌^◌, ◌<◌, length, ap, arith}
 use Rattle.tbl_rows.proofs.Slots.{shifted}
 use Rattle.tbl_rows.proofs.Grown.{IsSplit, split-of, IsPool-split, pooled-split, doubled}
 use Rattle.tbl_rows.proofs.pools.Pool.split_next.Goals as goal

@@ -1,4 +1,4 @@
-use Rattle.std.proofs.Common.{◌++◌, [], rules, ap, ◌∙◌, map}
+use Rattle.std.proofs.Common.{◌++◌, rules, ap, ◌∙◌, map}
 use Rattle.std.proofs.lemmas.List.{map-append}
 use Rattle.std.proofs.lemmas.List.Sorted.{ranks_by, answers_always}
 use Rattle.std.specs.Map.Iter.{deref_pair}

@@ -1,4 +1,4 @@
-use Rattle.std.proofs.Common.{◌≡◌, ◌++◌, [], rules, sym, ap, subst, ◌∙◌, map, drop}
+use Rattle.std.proofs.Common.{◌≡◌, ◌++◌, [], rules, sym, ap, ◌∙◌, map, drop}
 use Rattle.std.specs.FinMap as fin
 use Rattle.std.specs.List.Sorted.{IsPermutation}
 use Rattle.std.proofs.lemmas.List.{drop_all, append-nil}
