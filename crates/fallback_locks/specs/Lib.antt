@@ -1,0 +1,2 @@
+pub mod LastWaves
+pub mod Reruns

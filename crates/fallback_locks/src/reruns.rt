@@ -1,0 +1,60 @@
+// All that wait, wave after wave.
+ghost use Rattle.std.specs.Prelude.{◌≤◌, length, IfOk};
+ghost use Rattle.aria_base.specs.Schemas.{IsConsistent};
+ghost use Rattle.aria_base.specs.declared.limits.TheConstants.{MOST_REQUESTS};
+ghost use Rattle.proc_lang.specs.Catalogs.{run_of};
+ghost use Rattle.proc_exec.specs.Lates.{IsLateFold};
+ghost use Rattle.fallback_locks.specs.Reruns.{AllFit};
+
+use crate::groups::groups;
+use crate::levels::waves;
+use crate::rounds::run_wave;
+use crate::settlements::{all_of, empty_slots, settle};
+use aria_base::{Memory, Pace};
+use proc_exec::{Late, Waiting};
+use proc_lang::Catalog;
+use std::alloc::Global;
+use std::thread::Threads;
+use tbl_rows::Tables;
+use tbl_snapshot::Snapshot;
+
+/// Runs the waiting requests again within the keys that they declared: what becomes of each, in the
+/// order of the list, and the tables that they leave. Both are as if the requests ran one after the
+/// other, each on what the ones before it left; one that moved leaves nothing.
+///
+/// The requests of a wave run at once, each worker drawing the next one; then their rows are
+/// installed, and the next wave runs. `pace` is told `Rerun` before each run. Where the catalogue
+/// takes the calls and the rows fit it, they fit it afterwards.
+pub fn rerun<P: Pace + Sync, R: Threads + Sync>(
+    rt: &R,
+    alloc: Global,
+    catalog: &Catalog,
+    tables: Tables,
+    waiting: &[Waiting],
+    workers: u32,
+    pace: &P,
+) -> Result<(Tables, Vec<Late>), Memory>
+    requires waiting { length waiting.now ≤ MOST_REQUESTS }
+    requires workers { (1 ≤ workers) × (workers ≤ 64) }
+    ensures fold { IfOk result (λ r. IsLateFold (run_of catalog.now) tables waiting.now r.1.items r.0) }
+    ensures fit { AllFit catalog.now waiting.now tables → IfOk result (λ r. IsConsistent catalog.now.tables r.0) }
+{
+    let mut tables = tables;
+    let numbers = waves(alloc, waiting)?;
+    let groups = groups(alloc, &numbers)?;
+    let mut lates = empty_slots(alloc, waiting.len())?;
+    for group in &groups {
+        let dones = run_wave(
+            rt,
+            alloc,
+            catalog,
+            Snapshot::of(&tables),
+            waiting,
+            group.as_slice(),
+            workers,
+            pace,
+        )?;
+        settle(&mut tables, &mut lates, dones)?;
+    }
+    Ok((tables, all_of(alloc, lates)?))
+}
