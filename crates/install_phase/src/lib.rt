@@ -18,5 +18,7 @@
 mod deals;
 mod installs;
 mod jobs;
+#[cfg(test)]
+mod tests;
 
 pub use installs::install;
