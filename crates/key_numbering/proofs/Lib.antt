@@ -1,0 +1,4 @@
+pub mod Beside
+pub mod Maps
+pub mod Growing
+pub mod Settling
