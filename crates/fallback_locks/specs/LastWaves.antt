@@ -1,6 +1,9 @@
 -- The last waves that touched a key, as a table of them tells.
 use Rattle.std.specs.Prelude.{ℕ, suc, drop, map, ◌++◌, ◌≤◌, ◌<◌, max, List, [], ◌∷◌, Bool, Option, Some, None, ◌≡◌, if◌then◌else◌}
 use Rattle.std.specs.declared.cmp.Ordering.{Ordering}
+use Rattle.std.specs.BTreeMap as tree
+use Rattle.aria_base.specs.Orders.{key_cmp}
+use Rattle.aria_base.specs.declared.keys.Key.{Key}
 use Rattle.batch_rules.specs.Touches.{Declared, is_among, may_write}
 use Rattle.batch_rules.specs.Waves.{Waved, waved}
 use Rattle.std.specs.List.{All}
@@ -9,6 +12,10 @@ use Rattle.fallback_locks.specs.declared.lasts.Last.{Last}
 abbrev pub or_none : Option Last → Last
 or_none None = record { reader = 0; writer = 0 }
 or_none (Some last) = last
+
+-- what the table has at a key
+abbrev pub last_in : tree.BTreeMap Key Last → Key → Last
+last_in lasts q = or_none (tree.get key_cmp lasts q)
 
 -- a key's last waves, where a request of this wave reads it, and where one writes it
 abbrev pub with_reader : ℕ → Bool → Last → Last
@@ -24,7 +31,8 @@ highest f n (k ∷ ks) = highest f (max n (f k)) ks
 
 -- one more than the greatest wave that wrote what is read, or touched what is written
 abbrev pub wave_by : {K : Type 0} → (K → Last) → Declared K → ℕ
-wave_by table declared = suc (max (highest (λ q. (table q).writer) 0 declared.reads) (highest (λ q. max (table q).reader (table q).writer) 0 declared.writes))
+wave_by table declared =
+    suc (max (highest (λ q. (table q).writer) 0 declared.reads) (highest (λ q. max (table q).reader (table q).writer) 0 declared.writes))
 
 abbrev pub IsBelow : ℕ → Last → Type 0
 IsBelow n last = (last.reader < n) × (last.writer < n)
@@ -37,10 +45,12 @@ module _ {K W : Type 0} (R : K → K → Ordering) (declared_of : W → Declared
 
   -- the table has of each key the last waves of those items
   abbrev pub IsTable : (K → Last) → List (Waved W) → Type 0
-  IsTable table es = (q : K) → table q ≡ record { reader = last_of (λ d. is_among R d.reads q) es; writer = last_of (λ d. may_write R d q) es }
+  IsTable table es = (q : K)
+      → table q ≡ record { reader = last_of (λ d. is_among R d.reads q) es; writer = last_of (λ d. may_write R d q) es }
 
 -- a table and waves that came about so far, from the items before this index
-pub record IsSoFar {K W : Type 0} (R : K → K → Ordering) (declared_of : W → Declared K) (table : K → Last) (index : ℕ) (waves : List ℕ) (items : List W) : Type 0 where
+pub record IsSoFar {K W : Type 0} (R : K → K → Ordering) (declared_of : W → Declared K) (table : K → Last) (index : ℕ)
+    (waves : List ℕ) (items : List W) : Type 0 where
   pub earlier : List (Waved W)
   pub tells : IsTable R declared_of table earlier
   pub low : All (λ e. e.wave ≤ index) earlier

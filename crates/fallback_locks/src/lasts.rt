@@ -1,10 +1,9 @@
 // The last waves that touched a key.
 ghost use Rattle.std.specs.Prelude.{◌≡◌, max, OnOk};
-ghost use Rattle.std.specs.BTreeMap as tree;
 ghost use Rattle.aria_base.specs.Orders.{key_cmp};
 ghost use Rattle.aria_base.specs.declared.keys.Key.{Key as Name};
 ghost use Rattle.batch_rules.specs.Touches.{is_among};
-ghost use Rattle.fallback_locks.specs.LastWaves.{or_none, with_reader, with_writer, highest};
+ghost use Rattle.fallback_locks.specs.LastWaves.{last_in, with_reader, with_writer, highest};
 
 use aria_base::{Key, Memory, copy_key};
 use std::alloc::Global;
@@ -18,7 +17,7 @@ pub(crate) struct Last {
 }
 
 fn last_at(lasts: &BTreeMap<Key, Last>, key: &Key) -> Last
-    ensures { result ≡ or_none (tree.get key_cmp lasts.now key.now) }
+    ensures { result ≡ last_in lasts.now key.now }
 {
     match lasts.get(key) {
         Some(last) => *last,
@@ -31,7 +30,7 @@ fn last_at(lasts: &BTreeMap<Key, Last>, key: &Key) -> Last
 
 /// The last wave that writes one of the keys.
 pub(crate) fn last_writer(lasts: &BTreeMap<Key, Last>, keys: &[Key]) -> u32
-    ensures { result ≡ highest (λ q. (or_none (tree.get key_cmp lasts.now q)).writer) 0 keys.now }
+    ensures { result ≡ highest (λ q. (last_in lasts.now q).writer) 0 keys.now }
 {
     let mut most = 0;
     for key in keys {
@@ -42,7 +41,7 @@ pub(crate) fn last_writer(lasts: &BTreeMap<Key, Last>, keys: &[Key]) -> u32
 
 /// The last wave that reads or writes one of the keys.
 pub(crate) fn last_toucher(lasts: &BTreeMap<Key, Last>, keys: &[Key]) -> u32
-    ensures { result ≡ highest (λ q. max (or_none (tree.get key_cmp lasts.now q)).reader (or_none (tree.get key_cmp lasts.now q)).writer) 0 keys.now }
+    ensures { result ≡ highest (λ q. max (last_in lasts.now q).reader (last_in lasts.now q).writer) 0 keys.now }
 {
     let mut most = 0;
     for key in keys {
@@ -59,7 +58,7 @@ pub(crate) fn note_reads(
     keys: &[Key],
     wave: u32,
 ) -> Result<(), Memory>
-    ensures { OnOk result ((q : Name) → or_none (tree.get key_cmp lasts.new q) ≡ with_reader wave (is_among key_cmp keys.now q) (or_none (tree.get key_cmp lasts.old q))) }
+    ensures { OnOk result ((q : Name) → last_in lasts.new q ≡ with_reader wave (is_among key_cmp keys.now q) (last_in lasts.old q)) }
 {
     for key in keys {
         let last = last_at(lasts, key);
@@ -79,7 +78,7 @@ pub(crate) fn note_writes(
     keys: &[Key],
     wave: u32,
 ) -> Result<(), Memory>
-    ensures { OnOk result ((q : Name) → or_none (tree.get key_cmp lasts.new q) ≡ with_writer wave (is_among key_cmp keys.now q) (or_none (tree.get key_cmp lasts.old q))) }
+    ensures { OnOk result ((q : Name) → last_in lasts.new q ≡ with_writer wave (is_among key_cmp keys.now q) (last_in lasts.old q)) }
 {
     for key in keys {
         let last = last_at(lasts, key);

@@ -1,11 +1,9 @@
 // The waves of waiting requests.
 ghost use Rattle.std.specs.Prelude.{◌≡◌, ℕ, ◌≤◌, length, IfOk};
-ghost use Rattle.std.specs.BTreeMap as tree;
-ghost use Rattle.aria_base.specs.Orders.{key_cmp};
 ghost use Rattle.aria_base.specs.declared.keys.Key.{Key as Name};
 ghost use Rattle.aria_base.specs.declared.limits.TheConstants.{MOST_REQUESTS};
 ghost use Rattle.proc_exec.specs.Limits.{touchable};
-ghost use Rattle.fallback_locks.specs.LastWaves.{or_none, wave_by, IsBelow};
+ghost use Rattle.fallback_locks.specs.LastWaves.{last_in, wave_by, IsBelow};
 ghost use Rattle.fallback_locks.specs.Reruns.{waves_of};
 
 use crate::lasts::{Last, last_toucher, last_writer, note_reads, note_writes};
@@ -37,8 +35,8 @@ pub fn waves(alloc: Global, waiting: &[Waiting]) -> Result<Vec<u32>, Memory>
 
 /// The wave of a request, by the last waves of those before it.
 fn wave_after(lasts: &BTreeMap<Key, Last>, declared: &Declared) -> u32
-    requires { (q : Name) → IsBelow MOST_REQUESTS (or_none (tree.get key_cmp lasts.now q)) }
-    ensures { result ≡ wave_by (λ q. or_none (tree.get key_cmp lasts.now q)) (touchable declared.now) }
+    requires { (q : Name) → IsBelow MOST_REQUESTS (last_in lasts.now q) }
+    ensures { result ≡ wave_by (last_in lasts.now) (touchable declared.now) }
 {
     let read = last_writer(lasts, declared.reads.as_slice());
     let written = last_toucher(lasts, declared.writes.as_slice());
