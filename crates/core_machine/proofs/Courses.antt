@@ -7,7 +7,7 @@ use Rattle.batch_rules.specs.Verdicts.{finishes}
 use Rattle.batch_rules.specs.Batches.{Carrier, Judged, judged, touching, written}
 use Rattle.core_machine.specs.declared.events.Event.{Event}
 use Rattle.core_machine.specs.declared.events.Event.TheVariants.{Execute, MarkRead, MarkWrite, Decide, Install, Turn}
-use Rattle.core_machine.specs.Events.{SoFar, at_first, phase_of, turned, along, all_along, IsSettled, Stands, Asked, IsDue, IsLegal}
+use Rattle.core_machine.specs.Events.{SoFar, at_first, phase_of, tid_in, place_in, turned, along, all_along, IsSettled, Stands, Asked, IsDue, IsLegal}
 use Rattle.core_machine.proofs.Listed.{get_below}
 use Rattle.core_machine.proofs.Keeps.{came_cases, came_now, came_before}
 
@@ -20,22 +20,6 @@ kind_of (MarkWrite i p) = 2
 kind_of (Decide i) = 3
 kind_of (Install i p) = 4
 kind_of Turn = 5
-
-abbrev tid_in : Event → ℕ
-tid_in (Execute i) = i
-tid_in (MarkRead i p) = i
-tid_in (MarkWrite i p) = i
-tid_in (Decide i) = i
-tid_in (Install i p) = i
-tid_in Turn = 0
-
-abbrev place_in : Event → ℕ
-place_in (Execute i) = 0
-place_in (MarkRead i p) = p
-place_in (MarkWrite i p) = p
-place_in (Decide i) = 0
-place_in (Install i p) = p
-place_in Turn = 0
 
 abbrev event_of : ℕ → ℕ → ℕ → Event
 event_of zero i p = Execute i
@@ -56,12 +40,12 @@ event_again Turn = refl
 same_or_not : (a b : Event) → (a ≡ b) ⊎ (a ≢ b)
 same_or_not a b = ⊎_elim
     (λ k. ⊎_elim
-        (λ t. ⊎_elim
-            (λ p. inl (sym (event_again a) ∙ (λ i. event_of (k i) (t i) (p i)) ∙ event_again b))
-            (λ off. inr (λ e. off (ap place_in e)))
-            (cases_eq (place_in a) (place_in b)))
-        (λ off. inr (λ e. off (ap tid_in e)))
-        (cases_eq (tid_in a) (tid_in b)))
+    (λ t. ⊎_elim
+    (λ p. inl (sym (event_again a) ∙ (λ i. event_of (k i) (t i) (p i)) ∙ event_again b))
+    (λ off. inr (λ e. off (ap place_in e)))
+    (cases_eq (place_in a) (place_in b)))
+    (λ off. inr (λ e. off (ap tid_in e)))
+    (cases_eq (tid_in a) (tid_in b)))
     (λ off. inr (λ e. off (ap kind_of e)))
     (cases_eq (kind_of a) (kind_of b))
 
@@ -144,7 +128,7 @@ module _ {K V A O : Type 0} (R : K → K → Ordering) (by : Carrier K V A O) (r
   get_cases None = inr refl
   get_cases (Some x) = inl (x, refl)
 
-  stands_or_not : (i : ℕ) → ((d : Judged O) × stands i d) ⊎ ((d : Judged O) → ¬ stands i d)
+  pub stands_or_not : (i : ℕ) → ((d : Judged O) × stands i d) ⊎ ((d : Judged O) → ¬ stands i d)
   stands_or_not i = ⊎_elim
       (λ low. inr (λ d s. let le = s.0 in omega arith))
       (λ high. ⊎_elim (λ d. inl (d.0, (high, d.1))) (λ none. inr (λ d s. let e : None ≡ Some d = sym none ∙ s.1 in cc)) (get_cases (slice_get ds (i - 1))))
@@ -162,26 +146,26 @@ module _ {K V A O : Type 0} (R : K → K → Ordering) (by : Carrier K V A O) (r
   asked_or_not (Decide i) = ⊎_elim (λ s. inl s) (λ no_one. inr (λ a. no_one a.0 a.1)) (stands_or_not i)
   asked_or_not (MarkRead i p) = ⊎_elim
       (λ s. ⊎_elim
-          (λ k. inl (s.0, s.1, k))
-          (λ none. inr (λ a. let same : s.0 ≡ a.0 = one i s.0 a.0 s.1 a.1 in let e : None ≡ Some a.2.0 = sym none ∙ ap (λ (d : Judged O). slice_get (by.reads d.request) p) same ∙ a.2.1 in cc))
-          (get_cases (slice_get (by.reads s.0.request) p)))
+      (λ k. inl (s.0, s.1, k))
+      (λ none. inr (λ a. let same : s.0 ≡ a.0 = one i s.0 a.0 s.1 a.1 in let e : None ≡ Some a.2.0 = sym none ∙ ap (λ (d : Judged O). slice_get (by.reads d.request) p) same ∙ a.2.1 in cc))
+      (get_cases (slice_get (by.reads s.0.request) p)))
       (λ no_one. inr (λ a. no_one a.0 a.1))
       (stands_or_not i)
   asked_or_not (MarkWrite i p) = ⊎_elim
       (λ s. ⊎_elim
-          (λ k. inl (s.0, s.1, k))
-          (λ none. inr (λ a. let same : s.0 ≡ a.0 = one i s.0 a.0 s.1 a.1 in let e : None ≡ Some a.2.0 = sym none ∙ ap (λ (d : Judged O). slice_get (written by d.request) p) same ∙ a.2.1 in cc))
-          (get_cases (slice_get (written by s.0.request) p)))
+      (λ k. inl (s.0, s.1, k))
+      (λ none. inr (λ a. let same : s.0 ≡ a.0 = one i s.0 a.0 s.1 a.1 in let e : None ≡ Some a.2.0 = sym none ∙ ap (λ (d : Judged O). slice_get (written by d.request) p) same ∙ a.2.1 in cc))
+      (get_cases (slice_get (written by s.0.request) p)))
       (λ no_one. inr (λ a. no_one a.0 a.1))
       (stands_or_not i)
   asked_or_not (Install i p) = ⊎_elim
       (λ s. ⊎_elim
-          (λ k. ⊎_elim
-              (λ f. inl (s.0, s.1, f, k))
-              (λ f. inr (λ a. let same : s.0 ≡ a.0 = one i s.0 a.0 s.1 a.1 in false≢true (sym f ∙ ap (λ (d : Judged O). finishes d.verdict) same ∙ a.2)))
-              (bool_cases (finishes s.0.verdict)))
-          (λ none. inr (λ a. let same : s.0 ≡ a.0 = one i s.0 a.0 s.1 a.1 in let e : None ≡ Some a.3.0 = sym none ∙ ap (λ (d : Judged O). slice_get (by.rows d.request) p) same ∙ a.3.1 in cc))
-          (get_cases (slice_get (by.rows s.0.request) p)))
+      (λ k. ⊎_elim
+      (λ f. inl (s.0, s.1, f, k))
+      (λ f. inr (λ a. let same : s.0 ≡ a.0 = one i s.0 a.0 s.1 a.1 in false≢true (sym f ∙ ap (λ (d : Judged O). finishes d.verdict) same ∙ a.2)))
+      (bool_cases (finishes s.0.verdict)))
+      (λ none. inr (λ a. let same : s.0 ≡ a.0 = one i s.0 a.0 s.1 a.1 in let e : None ≡ Some a.3.0 = sym none ∙ ap (λ (d : Judged O). slice_get (by.rows d.request) p) same ∙ a.3.1 in cc))
+      (get_cases (slice_get (by.rows s.0.request) p)))
       (λ no_one. inr (λ a. no_one a.0 a.1))
       (stands_or_not i)
   asked_or_not Turn = inr (λ a. a)
@@ -212,9 +196,9 @@ module _ {K V A O : Type 0} (R : K → K → Ordering) (by : Carrier K V A O) (r
   wanted : (so : SoFar) (e : Event) → (asked e × (phase_of e ≡ so.phase) × (¬ Contains so.came e)) ⊎ (asked e → phase_of e ≡ so.phase → Contains so.came e)
   wanted so e = ⊎_elim
       (λ a. ⊎_elim
-          (λ at. ⊎_elim (λ c. inr (λ _ _. c)) (λ new. inl (a, at, new)) (came_or_not e so.came))
-          (λ off. inr (λ _ at. absurd (off at)))
-          (cases_eq (phase_of e) so.phase))
+      (λ at. ⊎_elim (λ c. inr (λ _ _. c)) (λ new. inl (a, at, new)) (came_or_not e so.came))
+      (λ off. inr (λ _ at. absurd (off at)))
+      (cases_eq (phase_of e) so.phase))
       (λ never. inr (λ a _. absurd (never a)))
       (asked_or_not e)
 
@@ -237,11 +221,11 @@ module _ {K V A O : Type 0} (R : K → K → Ordering) (by : Carrier K V A O) (r
       })
       (wanted so c)
 
-  along_append : (es fs : List Event) (so : SoFar) → all_along so (es ++ fs) ≡ all_along (all_along so es) fs
+  pub along_append : (es fs : List Event) (so : SoFar) → all_along so (es ++ fs) ≡ all_along (all_along so es) fs
   along_append [] fs so = refl
   along_append (e ∷ es) fs so = along_append es fs (along so e)
 
-  legal_append : (es fs : List Event) (so : SoFar) → IsLegal R by rule list so es → IsLegal R by rule list (all_along so es) fs → IsLegal R by rule list so (es ++ fs)
+  pub legal_append : (es fs : List Event) (so : SoFar) → IsLegal R by rule list so es → IsLegal R by rule list (all_along so es) fs → IsLegal R by rule list so (es ++ fs)
   legal_append [] fs so l m = m
   legal_append (e ∷ es) fs so l m = (l.0, legal_append es fs (along so e) l.1 m)
 
@@ -307,17 +291,17 @@ module _ {K V A O : Type 0} (R : K → K → Ordering) (by : Carrier K V A O) (r
   done_or_not so (c ∷ cs) = ⊎_elim
       (λ w. inr (c, w.0, w.1, w.2))
       (λ done. ⊎_elim
-          (λ rest. inl (λ e h at a. ⊎_elim (λ same. subst (λ x. asked x → phase_of x ≡ so.phase → Contains so.came x) same done a at) (λ among. rest e among at a) h))
-          (λ due_one. inr due_one)
-          (done_or_not so cs))
+      (λ rest. inl (λ e h at a. ⊎_elim (λ same. subst (λ x. asked x → phase_of x ≡ so.phase → Contains so.came x) same done a at) (λ among. rest e among at a) h))
+      (λ due_one. inr due_one)
+      (done_or_not so cs))
       (wanted so c)
 
   turn_or_not : (so : SoFar) → due so Turn ⊎ (¬ due so Turn)
   turn_or_not so = ⊎_elim
       (λ below. ⊎_elim
-          (λ done. inl (below, λ e at a. done e (all_asked e a) at a))
-          (λ left. inr (λ now. left.3 (now.1 left.0 left.2 left.1)))
-          (done_or_not so (box (length ds) (bound ds))))
+      (λ done. inl (below, λ e at a. done e (all_asked e a) at a))
+      (λ left. inr (λ now. left.3 (now.1 left.0 left.2 left.1)))
+      (done_or_not so (box (length ds) (bound ds))))
       (λ past. inr (λ now. let lt = now.0 in omega arith))
       (cases_lt so.phase 4)
 

@@ -117,7 +117,7 @@ module _ {K V A O : Type 0} {R : K → K → Ordering} (o : IsTotalOrder R) (ant
 
   -- ---- decisions
 
-  all_marked : (so : SoFar) (h : Held R V O) → Keeps so h → 1 < so.phase → (writes : Bool) (k : K) (i : ℕ) → Touches writes k i → words_on writes h k ≤ number_under tag i
+  pub all_marked : (so : SoFar) (h : Held R V O) → Keeps so h → 1 < so.phase → (writes : Bool) (k : K) (i : ℕ) → Touches writes k i → words_on writes h k ≤ number_under tag i
   all_marked so h keeps late true k i (d, s, (p, e)) = keeps.effects (MarkWrite i p) (keeps.past (MarkWrite i p) late (d, s, (k, e))) d k s e
   all_marked so h keeps late false k i (d, s, (p, e)) = keeps.effects (MarkRead i p) (keeps.past (MarkRead i p) late (d, s, (k, e))) d k s e
 
@@ -140,9 +140,14 @@ module _ {K V A O : Type 0} {R : K → K → Ordering} (o : IsTotalOrder R) (ant
 
     to_holder : (tid : ℕ) (d : Judged O) (mine theirs : Bool) → stands tid d → (i : ℕ) → ((k : K) × ((p : ℕ) × ((slice_get (sets mine d.request) p ≡ Some k) × (Touches theirs k i × (i < tid))))) → Holder (holds mine theirs d.request) (take (tid - 1) list) i
     to_holder tid d mine theirs s i (k, (p, (e, ((c, t, (n, f)), lt)))) =
-        let low = t.0 in
-        (t.0, (c.request, take_get list (tid - 1) (i - 1) c.request (omega arith) (judged_at (touching by R) rule [] list (i - 1) c t.1).0,
-          (meeting o anti (sets mine d.request) (sets theirs c.request)).1 (k, among_at o anti (sets mine d.request) p k e, among_at o anti (sets theirs c.request) n k f)))
+        let low = t.0 in (
+          t.0,
+          (
+            c.request,
+            take_get list (tid - 1) (i - 1) c.request (omega arith) (judged_at (touching by R) rule [] list (i - 1) c t.1).0,
+            (meeting o anti (sets mine d.request) (sets theirs c.request)).1 (k, among_at o anti (sets mine d.request) p k e, among_at o anti (sets theirs c.request) n k f),
+          ),
+        )
 
     from_holder : (words : K → ℕ) (tid : ℕ) (d : Judged O) (mine theirs : Bool) → stands tid d → (i : ℕ) → Holder (holds mine theirs d.request) (take (tid - 1) list) i → AtOne tag words tid (Touches theirs) (sets mine d.request) i
     from_holder words tid d mine theirs s i (low, (q, e, m)) =
@@ -153,17 +158,17 @@ module _ {K V A O : Type 0} {R : K → K → Ordering} (o : IsTotalOrder R) (ant
         let here = at_among o anti (sets mine d.request) common.0 common.1 in
         let there = at_among o anti (sets theirs q) common.0 common.2 in
         one_at words tid (Touches theirs) (sets mine d.request) i here.0 common.0 here.1
-            (has.0, (low, has.1), (there.0, ap (λ q. slice_get (sets theirs q) there.0) has.2 ∙ there.1))
-            (omega arith)
+        (has.0, (low, has.1), (there.0, ap (λ q. slice_get (sets theirs q) there.0) has.2 ∙ there.1))
+        (omega arith)
 
     told : (so : SoFar) (h : Held R V O) → Keeps so h → 1 < so.phase → (tid : ℕ) (d : Judged O) (mine theirs : Bool) → stands tid d → least_told tag (words_on theirs h) tid None (sets mine d.request) ≡ least (holds mine theirs d.request) (take (tid - 1) list)
     told so h keeps late tid d mine theirs s =
         let each : (k : K) → LeastOf (Touches theirs k) (tid_under tag (words_on theirs h k))
-              = λ k. word_tells (Touches theirs k) tag (first theirs k) (words_on theirs h k) (above theirs k) (small_tid theirs k) (all_marked so h keeps late theirs k) (keeps.words theirs k) in
+        = λ k. word_tells (Touches theirs k) tag (first theirs k) (words_on theirs h k) (above theirs k) (small_tid theirs k) (all_marked so h keeps late theirs k) (keeps.words theirs k) in
         one_least (AtOne tag (words_on theirs h) tid (Touches theirs) (sets mine d.request)) (Holder (holds mine theirs d.request) (take (tid - 1) list))
-            (λ i at. to_holder tid d mine theirs s i (at_one (words_on theirs h) tid (Touches theirs) (sets mine d.request) i at))
-            (from_holder (words_on theirs h) tid d mine theirs s)
-            _ _ (least_of_keys tag (words_on theirs h) tid (Touches theirs) each (sets mine d.request)) (least-holder (holds mine theirs d.request) (take (tid - 1) list))
+        (λ i at. to_holder tid d mine theirs s i (at_one (words_on theirs h) tid (Touches theirs) (sets mine d.request) i at))
+        (from_holder (words_on theirs h) tid d mine theirs s)
+        _ _ (least_of_keys tag (words_on theirs h) tid (Touches theirs) each (sets mine d.request)) (least-holder (holds mine theirs d.request) (take (tid - 1) list))
 
     pub decides : (so : SoFar) (h : Held R V O) → Keeps so h → 1 < so.phase → (i : ℕ) (d : Judged O) → stands i d → decide by rule tag h.writers h.readers i d.request ≡ d.verdict
     decides so h keeps late i d s =
@@ -321,19 +326,19 @@ module _ {K V A O : Type 0} {R : K → K → Ordering} (o : IsTotalOrder R) (ant
         (λ none. elim (finishes d.verdict) as (λ b. finishes d.verdict ≡ b → Writer k (d ∷ ds) ⊎ All (Untouched k) (d ∷ ds)) [
           | false ↦ λ e. inr (All-cons (Untouched k) d ds (λ f. absurd (false≢true (sym e ∙ f))) none)
           | true ↦ λ e. elim (find R k (by.rows d.request)) as (λ r. find R k (by.rows d.request) ≡ r → Writer k (d ∷ ds) ⊎ All (Untouched k) (d ∷ ds)) [
-              | None ↦ λ r. inr (All-cons (Untouched k) d ds (λ f. sym (fin.Entries.is_some-find R k (by.rows d.request)) ∙ ap is_some r) none)
-              | Some row ↦ λ r. inl (0, d, row, refl, e, r)
-            ] refl
+            | None ↦ λ r. inr (All-cons (Untouched k) d ds (λ f. sym (fin.Entries.is_some-find R k (by.rows d.request)) ∙ ap is_some r) none)
+            | Some row ↦ λ r. inl (0, d, row, refl, e, r)
+          ] refl
         ] refl)
         (writer_cases k ds)
 
     settled_row : (so : SoFar) (h : Held R V O) → Keeps so h → so.phase ≡ 4 → (k : K) → fin.get h.map k ≡ fin.get target k
     settled_row so h keeps end k = ⊎_elim
         (λ w. let n : ℕ = w.0 in
-            let one : n ≡ suc n - 1 = omega arith in
-            let s : stands (suc n) w.1 = (omega arith, ap (slice_get (judged (touching by R) rule [] list)) (sym one) ∙ w.3) in
-            let at = at_found o anti (by.rows w.1.request) k w.2 w.5 in
-            keeps.effects (Install (suc n) at.0) (keeps.past (Install (suc n) at.0) (omega (arith, end)) (w.1, s, w.4, ((k, w.2), at.1))) w.1 (k, w.2) s w.4 at.1)
+        let one : n ≡ suc n - 1 = omega arith in
+        let s : stands (suc n) w.1 = (omega arith, ap (slice_get (judged (touching by R) rule [] list)) (sym one) ∙ w.3) in
+        let at = at_found o anti (by.rows w.1.request) k w.2 w.5 in
+        keeps.effects (Install (suc n) at.0) (keeps.past (Install (suc n) at.0) (omega (arith, end)) (w.1, s, w.4, ((k, w.2), at.1))) w.1 (k, w.2) s w.4 at.1)
         (λ none. ⊎_elim (λ e. e ∙ sym ((after_commit_at o anti by rule start list k).kept none)) (λ e. e) (keeps.rows k))
         (writer_cases k (judged (touching by R) rule [] list))
 

@@ -98,10 +98,13 @@ module _ {K : Type 0} {R : K → K → Ordering} (o : IsTotalOrder R) (anti : Is
     once_written [] k row once = (refl, tt)
     once_written (w ∷ ws) k row once = elim (eq_by_cmp R k w.0) as (λ b. eq_by_cmp R k w.0 ≡ b → Once (cond b ((w.0, row) ∷ ws) (w ∷ with_write R ws k row))) [
       | true ↦ λ e. once
-      | false ↦ λ e. (find-with_write o anti ws k row w.0 ∙ elim (eq_by_cmp R w.0 k) as (λ b. eq_by_cmp R w.0 k ≡ b → cond b (Some row) (find R w.0 ws) ≡ None) [
+      | false ↦ λ e. (
+        find-with_write o anti ws k row w.0 ∙ elim (eq_by_cmp R w.0 k) as (λ b. eq_by_cmp R w.0 k ≡ b → cond b (Some row) (find R w.0 ws) ≡ None) [
           | true ↦ λ t. absurd (false≢true (sym e ∙ ap (eq_by_cmp R k) (same_key anti w.0 k t) ∙ itself k))
           | false ↦ λ t. once.0
-        ] refl, once_written ws k row once.1)
+        ] refl,
+        once_written ws k row once.1,
+      )
     ] refl
 
     once_noted : (n : Noted K V) (visits : List (Visit K V)) → Once n.writes → Once (all_noted R n visits).writes

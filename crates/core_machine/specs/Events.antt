@@ -27,6 +27,23 @@ phase_of (Decide i) = 2
 phase_of (Install i p) = 3
 phase_of Turn = 4
 
+-- the request that it is of, and the place in one of that one's sets; 0 where there is none
+abbrev pub tid_in : Event → ℕ
+tid_in (Execute i) = i
+tid_in (MarkRead i p) = i
+tid_in (MarkWrite i p) = i
+tid_in (Decide i) = i
+tid_in (Install i p) = i
+tid_in Turn = 0
+
+abbrev pub place_in : Event → ℕ
+place_in (Execute i) = 0
+place_in (MarkRead i p) = p
+place_in (MarkWrite i p) = p
+place_in (Decide i) = 0
+place_in (Install i p) = p
+place_in Turn = 0
+
 abbrev pub turned : ℕ → Event → ℕ
 turned phase Turn = phase + 1
 turned phase e = phase

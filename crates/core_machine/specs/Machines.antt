@@ -49,7 +49,11 @@ least_told tag words tid best (k ∷ ks) = least_told tag words tid (lesser best
 module _ {K V A O : Type 0} (by : Carrier K V A O) (rule : Rule) (tag : ℕ) where
   -- the verdict of the request with this TID as the words tell it
   abbrev pub decide : (writers readers : K → ℕ) → ℕ → O → Verdict
-  decide writers readers tid o = verdict_by rule (least_told tag writers tid None (written by o)) (least_told tag writers tid None (by.reads o)) (least_told tag readers tid None (written by o))
+  decide writers readers tid o =
+      let waw : Option ℕ = least_told tag writers tid None (written by o) in
+      let raw : Option ℕ = least_told tag writers tid None (by.reads o) in
+      let war : Option ℕ = least_told tag readers tid None (written by o) in
+      verdict_by rule waw raw war
 
   module _ {R : K → K → Ordering} (start : FinMap R V) (list : List O) (first : Bool → K → ℕ) where
     -- at the beginning the words of each key, for those that write it and for those that read it, are the first ones
@@ -58,7 +62,13 @@ module _ {K V A O : Type 0} (by : Carrier K V A O) (rule : Rule) (tag : ℕ) whe
 
     -- what one event does. Where it finds nothing to work on it changes nothing
     abbrev pub step : Held R V O → Event → Held R V O
-    step h (Execute i) = record { outcomes = put h.outcomes i (slice_get list (i - 1)); writers = h.writers; readers = h.readers; verdicts = h.verdicts; map = h.map }
+    step h (Execute i) = record {
+      outcomes = put h.outcomes i (slice_get list (i - 1));
+      writers = h.writers;
+      readers = h.readers;
+      verdicts = h.verdicts;
+      map = h.map;
+    }
     step h (MarkRead i p) = record {
       outcomes = h.outcomes;
       writers = h.writers;
@@ -73,8 +83,20 @@ module _ {K V A O : Type 0} (by : Carrier K V A O) (rule : Rule) (tag : ℕ) whe
       verdicts = h.verdicts;
       map = h.map;
     }
-    step h (Decide i) = record { outcomes = h.outcomes; writers = h.writers; readers = h.readers; verdicts = put h.verdicts i (option_map (decide h.writers h.readers i) (h.outcomes i)); map = h.map }
-    step h (Install i p) = record { outcomes = h.outcomes; writers = h.writers; readers = h.readers; verdicts = h.verdicts; map = installed h.map (and_then (h.outcomes i) (λ o. slice_get (by.rows o) p)) }
+    step h (Decide i) = record {
+      outcomes = h.outcomes;
+      writers = h.writers;
+      readers = h.readers;
+      verdicts = put h.verdicts i (option_map (decide h.writers h.readers i) (h.outcomes i));
+      map = h.map;
+    }
+    step h (Install i p) = record {
+      outcomes = h.outcomes;
+      writers = h.writers;
+      readers = h.readers;
+      verdicts = h.verdicts;
+      map = installed h.map (and_then (h.outcomes i) (λ o. slice_get (by.rows o) p));
+    }
     step h Turn = h
 
     abbrev pub steps : Held R V O → List Event → Held R V O
@@ -93,8 +115,10 @@ AreFirst tag first = (writes : Bool) (k : _) → (tag + 1) * TAG_SPAN ≤ first 
 module _ {K V Q A : Type 0} {R : K → K → Ordering} (is_done : A → Bool) (tree : Q → Tree K V A) (rule : Rule) (start : FinMap R V) (list : List Q) where
   -- after each legal list of events that settles, the verdicts and the database are those of the batch's commit phase
   abbrev pub Commits : ℕ → (Bool → K → ℕ) → List Event → Type 0
-  Commits tag first es = length list ≤ MOST_REQUESTS → AreFirst tag first → IsLegal R (on_start is_done tree start) rule list at_first es → IsSettled (all_along at_first es)
-      → IsCommitted (on_start is_done tree start) rule tag start list first (steps (on_start is_done tree start) rule tag start list first (begun (on_start is_done tree start) rule tag start list first) es)
+  Commits tag first es =
+      let by : Carrier K V A Q = on_start is_done tree start in
+      length list ≤ MOST_REQUESTS → AreFirst tag first → IsLegal R by rule list at_first es → IsSettled (all_along at_first es)
+      → IsCommitted by rule tag start list first (steps by rule tag start list first (begun by rule tag start list first) es)
 
   -- some legal list of events settles
   abbrev pub CanSettle : Type 0

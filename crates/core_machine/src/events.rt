@@ -1,5 +1,8 @@
 //! What may come to the machine.
 
+ghost use Rattle.std.specs.Prelude.{◌≡◌};
+ghost use Rattle.core_machine.specs.Events.{phase_of};
+
 /// One atomic step of a commit phase. The first number is a request's TID, its place in the batch's
 /// list from 1; the second is a place in what that request reads or writes, from 0.
 #[derive(Clone, Copy, Debug, PartialEq, Eq, PartialOrd, Ord)]
@@ -16,4 +19,19 @@ pub enum Event {
     Install(u32, u32),
     /// A phase ends, and the next one begins.
     Turn,
+}
+
+impl Event {
+    /// The phase that it belongs to, by how many end before it. A turn belongs to none.
+    pub(crate) fn phase(self) -> u8
+        ensures { result ≡ phase_of self }
+    {
+        match self {
+            Event::Execute(_) => 0,
+            Event::MarkRead(_, _) | Event::MarkWrite(_, _) => 1,
+            Event::Decide(_) => 2,
+            Event::Install(_, _) => 3,
+            Event::Turn => 4,
+        }
+    }
 }
