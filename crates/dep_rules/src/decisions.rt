@@ -62,8 +62,8 @@ pub fn decide(numbered: &Numbered, words: &[u64], tag: u64, tid: u32, rule: Rule
     decided(rule, waw, raw, war)
 }
 
-/// The verdict by the least request of each dependency.
-fn decided(rule: Rule, waw: Option<u32>, raw: Option<u32>, war: Option<u32>) -> Verdict
+/// The verdict by the least request of each dependency. No memory.
+pub fn decided(rule: Rule, waw: Option<u32>, raw: Option<u32>, war: Option<u32>) -> Verdict
     ensures { result ≡ verdict_by rule waw raw war }
 {
     match (rule, waw, raw, war) {
@@ -119,8 +119,8 @@ fn least_before(words: &[u64], tag: u64, keys: &[u32], side: Side, tid: u32) -> 
     least
 }
 
-/// The TID that a word stands for, where it is below `tid`.
-fn stands_before(word: u64, tag: u64, tid: u32) -> Option<u32>
+/// The TID that a word stands for under the tag, where it is below `tid`. No memory.
+pub fn stands_before(word: u64, tag: u64, tid: u32) -> Option<u32>
     ensures { result ≡ earlier_only tid (tid_under tag word) }
 {
     if word / TAG_SPAN != tag {
@@ -130,8 +130,8 @@ fn stands_before(word: u64, tag: u64, tid: u32) -> Option<u32>
     if other < tid { Some(other) } else { None }
 }
 
-/// The lesser TID of the two, where there is one.
-fn lesser_of(least: Option<u32>, other: Option<u32>) -> Option<u32>
+/// The lesser TID of the two, where there is one. No memory.
+pub fn lesser_of(least: Option<u32>, other: Option<u32>) -> Option<u32>
     ensures { result ≡ lesser least other }
 {
     match (least, other) {

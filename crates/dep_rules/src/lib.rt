@@ -23,6 +23,6 @@ mod tests;
 
 pub use batch_rules::verdicts::{Cause, Rule, Verdict};
 pub use configs::Config;
-pub use decisions::{decide, decide_listed};
+pub use decisions::{decide, decide_listed, decided, lesser_of, stands_before};
 pub use numberings::Numbered;
 pub use sets::Sets;
