@@ -1,0 +1,5 @@
+pub mod Turns
+pub mod Lefts
+pub mod Measures
+pub mod Wholes
+pub mod Ends

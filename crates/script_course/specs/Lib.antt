@@ -1,0 +1,5 @@
+pub mod Causes
+pub mod Courses
+pub mod Laws
+pub mod Refusals
+pub mod Served

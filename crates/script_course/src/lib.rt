@@ -1,0 +1,30 @@
+//! The course of a command that reads its input: line by line, each answered as soon as it is whole.
+//!
+//! A command is a state with one step for a line, [`Reads`]. A line can only go on or be refused. What the
+//! lines of a text print is a fold over them, told for a text as far as it goes, and for a whole text with
+//! the line at its end that no line feed completes. [`read_through`] does this with any source, any sink and
+//! any command, and with a disk where the command has one.
+//!
+//! ```text
+//! Source ──> pieces ──> Lines (script_text) ──> Reads::line ──> Sink
+//!                            │                      ├── disk
+//!                       a refused line ──> print_refusal ──> Sink
+//! ```
+//!
+//! In `specs/`: `Courses` says what is printed, `Refusals` the line of a refusal, `Served` when a sink was
+//! given what a course prints, `Causes` who was at fault and what is known of the disk.
+#![tactic(auto)]
+
+mod courses;
+mod gives;
+mod laws;
+mod readings;
+mod refusals;
+mod stops;
+
+pub use courses::Reads;
+pub use gives::{end_with, give, refuse};
+pub use laws::ends_of;
+pub use readings::{PIECE, read_through};
+pub use refusals::print_refusal;
+pub use stops::Stop;

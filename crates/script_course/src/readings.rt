@@ -1,0 +1,172 @@
+// The loop of every command that reads.
+ghost use Rattle.std.specs.Prelude.{◌≡◌, ◌≤◌, [], Some, IfOk, IfErr, IsErr};
+ghost use Rattle.std.specs.Io.KnownBytes.{IsAtEnd};
+ghost use Rattle.aria_base.specs.Faults.{Rose};
+ghost use Rattle.script_text.specs.Lines.{blank, scan, last_line};
+ghost use Rattle.script_course.specs.Courses.{Goes, with_lines, with_fault, with_scan, with_last, told, told_whole};
+ghost use Rattle.script_course.specs.Served.{Serves, Comes};
+ghost use Rattle.script_course.specs.Causes.{Back, IsCause, IsReadCause, IsTaken};
+
+use crate::courses::Reads;
+use crate::gives::refuse;
+use crate::stops::Stop;
+use aria_base::{Bytes, Memory, Sink, Source};
+use script_text::{Lines, LinesRefused, Refusal};
+use std::alloc::Global;
+
+/// How many bytes are asked for at a time.
+pub const PIECE: usize = 65_536;
+
+/// Reads the source to its end, at most `limit` bytes in lines of at most `longest`, and does with each line
+/// what the command does, as soon as the line is whole. The answer is the state behind the last line, the
+/// one at the end that no line feed completes included.
+///
+/// What comes first decides: a refused line, a fault, or want of memory ends all, and nothing is printed
+/// behind it but the line of a refusal. Where the source fails, just the lines that were whole are answered.
+pub fn read_through<S: Source, K: Sink, D, C: Reads<D>>(
+    alloc: Global,
+    limit: u64,
+    longest: u32,
+    start: C,
+    input: &mut S,
+    out: &mut K,
+    disk: &mut D,
+) -> Result<C, Stop>
+    requires { C.held start (K.given out.old) disk.old }
+
+    // What was printed is what the text prints; where it was cut off, a front of it. Where the source
+    // failed, it is all that the bytes that were taken tell, and no line of them was refused.
+    ensures comes { Comes (told C.on_line (blank limit longest) start) (told_whole C.on_line (blank limit longest) start)
+        (S.left input.old) (S.left input.new) (K.given out.old) (K.given out.new) result }
+    ensures end { IfOk result (λ _. IsAtEnd (S.left input.new)) }
+
+    // What holds of the disk, at the end and at a stop.
+    ensures held { IfOk result (λ c. C.held c (K.given out.new) disk.new) }
+    ensures back { IfOk result (λ c. Back C.left c start) }
+    ensures left { IfErr result (λ stop. C.left start stop (K.given out.new) disk.new) }
+
+    // Each stop for a fault has its cause.
+    ensures source { S.faults input.old ≤ S.faults input.new }
+    ensures sink { K.faults out.old ≤ K.faults out.new }
+    ensures disk { C.disk_faults disk.old ≤ C.disk_faults disk.new }
+    ensures cause { IfErr result (λ stop. IsReadCause stop (Rose (S.faults input.old) (S.faults input.new))
+        (Rose (K.faults out.old) (K.faults out.new)) (Rose (C.disk_faults disk.old) (C.disk_faults disk.new))) }
+{
+    let mut lines = Lines::new(alloc, limit, longest);
+    let mut course = start;
+    let mut buffer = [0; PIECE];
+    loop {
+        let Ok(count) = input.take(&mut buffer) else {
+            return Err(Stop::NoRead);
+        };
+        if count == 0 {
+            return finish(alloc, course, lines, out, disk);
+        }
+        match take_piece(alloc, course, &mut lines, &buffer[..count], out, disk) {
+            Ok(next) => course = next,
+            Err(stop) => return Err(stop),
+        }
+    }
+}
+
+/// Takes the next bytes.
+fn take_piece<K: Sink, D, C: Reads<D>>(
+    alloc: Global,
+    course: C,
+    lines: &mut Lines,
+    piece: &[u8],
+    out: &mut K,
+    disk: &mut D,
+) -> Result<C, Stop>
+    requires { C.held course (K.given out.old) disk.old }
+    ensures serves { Serves (with_scan C.on_line (Goes [] course) (scan lines.old piece.now)) (K.given out.old) (K.given out.new) result }
+    ensures taken { IfOk result (λ _. IsTaken (scan lines.old piece.now) lines.new) }
+    ensures held { IfOk result (λ c. C.held c (K.given out.new) disk.new) }
+    ensures back { IfOk result (λ c. Back C.left c course) }
+    ensures left { IfErr result (λ stop. C.left course stop (K.given out.new) disk.new) }
+    ensures sink { K.faults out.old ≤ K.faults out.new }
+    ensures disk { C.disk_faults disk.old ≤ C.disk_faults disk.new }
+    ensures cause { IfErr result (λ stop. IsCause stop (Rose (K.faults out.old) (K.faults out.new)) (Rose (C.disk_faults disk.old) (C.disk_faults disk.new))) }
+{
+    match lines.feed(piece) {
+        Ok(done) => each_line(alloc, course, &done, out, disk),
+        Err(LinesRefused::Memory) => Err(Stop::NoMemory),
+        Err(LinesRefused::Line(refusal)) => match lines.before(piece) {
+            Ok(done) => refuse_behind(alloc, course, &done, &refusal, out, disk),
+            Err(Memory) => Err(Stop::NoMemory),
+        },
+    }
+}
+
+/// The lines, and then the refusal of the next one.
+fn refuse_behind<K: Sink, D, C: Reads<D>>(
+    alloc: Global,
+    course: C,
+    lines: &[Bytes],
+    refusal: &Refusal,
+    out: &mut K,
+    disk: &mut D,
+) -> Result<C, Stop>
+    requires { C.held course (K.given out.old) disk.old }
+    ensures serves { Serves (with_fault (with_lines C.on_line (Goes [] course) lines.now) (Some refusal.now)) (K.given out.old) (K.given out.new) result }
+    ensures stops { IsErr result }
+    ensures left { IfErr result (λ stop. C.left course stop (K.given out.new) disk.new) }
+    ensures sink { K.faults out.old ≤ K.faults out.new }
+    ensures disk { C.disk_faults disk.old ≤ C.disk_faults disk.new }
+    ensures cause { IfErr result (λ stop. IsCause stop (Rose (K.faults out.old) (K.faults out.new)) (Rose (C.disk_faults disk.old) (C.disk_faults disk.new))) }
+{
+    match each_line(alloc, course, lines, out, disk) {
+        Ok(_) => return refuse(alloc, refusal, out),
+        Err(stop) => return Err(stop),
+    }
+}
+
+/// The last line, where no line feed completes it.
+fn finish<K: Sink, D, C: Reads<D>>(
+    alloc: Global,
+    course: C,
+    lines: Lines,
+    out: &mut K,
+    disk: &mut D,
+) -> Result<C, Stop>
+    requires { C.held course (K.given out.old) disk.old }
+    ensures serves { Serves (with_last C.on_line (Goes [] course) (last_line lines)) (K.given out.old) (K.given out.new) result }
+    ensures held { IfOk result (λ c. C.held c (K.given out.new) disk.new) }
+    ensures back { IfOk result (λ c. Back C.left c course) }
+    ensures left { IfErr result (λ stop. C.left course stop (K.given out.new) disk.new) }
+    ensures sink { K.faults out.old ≤ K.faults out.new }
+    ensures disk { C.disk_faults disk.old ≤ C.disk_faults disk.new }
+    ensures cause { IfErr result (λ stop. IsCause stop (Rose (K.faults out.old) (K.faults out.new)) (Rose (C.disk_faults disk.old) (C.disk_faults disk.new))) }
+{
+    match lines.finish() {
+        None => Ok(course),
+        Some(last) => course.line(alloc, last.as_slice(), out, disk),
+    }
+}
+
+/// The lines, one after the other.
+fn each_line<K: Sink, D, C: Reads<D>>(
+    alloc: Global,
+    start: C,
+    lines: &[Bytes],
+    out: &mut K,
+    disk: &mut D,
+) -> Result<C, Stop>
+    requires { C.held start (K.given out.old) disk.old }
+    ensures serves { Serves (with_lines C.on_line (Goes [] start) lines.now) (K.given out.old) (K.given out.new) result }
+    ensures held { IfOk result (λ c. C.held c (K.given out.new) disk.new) }
+    ensures back { IfOk result (λ c. Back C.left c start) }
+    ensures left { IfErr result (λ stop. C.left start stop (K.given out.new) disk.new) }
+    ensures sink { K.faults out.old ≤ K.faults out.new }
+    ensures disk { C.disk_faults disk.old ≤ C.disk_faults disk.new }
+    ensures cause { IfErr result (λ stop. IsCause stop (Rose (K.faults out.old) (K.faults out.new)) (Rose (C.disk_faults disk.old) (C.disk_faults disk.new))) }
+{
+    let mut course = start;
+    for line in lines {
+        match course.line(alloc, line.as_slice(), out, disk) {
+            Ok(next) => course = next,
+            Err(stop) => return Err(stop),
+        }
+    }
+    Ok(course)
+}
