@@ -41,12 +41,13 @@ pub fn append_call(out: &mut Vec<u8>, procs: &[Checked], call: &Call) -> Result<
     ensures args { OnOk result (IsArgs call.now.args) }
 {
     out.extend_from_slice(b"tx ")?;
-    append_name(out, procs, call.proc)?;
+    append_proc_name(out, procs, call.proc)?;
     append_tokens(out, call.args.as_slice())
 }
 
-/// Appends the name of a procedure.
-fn append_name(out: &mut Vec<u8>, procs: &[Checked], number: u16) -> Result<(), Memory>
+/// Appends the name of the procedure with this number; of no procedure it is nothing. After want of
+/// memory a part of it may stand in `out`.
+pub fn append_proc_name(out: &mut Vec<u8>, procs: &[Checked], number: u16) -> Result<(), Memory>
     ensures { OnOk result (out.new.items ≡ out.old.items ++ proc_name procs.now number) }
 {
     match procs.get(usize::from(number)) {
