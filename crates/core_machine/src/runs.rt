@@ -48,17 +48,16 @@ impl Core {
         })
     }
 
-    /// The rows of the batch's start with those that were installed so far. Once the machine has
-    /// settled they are those that the batch's commit phase leaves. No memory.
+    /// Once the machine has settled, the rows that the batch's commit phase leaves; before that this
+    /// promises nothing of them. No memory.
     pub fn tables(&self) -> &Tables
         ensures { (b : Course) (es : List E) → HasTaken b es self.now → IsSettled (after b es) → result.now ≡ database_of b }
     {
         &self.tables
     }
 
-    /// A verdict for each request of the list, in its order. Once the machine has settled they are those
-    /// of the batch's commit phase. Before that, a request of which nothing was decided has `Finish`
-    /// without `raw`. No memory.
+    /// Once the machine has settled, the verdicts of the batch's commit phase, in the order of the list;
+    /// before that this promises nothing of them. No memory.
     pub fn verdicts(&self) -> &[Verdict]
         ensures { (b : Course) (es : List E) → HasTaken b es self.now → IsSettled (after b es) → result.now ≡ verdicts_of b }
     {
