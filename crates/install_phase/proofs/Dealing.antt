@@ -16,12 +16,13 @@ use Rattle.batch_rules.proofs.Maps.{get-set_at, same_key}
 use Rattle.batch_rules.specs.Verdicts.{finishes}
 use Rattle.batch_rules.specs.declared.verdicts.Verdict.{Verdict}
 use Rattle.batch_rules.specs.declared.verdicts.Verdict.TheVariants.{Finish, Wait}
+use Rattle.batch_rules.specs.Batches.{Judged, decided, finishing}
 use Rattle.proc_exec.specs.declared.outcomes.Outcome.{Outcome}
 use Rattle.tbl_rows.specs.Shards.{Piece, home, bare, at_home, IsWhole, AllNumbered}
 use Rattle.tbl_rows.specs.declared.homes.TheConstants.{SHARDS}
 use Rattle.install_phase.specs.Jobs.{Due, idle_due, with_more, applied, finished}
 use Rattle.install_phase.specs.Deals.{AreAll, Make, Turns, job_of}
-use Rattle.install_phase.specs.Installs.{after_finishing}
+use Rattle.install_phase.specs.Installs.{after_finishing, after_changes}
 
 -- the last of the writes may be made first
 pub overwritten-push : (rows : Database) (ws : List (Key × Option Cells)) (key : Key) (row : Option Cells) → overwritten rows (ws ++ (key, row) ∷ []) ≡ overwritten (set_at rows key row) ws
@@ -79,20 +80,30 @@ module _ (before after : List Due) (d : Due) (key : Key) (row : Option Cells) (a
   pub add_turns : Turns (λ rows. set_at rows key row) before after
   add_turns = record { all = all_after; made = made_after }
 
+abbrev Written : Type 0
+Written = List (Key × Option Cells)
+
 -- the first request of those that are still to be dealt
-pub first_dealt : (tid : ℕ) (rows : Database) (outcome : Outcome) (later outcomes : List Outcome) (verdict : Verdict) (behind verdicts : List Verdict)
-    → outcomes ≡ outcome ∷ later → verdicts ≡ verdict ∷ behind
-    → after_finishing (tid + 1) (if finishes verdict then overwritten rows outcome.writes else rows) later behind ≡ after_finishing tid rows outcomes verdicts
-first_dealt tid rows outcome later outcomes verdict behind verdicts e f =
-    here verdict ∙ sym (ap (λ os. after_finishing tid rows os (verdict ∷ behind)) e) ∙ sym (ap (after_finishing tid rows outcomes) f)
+pub first_dealt : (tid : ℕ) (rows : Database) (changes : Written) (later list : List Written) (verdict : Verdict) (behind verdicts : List Verdict)
+    → list ≡ changes ∷ later → verdicts ≡ verdict ∷ behind
+    → after_changes (tid + 1) (if finishes verdict then overwritten rows changes else rows) later behind ≡ after_changes tid rows list verdicts
+first_dealt tid rows changes later list verdict behind verdicts e f =
+    here verdict ∙ sym (ap (λ os. after_changes tid rows os (verdict ∷ behind)) e) ∙ sym (ap (after_changes tid rows list) f)
   where
-    here : (v : Verdict) → after_finishing (tid + 1) (if finishes v then overwritten rows outcome.writes else rows) later behind ≡ after_finishing tid rows (outcome ∷ later) (v ∷ behind)
+    here : (v : Verdict) → after_changes (tid + 1) (if finishes v then overwritten rows changes else rows) later behind ≡ after_changes tid rows (changes ∷ later) (v ∷ behind)
     here (Finish raw) = refl
     here (Wait cause) = refl
 
-pub none_finishes : (tid : ℕ) (rows : Database) (outcomes : List Outcome) → after_finishing tid rows outcomes [] ≡ rows
+pub none_finishes : (tid : ℕ) (rows : Database) (list : List Written) → after_changes tid rows list [] ≡ rows
 none_finishes tid rows [] = refl
-none_finishes tid rows (outcome ∷ outcomes) = refl
+none_finishes tid rows (changes ∷ list) = refl
+
+-- the writes alone tell what the outcomes do
+pub same_changes : (tid : ℕ) (rows : Database) (outcomes : List Outcome) (verdicts : List Verdict) → after_changes tid rows (map (λ o. o.writes) outcomes) verdicts ≡ after_finishing tid rows outcomes verdicts
+same_changes tid rows [] verdicts = refl
+same_changes tid rows (outcome ∷ outcomes) [] = refl
+same_changes tid rows (outcome ∷ outcomes) (Finish raw ∷ verdicts) = same_changes (tid + 1) (overwritten rows outcome.writes) outcomes verdicts
+same_changes tid rows (outcome ∷ outcomes) (Wait cause ∷ verdicts) = same_changes (tid + 1) rows outcomes verdicts
 
 -- ---- the shards before and after
 

@@ -1,6 +1,7 @@
 -- Tables after a batch's commit phase.
-use Rattle.std.specs.Prelude.{ℕ, List}
-use Rattle.aria_base.specs.Orders.{Database}
+use Rattle.std.specs.Prelude.{ℕ, List, Option}
+use Rattle.aria_base.specs.Orders.{Cells, Database}
+use Rattle.aria_base.specs.declared.keys.Key.{Key}
 use Rattle.batch_rules.specs.declared.verdicts.Verdict.{Verdict}
 use Rattle.batch_rules.specs.Touches.{installed}
 use Rattle.batch_rules.specs.Batches.{decided, finishing}
@@ -9,3 +10,7 @@ use Rattle.proc_exec.specs.declared.outcomes.Outcome.{Outcome}
 -- the rows with the writes of all that finish, one request after the other; their numbers in the batch begin at `tid`
 abbrev pub after_finishing : ℕ → Database → List Outcome → List Verdict → Database
 after_finishing tid rows outcomes verdicts = installed (λ one. one.request.writes) rows (finishing (decided tid outcomes verdicts))
+
+-- the same where of each request its writes are there, and nothing else
+abbrev pub after_changes : ℕ → Database → List (List (Key × Option Cells)) → List Verdict → Database
+after_changes tid rows list verdicts = installed (λ one. one.request) rows (finishing (decided tid list verdicts))

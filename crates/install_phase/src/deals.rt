@@ -5,12 +5,11 @@ ghost use Rattle.batch_rules.specs.Touches.{overwritten};
 ghost use Rattle.batch_rules.specs.Verdicts.{finishes};
 ghost use Rattle.install_phase.specs.Deals.{AreAll, Turns};
 ghost use Rattle.install_phase.specs.Jobs.{idle_due};
-ghost use Rattle.install_phase.specs.Installs.{after_finishing};
+ghost use Rattle.install_phase.specs.Installs.{after_changes};
 
 use crate::jobs::Job;
 use aria_base::{Changes, Key, Memory, Row};
 use batch_rules::verdicts::Verdict;
-use proc_exec::Outcome;
 use std::alloc::Global;
 use tbl_rows::{Shard, shard_of};
 
@@ -28,30 +27,30 @@ pub(crate) fn idle(alloc: Global, shards: Vec<Shard>) -> Result<Vec<Job>, Memory
 /// Deals the writes of all that finish, in the order of the list.
 pub(crate) fn deal_all(
     jobs: &mut Vec<Job>,
-    outcomes: Vec<Outcome>,
+    list: Vec<Changes>,
     verdicts: &[Verdict],
 ) -> Result<(), Memory>
     requires { AreAll jobs.old.items }
-    ensures { OnOk result (Turns (λ rows. after_finishing 1 rows outcomes.items verdicts.now) jobs.old.items jobs.new.items) }
+    ensures { OnOk result (Turns (λ rows. after_changes 1 rows list.items verdicts.now) jobs.old.items jobs.new.items) }
 {
     let mut rest = verdicts;
-    for outcome in outcomes {
+    for changes in list {
         let Some((verdict, later)) = rest.split_first() else {
             return Ok(());
         };
         rest = later;
-        deal_if(jobs, outcome, verdict)?;
+        deal_if(jobs, changes, verdict)?;
     }
     Ok(())
 }
 
 /// Deals the writes of a request, where it finishes.
-fn deal_if(jobs: &mut Vec<Job>, outcome: Outcome, verdict: &Verdict) -> Result<(), Memory>
+fn deal_if(jobs: &mut Vec<Job>, changes: Changes, verdict: &Verdict) -> Result<(), Memory>
     requires { AreAll jobs.old.items }
-    ensures { OnOk result (Turns (λ rows. if finishes verdict.now then overwritten rows outcome.writes else rows) jobs.old.items jobs.new.items) }
+    ensures { OnOk result (Turns (λ rows. if finishes verdict.now then overwritten rows changes else rows) jobs.old.items jobs.new.items) }
 {
     match verdict {
-        Verdict::Finish { raw: _ } => deal(jobs, outcome.writes),
+        Verdict::Finish { raw: _ } => deal(jobs, changes),
         Verdict::Wait(_) => Ok(()),
     }
 }

@@ -2,20 +2,19 @@
 ghost use Rattle.std.specs.Prelude.{◌≡◌, ◌≤◌, ◌<◌, ◌+◌, map, IfOk};
 ghost use Rattle.std.specs.Thread.{IsSync};
 ghost use Rattle.install_phase.specs.Jobs.{finished};
-ghost use Rattle.install_phase.specs.Installs.{after_finishing};
+ghost use Rattle.install_phase.specs.Installs.{after_finishing, after_changes};
 
 use crate::deals::{deal_all, idle};
 use crate::jobs::Job;
-use aria_base::{Memory, Pace};
+use aria_base::{Changes, Memory, Pace};
 use batch_rules::verdicts::Verdict;
 use proc_exec::Outcome;
 use std::alloc::Global;
 use std::thread::{Threads, join};
 use tbl_rows::{SHARDS, Shard, Tables};
 
-/// The tables with the writes of all that finish, one request after the other. Each worker has shards
-/// of its own; no more threads are started than there are shards, and none for one worker. A worker
-/// whose thread cannot be started does its part on the thread that was to start it.
+/// The tables with the writes of all that finish, one request after the other. The workers are those
+/// of [`install_changes`].
 pub fn install<P: Pace + Sync, R: Threads + Sync>(
     rt: &R,
     alloc: Global,
@@ -28,8 +27,38 @@ pub fn install<P: Pace + Sync, R: Threads + Sync>(
     requires workers { (1 ≤ workers) × (workers ≤ 64) }
     ensures { IfOk result (λ after. after ≡ after_finishing 1 tables outcomes.items verdicts.now) }
 {
+    let list = changes_of(alloc, outcomes)?;
+    install_changes(rt, alloc, tables, list, verdicts, workers, pace)
+}
+
+/// The writes of these outcomes.
+fn changes_of(alloc: Global, outcomes: Vec<Outcome>) -> Result<Vec<Changes>, Memory>
+    ensures { IfOk result (λ list. list.items ≡ map (λ o. o.writes) outcomes.items) }
+{
+    let mut list = Vec::with_capacity(alloc, outcomes.len())?;
+    for outcome in outcomes {
+        list.push(outcome.writes)?;
+    }
+    Ok(list)
+}
+
+/// The same where of each request its writes are handed in, and nothing else. Each worker has shards
+/// of its own; no more threads are started than there are shards, and none for one worker. A worker
+/// whose thread cannot be started does its part on the thread that was to start it.
+pub fn install_changes<P: Pace + Sync, R: Threads + Sync>(
+    rt: &R,
+    alloc: Global,
+    tables: Tables,
+    list: Vec<Changes>,
+    verdicts: &[Verdict],
+    workers: u32,
+    pace: &P,
+) -> Result<Tables, Memory>
+    requires workers { (1 ≤ workers) × (workers ≤ 64) }
+    ensures { IfOk result (λ after. after ≡ after_changes 1 tables list.items verdicts.now) }
+{
     let mut jobs = idle(alloc, tables.split())?;
-    deal_all(&mut jobs, outcomes, verdicts)?;
+    deal_all(&mut jobs, list, verdicts)?;
     let others = workers.min(u32::from(SHARDS)) - 1;
     let shards = spread(rt, alloc, jobs, 0, others, pace)?;
     Ok(Tables::gather(shards))

@@ -21,4 +21,4 @@ mod jobs;
 #[cfg(test)]
 mod tests;
 
-pub use installs::install;
+pub use installs::{install, install_changes};

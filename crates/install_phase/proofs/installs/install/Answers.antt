@@ -1,14 +1,11 @@
-use Rattle.install_phase.proofs.Dealing.{idle_all, idle_make, numbered_after, together}
+use Rattle.std.proofs.Common.{◌≡◌, ap, subst, ◌∙◌}
+use Rattle.std.specs.Result.{IfOk}
+use Rattle.install_phase.specs.Installs.{after_changes}
+use Rattle.install_phase.proofs.Dealing.{same_changes}
 use Rattle.install_phase.proofs.installs.install.Goals as goal
-
-pub deal_all-requires : goal.deal_all-requires
-deal_all-requires g c = idle_all c.split.result.items c.in_ok-jobs.jobs.items c.in_ok-jobs.ensures c.split.ensures.whole
-
-pub gather-requires-clause-numbered : goal.gather-requires-clause-numbered
-gather-requires-clause-numbered g c = numbered_after c.deal_all.new.jobs.items c.in_ok-shards.shards.items c.in_ok-shards.ensures c.in_ok-deal_all.ensures.all
 
 pub returns : goal.returns
 returns g c =
-    together c.deal_all.new.jobs.items c.in_ok-shards.shards.items c.gather.result _ c.in_ok-shards.ensures
-    (c.in_ok-deal_all.ensures.made c.args.tables (idle_make c.split.result.items c.in_ok-jobs.jobs.items c.args.tables c.in_ok-jobs.ensures c.split.ensures.each))
-    c.gather.ensures.each
+    let outcomes = c.args.outcomes.items in
+    let same = ap (λ list. after_changes 1 c.args.tables list c.args.verdicts.now) c.in_ok-list.ensures ∙ same_changes 1 c.args.tables outcomes c.args.verdicts.now in
+    subst (λ rows. IfOk c.install_changes.result (λ after. after ≡ rows)) same c.install_changes.ensures
