@@ -1,6 +1,7 @@
 mod Accesses
 mod Examples
 mod Expressions
+mod Few
 mod Lists
 mod Registers
 mod Results

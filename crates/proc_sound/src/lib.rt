@@ -35,7 +35,7 @@ ghost use Rattle.proc_lang.specs.declared.procs.Proc.{Proc};
 ghost use Rattle.proc_lang.specs.Catalogs.{Plan, IsCatalog, takes, run_of};
 ghost use Rattle.proc_lang.specs.Meaning.{script};
 ghost use Rattle.proc_sound.specs.Careful.{has_place, careful_script, careful_run};
-ghost use Rattle.proc_sound.specs.Laws.{Suits, IsNeverStuck, StaysConsistent};
+ghost use Rattle.proc_sound.specs.Laws.{Suits, IsNeverStuck, StaysConsistent, TouchesFew};
 
 /// On a consistent database the careful run of a well-typed procedure is the plain one, and not stuck.
 pub fn never_stuck()
@@ -63,6 +63,11 @@ pub fn catalog_stays_consistent()
     ensures { (plan : Plan) (request : Request) (db : Database)
         → IsCatalog plan → takes plan request.call ≡ true → IsConsistent plan.tables db
         → StaysConsistent plan.tables (run_of plan request) db }
+{}
+
+/// A run reads and writes no more keys than it may make accesses, whatever its procedure and rows.
+pub fn touches_few()
+    ensures { (plan : Plan) (request : Request) (db : Database) → TouchesFew (run_of plan request) db }
 {}
 
 /// The test by which the careful run lets a row be written is that the row fits.
