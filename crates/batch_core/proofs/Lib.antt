@@ -1,5 +1,5 @@
 pub mod Carriers
-mod Consistency
+pub mod Consistency
 mod Numbers
 pub mod Progress
 pub mod Serial

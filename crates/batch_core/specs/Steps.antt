@@ -53,16 +53,23 @@ number_or (Some request) = request.q
 abbrev pub number_at : List Request → ℕ → ℕ
 number_at list tid = number_or (slice_get list (tid - 1))
 
--- a cause by request numbers
+-- a cause by request numbers, where `number` tells that of each TID
+abbrev pub wait_by : (ℕ → ℕ) → Cause → Wait
+wait_by number (cause.Waw waw) = wait.Waw (number waw)
+wait_by number (cause.Raw raw) = wait.Raw (number raw)
+wait_by number (cause.Both raw war) = wait.Both (number raw) (number war)
+
+abbrev pub reply_by : (ℕ → ℕ) → Fate Key End → Reply
+reply_by number (Ended end) = reply.Ended end
+reply_by number (Waits cause) = reply.Waits (wait_by number cause)
+reply_by number (Moved key) = reply.Waits (wait.Moved key)
+
+-- and by those of a list
 abbrev pub wait_of : List Request → Cause → Wait
-wait_of list (cause.Waw waw) = wait.Waw (number_at list waw)
-wait_of list (cause.Raw raw) = wait.Raw (number_at list raw)
-wait_of list (cause.Both raw war) = wait.Both (number_at list raw) (number_at list war)
+wait_of list = wait_by (number_at list)
 
 abbrev pub reply_of : List Request → Fate Key End → Reply
-reply_of list (Ended end) = reply.Ended end
-reply_of list (Waits cause) = reply.Waits (wait_of list cause)
-reply_of list (Moved key) = reply.Waits (wait.Moved key)
+reply_of list = reply_by (number_at list)
 
 -- O is whatever carries a request with what its run on the batch's start came to
 module _ {O : Type 0} (request_of : O → Request) where

@@ -2,4 +2,4 @@ mod Laying
 mod Leasts
 mod Lists
 mod Marks
-mod Sheets
+pub mod Sheets
