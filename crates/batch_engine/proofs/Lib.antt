@@ -1,0 +1,5 @@
+mod Batching
+mod Committing
+mod Judging
+mod Readying
+mod Settling

@@ -1,0 +1,192 @@
+// A database between two batches, and the next batch.
+ghost use Rattle.std.specs.Prelude.{◌≡◌, ◌≢◌, ◌≤◌, ◌<◌, ◌+◌, ◌-◌, None, Some, length, true, IfOk};
+ghost use Rattle.std.specs.List.{All};
+ghost use Rattle.aria_base.specs.declared.limits.TheConstants.{MOST_REQUESTS};
+ghost use Rattle.proc_lang.specs.Catalogs.{takes, run_of};
+ghost use Rattle.batch_core.specs.Steps.{list_of, step, answer};
+ghost use Rattle.batch_core.specs.Serial.{IsSerialAnswer};
+ghost use Rattle.batch_core.specs.Progress.{IsProgress};
+ghost use Rattle.batch_engine.specs.Engines.{IsReady, state_in, handed_by, most_numbered};
+ghost use Rattle.batch_engine.specs.Lasts.{marks_of};
+ghost use Rattle.batch_engine.specs.Marks.{HasMarked};
+
+use crate::commits::commit;
+use crate::lasts::Last;
+use crate::lists::number_calls;
+use crate::marks::Marked;
+use crate::settlements::settle;
+use aria_base::{Call, Duplicate, Items, MOST_REQUESTS, Memory, Pace, Request};
+use batch_core::Answer;
+use dep_rules::Config;
+use proc_lang::Catalog;
+use std::alloc::Global;
+use std::marker::Model;
+use std::thread::Threads;
+use tbl_rows::Tables;
+
+/// A database between two batches: its catalogue and rows, the requests that wait for the next batch,
+/// and how many batches were run and requests numbered so far. Every row fits the catalogue, and so do
+/// the calls that wait; their numbers rise; no more wait than a batch may have.
+#[derive(Drop)]
+pub struct Engine {
+    catalog: Catalog,
+    tables: Tables,
+    carried: Items<Request>,
+    batches: u64,
+    requests: u64,
+    last: Option<Last>,
+}
+
+impl Model for Engine {
+    ghost use Rattle.batch_engine.specs.Engines.{Between, IsReady};
+    ghost use Rattle.batch_engine.specs.Codes.{between_code};
+    ghost use Rattle.batch_engine.specs.Lasts.{marks_in};
+
+    ghost Value = { Between };
+
+    ghost coded = { between_code };
+
+    ghost view = { λ a. record { plan = a.catalog; rows = a.tables; carried = a.carried; batches = a.batches; requests = a.requests; marked = marks_in a.last } };
+
+    ghost invariant = { λ a. IsReady a.catalog a.tables a.carried a.batches a.requests };
+}
+
+impl Engine {
+    /// The database with these rows, requests that wait, and counts. No memory.
+    pub fn begin(
+        catalog: Catalog,
+        tables: Tables,
+        carried: Vec<Request>,
+        batches: u64,
+        requests: u64,
+    ) -> Engine
+        requires { IsReady catalog tables carried.items batches requests }
+        ensures { result ≡ record { plan = catalog; rows = tables; carried = carried.items; batches = batches; requests = requests; marked = None } }
+    {
+        Engine {
+            catalog,
+            tables,
+            carried: Items::from_vec(carried),
+            batches,
+            requests,
+            last: None,
+        }
+    }
+
+    /// Runs the next batch: the requests that wait and these calls, which get the next request numbers,
+    /// by the rule and the fallback of the settings and by so many workers. No answer depends on the
+    /// workers. After want of memory the database is gone.
+    pub fn run_batch<P: Pace + Sync, R: Threads + Sync>(
+        self,
+        rt: &R,
+        alloc: Global,
+        new: Vec<Call>,
+        config: &Config,
+        pace: &P,
+    ) -> Result<(Engine, Answer), Memory>
+        requires fit { All (λ call. takes self.plan call ≡ true) new.items }
+        requires room { length self.carried + length new.items ≤ MOST_REQUESTS }
+        requires batches { self.batches < most_numbered }
+        requires requests { self.requests + length new.items ≤ most_numbered }
+        requires percent { config.now.fallback ≤ 101 }
+        requires workers { (1 ≤ config.now.workers) × (config.now.workers ≤ 64) }
+        ensures plan { IfOk result (λ r. r.0.plan ≡ self.plan) }
+        ensures state { IfOk result (λ r. state_in config.now r.0 ≡ step (run_of self.plan) (state_in config.now self) (handed_by config.now new.items)) }
+        ensures answer { IfOk result (λ r. r.1 ≡ answer (run_of self.plan) (state_in config.now self) (handed_by config.now new.items)) }
+        ensures serial { IfOk result (λ r. IsSerialAnswer (run_of self.plan) self.rows (list_of (state_in config.now self) (handed_by config.now new.items)) r.1 (state_in config.now r.0)) }
+        ensures progress { IfOk result (λ r. 0 < length (list_of (state_in config.now self) (handed_by config.now new.items)) → IsProgress (run_of self.plan) self.rows (list_of (state_in config.now self) (handed_by config.now new.items)) r.1 (state_in config.now r.0)) }
+        ensures marked { IfOk result (λ r. HasMarked (run_of self.plan) self.rows (list_of (state_in config.now self) (handed_by config.now new.items)) r.0.marked) }
+    {
+        let Engine {
+            catalog,
+            tables,
+            carried,
+            batches,
+            requests,
+            last,
+        } = self;
+        let total = requests + new.len() as u64;
+        let list = number_calls(carried.into_vec(), new, requests)?;
+        let (last, committed) = commit(rt, alloc, &catalog, tables, &list, last, config, pace)?;
+        let settled = settle(rt, alloc, &catalog, list, committed, config, pace)?;
+        let answer = Answer {
+            number: batches + 1,
+            lines: settled.lines,
+            order: settled.order,
+        };
+        let engine = Engine {
+            catalog,
+            tables: settled.tables,
+            carried: Items::from_vec(settled.carried),
+            batches: batches + 1,
+            requests: total,
+            last: Some(last),
+        };
+        Ok((engine, answer))
+    }
+
+    /// How many new calls the next batch may have. No memory.
+    pub fn room(&self) -> u32
+        ensures { result ≡ MOST_REQUESTS - length self.now.carried }
+    {
+        MOST_REQUESTS as u32 - self.carried.as_slice().len() as u32
+    }
+
+    /// How many batches were run. No memory.
+    pub fn batches(&self) -> u64
+        ensures { result ≡ self.now.batches }
+    {
+        self.batches
+    }
+
+    /// How many requests were numbered. No memory.
+    pub fn requests(&self) -> u64
+        ensures { result ≡ self.now.requests }
+    {
+        self.requests
+    }
+
+    /// The requests that wait, in their order. No memory.
+    pub fn carried(&self) -> &[Request]
+        ensures { result.now ≡ self.now.carried }
+    {
+        self.carried.as_slice()
+    }
+
+    /// The rows. No memory.
+    pub fn tables(&self) -> &Tables
+        ensures { result.now ≡ self.now.rows }
+    {
+        &self.tables
+    }
+
+    /// The catalogue. No memory.
+    pub fn catalog(&self) -> &Catalog
+        ensures { result.now ≡ self.now.plan }
+    {
+        &self.catalog
+    }
+
+    /// An equal database, on which no batch was run.
+    pub fn copy(&self, alloc: Global) -> Result<Engine, Memory>
+        ensures { IfOk result (λ other. other ≡ record self.now { marked = None }) }
+    {
+        Ok(Engine {
+            catalog: self.catalog.copy(alloc)?,
+            tables: self.tables.copy()?,
+            carried: self.carried.duplicate(alloc)?,
+            batches: self.batches,
+            requests: self.requests,
+            last: None,
+        })
+    }
+
+    /// What the last batch that was run on this value numbered and marked. No memory.
+    pub fn marked(&self) -> &Marked
+        requires { self.now.marked ≢ None }
+        ensures { Some (marks_of result.now) ≡ self.now.marked }
+    {
+        let last = self.last.as_ref().unwrap();
+        &last.marked
+    }
+}

@@ -1,0 +1,82 @@
+// The late run at the end of a batch, where enough requests wait.
+ghost use Rattle.std.specs.Prelude.{◌≡◌, ◌≤◌, length, map, drop, IfOk};
+ghost use Rattle.aria_base.specs.declared.limits.TheConstants.{MOST_REQUESTS};
+ghost use Rattle.proc_lang.specs.Catalogs.{run_of};
+ghost use Rattle.proc_exec.specs.Lates.{fate_of};
+ghost use Rattle.batch_engine.specs.Answers.{still_waiting, first_ended};
+ghost use Rattle.batch_engine.specs.Lates.{is_due, LateRun};
+
+use aria_base::{Memory, Pace, Request};
+use dep_rules::Config;
+use fallback_locks::rerun;
+use proc_exec::{Late, Waiting};
+use proc_lang::Catalog;
+use std::alloc::Global;
+use std::thread::Threads;
+use tbl_rows::Tables;
+
+/// Whether of `size` requests so many wait that they are run again.
+fn is_due(percent: u32, waiting: usize, size: usize) -> bool
+    requires percent { percent ≤ 101 }
+    requires waiting { waiting ≤ MOST_REQUESTS }
+    requires size { size ≤ MOST_REQUESTS }
+    ensures { result ≡ is_due percent waiting size }
+{
+    0 < waiting && percent as usize * size <= waiting * 100
+}
+
+/// The rows after the late run, and what became of each request that waits; where it is not due, the
+/// rows as they are and nothing.
+pub(crate) fn run_late<P: Pace + Sync, R: Threads + Sync>(
+    rt: &R,
+    alloc: Global,
+    catalog: &Catalog,
+    tables: Tables,
+    waiting: &[Waiting],
+    size: usize,
+    config: &Config,
+    pace: &P,
+) -> Result<(Tables, Vec<Late>), Memory>
+    requires waiting { length waiting.now ≤ size }
+    requires size { size ≤ MOST_REQUESTS }
+    requires percent { config.now.fallback ≤ 101 }
+    requires workers { (1 ≤ config.now.workers) × (config.now.workers ≤ 64) }
+    ensures { IfOk result (λ r. LateRun (run_of catalog.now) (is_due config.now.fallback (length waiting.now) size) tables waiting.now r.0 (map fate_of r.1.items)) }
+{
+    if !is_due(config.fallback, waiting.len(), size) {
+        return Ok((tables, Vec::new(alloc)));
+    }
+    rerun(rt, alloc, catalog, tables, waiting, config.workers, pace)
+}
+
+/// Of the requests that wait, those that still do after these results, for the next batch's list.
+pub(crate) fn carry(
+    alloc: Global,
+    waiting: Vec<Waiting>,
+    lates: &[Late],
+) -> Result<Vec<Request>, Memory>
+    ensures { IfOk result (λ carried. carried.items ≡ still_waiting waiting.items (map fate_of lates.now)) }
+{
+    let mut carried = Vec::with_capacity(alloc, waiting.len())?;
+    let mut rest = lates;
+    for one in waiting {
+        let (late, later) = first_of(rest);
+        rest = later;
+        if !late {
+            carried.push(one.request)?;
+        }
+    }
+    Ok(carried)
+}
+
+/// Whether the first of these results is an end, and the results behind it.
+fn first_of(lates: &[Late]) -> (bool, &[Late])
+    ensures ended { result.0 ≡ first_ended (map fate_of lates.now) }
+    ensures rest { map fate_of result.1.now ≡ drop 1 (map fate_of lates.now) }
+{
+    match lates.split_first() {
+        Some((Late::Finished(_), rest)) => (true, rest),
+        Some((Late::Moved(_), rest)) => (false, rest),
+        None => (false, lates),
+    }
+}
