@@ -10,7 +10,7 @@ use Rattle.script_text.specs.Lines.{Feed, Scan, scan, last_line}
 use Rattle.script_text.specs.Laws.{lead}
 use Rattle.script_text.proofs.Scans.{cut, scan-faulted}
 use Rattle.script_course.specs.Courses.{Course, Goes, Stops, printed, behind, with_fault, with_line, with_lines, with_last, with_scan, told, told_whole}
-use Rattle.script_course.specs.Refusals.{refusal_text}
+use Rattle.answer_text.specs.Refusals.{refusal_text}
 use Rattle.script_course.specs.Served.{Serves, ServesCut, Reaches, ReachesCut, ToldWhere, Tells, IsSoFar, Comes}
 use Rattle.script_course.specs.declared.stops.Stop.{Stop}
 use Rattle.script_course.specs.declared.stops.Stop.TheVariants as stop

@@ -5,7 +5,7 @@ use Rattle.script_text.specs.declared.refusals.Refusal.{Refusal}
 use Rattle.script_text.specs.Lines.{Feed, Scan, scan, last_line}
 use Rattle.script_course.specs.declared.stops.Stop.{Stop}
 use Rattle.script_course.specs.declared.stops.Stop.TheVariants as stop
-use Rattle.script_course.specs.Refusals.{refusal_text}
+use Rattle.answer_text.specs.Refusals.{refusal_text}
 
 -- what was printed, and what stands: a state to go on from; or nothing, since a line was refused
 pub data Course (R : Type 0) : Type 0 where

@@ -1,5 +1,4 @@
 pub mod Causes
 pub mod Courses
 pub mod Laws
-pub mod Refusals
 pub mod Served

@@ -5,7 +5,7 @@ ghost use Rattle.aria_base.specs.Streams.{AppendsFront};
 ghost use Rattle.script_text.specs.declared.refusals.Refusal.{Refusal};
 ghost use Rattle.script_course.specs.declared.stops.Stop.{Stop};
 ghost use Rattle.script_course.specs.Courses.{Course};
-ghost use Rattle.script_course.specs.Refusals.{refusal_text};
+ghost use Rattle.answer_text.specs.Refusals.{refusal_text};
 ghost use Rattle.script_course.specs.Served.{Serves};
 ghost use Rattle.script_course.specs.Causes.{Back, IsCause};
 

@@ -5,11 +5,11 @@ ghost use Rattle.aria_base.specs.Streams.{AppendsFront};
 ghost use Rattle.script_course.specs.declared.stops.Stop.TheVariants as stop;
 ghost use Rattle.script_course.specs.Causes.{IsCause};
 ghost use Rattle.script_course.specs.Courses.{Goes, Stops};
-ghost use Rattle.script_course.specs.Refusals.{refusal_text};
+ghost use Rattle.answer_text.specs.Refusals.{refusal_text};
 ghost use Rattle.script_course.specs.Served.{Serves, Finishes};
 
-use crate::refusals::print_refusal;
 use crate::stops::Stop;
+use answer_text::print_refusal;
 use aria_base::{Memory, Sink};
 use script_text::Refusal;
 use std::alloc::Global;

@@ -8,23 +8,21 @@
 //! ```text
 //! Source ──> pieces ──> Lines (script_text) ──> Reads::line ──> Sink
 //!                            │                      ├── disk
-//!                       a refused line ──> print_refusal ──> Sink
+//!                       a refused line ──> print_refusal (answer_text) ──> Sink
 //! ```
 //!
-//! In `specs/`: `Courses` says what is printed, `Refusals` the line of a refusal, `Served` when a sink was
-//! given what a course prints, `Causes` who was at fault and what is known of the disk.
+//! In `specs/`: `Courses` says what is printed, `Served` when a sink was given what a course prints, `Causes`
+//! who was at fault and what is known of the disk.
 #![tactic(auto)]
 
 mod courses;
 mod gives;
 mod laws;
 mod readings;
-mod refusals;
 mod stops;
 
 pub use courses::Reads;
 pub use gives::{end_with, give, refuse};
 pub use laws::ends_of;
 pub use readings::{PIECE, read_through};
-pub use refusals::print_refusal;
 pub use stops::Stop;
