@@ -1,0 +1,11 @@
+pub mod BodiesRead
+pub mod CutsFound
+pub mod EntriesPushed
+pub mod Exactness
+pub mod FrontsRead
+pub mod HeldsAgain
+pub mod LinesTaken
+pub mod LinesWritten
+pub mod NoFeeds
+pub mod PayloadsRead
+pub mod RowsRise

@@ -1,0 +1,26 @@
+//! What a line of a script asks for at its place.
+//!
+//! A [`Place`] knows where the reading of a script stands: of which command it is, which catalogue it has,
+//! whether rows may still come, how many calls are open. [`Place::ask`] takes the next line and answers
+//! what it asks for, or the one refusal that the order of refusals names. [`Place::close`] is asked at the
+//! end of the input.
+//!
+//! ```text
+//! line ──> read_line (script_text) ──> Item ──> may it stand here? ──> fit_row, fit_call, .. ──> Deed
+//!                                                 │
+//!           pieces of a catalogue's text are read (cat_text) when the first other line comes
+//! ```
+//!
+//! In `specs/`: `Places` says all of this, for any command that reads.
+#![tactic(auto)]
+
+mod asks;
+mod deeds;
+mod heads;
+mod limits;
+mod places;
+
+pub use deeds::Deed;
+pub use heads::Head;
+pub use limits::MOST_CATALOG;
+pub use places::{Counts, Mode, Place};
