@@ -86,9 +86,9 @@ module _ {e self : Between} (view : e ≡ self) (config : Config) (calls : List 
       let back = sym view in
       subst (λ (s : State). IsReady e.plan s.rows s.waiting s.batches s.requests) (sym (left-is s all c n))
       (ready-after e.plan (state_in config e) handed catalog ready
-        (subst (λ (b : Between). All (λ call. takes b.plan call ≡ true) calls) back fit) (few-list room)
-        (subst (λ (b : Between). b.batches < most_numbered) back batches)
-        (subst (λ (b : Between). b.requests + length calls ≤ most_numbered) back requests))
+      (subst (λ (b : Between). All (λ call. takes b.plan call ≡ true) calls) back fit) (few-list room)
+      (subst (λ (b : Between). b.batches < most_numbered) back batches)
+      (subst (λ (b : Between). b.requests + length calls ≤ most_numbered) back requests))
 
   pub state-is : (s : Settled) {left : List Request} {count : ℕ} → IsDone s → left ≡ s.carried.items → count ≡ length calls → left_by s left count ≡ state_after self
   state-is s all c n = left-is s all c n ∙ ap state_after view
