@@ -2,7 +2,8 @@
 //!
 //! A text is read exactly where it is the one spelling of some values that fit: [`read_body`] and
 //! [`read_payload`] give those values, or tell that there are none. What [`body_of`] and
-//! [`payload_of`] write reads as what was written.
+//! [`payload_of`] write is the text of what was handed in; of bodies a law says that no two sets of
+//! values have one text.
 //!
 //! ```text
 //!  bodies (body_of, read_body)          payloads (payload_of, read_payload, read_calls)
@@ -26,6 +27,7 @@ mod entries;
 mod exactly;
 mod fronts;
 mod helds;
+pub mod laws;
 mod lines;
 mod payloads;
 
