@@ -18,7 +18,8 @@ row_by account amount = None
 
 -- `acct K = V`
 abbrev pub row_of : List (List ℕ) → Option Item
-row_of (table ∷ account ∷ sign ∷ amount ∷ []) = if bytes_eq table (codes "acct") && bytes_eq sign (codes "=") then row_by (number_of account) (number_of amount) else None
+row_of (table ∷ account ∷ sign ∷ amount ∷ []) = if bytes_eq table (codes "acct") && bytes_eq sign (codes "=")
+    then row_by (number_of account) (number_of amount) else None
 row_of words = None
 
 -- the procedures of one argument and of two, by name

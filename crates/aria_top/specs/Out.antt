@@ -39,7 +39,8 @@ start_of rows = record { rule = Plain; percent = never; rows = rows_from fin.emp
 -- the answers of batches one after the other, and the listing of what they leave
 abbrev pub text_from : State → List (List Call) → List ℕ
 text_from state [] = state_text accounts state.rows state.batches
-text_from state (calls ∷ rest) = answer_text accounts (answer bank_run state (handed calls)) ++ text_from (step bank_run state (handed calls)) rest
+text_from state (calls ∷ rest) =
+    answer_text accounts (answer bank_run state (handed calls)) ++ text_from (step bank_run state (handed calls)) rest
 
 abbrev pub out_of : Script → List ℕ
 out_of script = text_from (start_of script.rows) script.batches

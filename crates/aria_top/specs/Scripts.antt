@@ -1,5 +1,6 @@
 -- What a whole script says.
-use Rattle.std.specs.Prelude.{ℕ, ◌+◌, ◌-◌, Bool, ◌&&◌, ◌==◌, nat_lt, nat_le, if◌then◌else◌, List, [], ◌∷◌, ◌++◌, length, take, slice_index, Option, Some, None, option_and_then, codes, bytes_eq}
+use Rattle.std.specs.Prelude.{ℕ, ◌+◌, ◌-◌, Bool, ◌&&◌, ◌==◌, nat_lt, nat_le, if◌then◌else◌, List, [], ◌∷◌, ◌++◌, length,
+    take, slice_index, Option, Some, None, option_and_then, codes, bytes_eq}
 use Rattle.std.specs.List.{slice_split}
 use Rattle.aria_base.specs.Orders.{Cells}
 use Rattle.aria_base.specs.declared.keys.Key.{Key}
@@ -27,12 +28,17 @@ is_head draft = length draft.batches == 0 && length draft.open_calls == 0
 -- all rows come before the calls, and the batches are numbered from 1 on
 abbrev pub with_item : Draft → Item → Option Draft
 with_item draft (item.Row key row) = if is_head draft then Some (record draft { rows = draft.rows ++ (key, row) ∷ [] }) else None
-with_item draft (item.Tx call) = if nat_lt draft.count MOST_CALLS then Some (record draft { open_calls = draft.open_calls ++ call ∷ []; count = draft.count + 1 }) else None
-with_item draft (item.End number) = if number == length draft.batches + 1 then Some (record draft { batches = draft.batches ++ draft.open_calls ∷ []; open_calls = [] }) else None
+with_item draft (item.Tx call) =
+    if nat_lt draft.count MOST_CALLS
+    then Some (record draft { open_calls = draft.open_calls ++ call ∷ []; count = draft.count + 1 }) else None
+with_item draft (item.End number) =
+    if number == length draft.batches + 1
+    then Some (record draft { batches = draft.batches ++ draft.open_calls ∷ []; open_calls = [] }) else None
 
 abbrev pub with_lines : Draft → List (List ℕ) → Option Draft
 with_lines draft [] = Some draft
-with_lines draft (line ∷ lines) = option_and_then (λ next. with_lines next lines) (option_and_then (with_item draft) (item_of (words_of line)))
+with_lines draft (line ∷ lines) =
+    option_and_then (λ next. with_lines next lines) (option_and_then (with_item draft) (item_of (words_of line)))
 
 -- no batch is left open
 abbrev pub finished : Draft → Option Script

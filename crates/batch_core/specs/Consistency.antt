@@ -19,4 +19,5 @@ module _ (schema : List Table) (tree : Request → Tree Key Cells End) where
 
   -- where each request of its list does, the batch leaves consistent rows behind such
   abbrev pub StaysConsistent : State → Handed → Type 0
-  StaysConsistent state handed = All LeavesConsistent (list_of state handed) → IsConsistent schema state.rows → IsConsistent schema (step tree state handed).rows
+  StaysConsistent state handed = All LeavesConsistent (list_of state handed) → IsConsistent schema state.rows
+      → IsConsistent schema (step tree state handed).rows

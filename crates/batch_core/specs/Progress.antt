@@ -13,8 +13,10 @@ use Rattle.batch_core.specs.Steps.{State, Handed, list_of, step, answer, run}
 
 -- The list's first request finishes, with its end on the start. Fewer wait than the list has; and since the next list begins with
 -- them, each stands at a smaller place in it than in this list.
-pub record IsProgress (tree : Request → Tree Key Cells End) (start : Database) (list : List Request) (answer : Answer) (next : State) : Type 0 where
-  pub first : slice_get answer.lines 0 ≡ option_map (λ request. record { q = request.q; reply = Ended (end_of (tree request) start) }) (slice_get list 0)
+pub record IsProgress (tree : Request → Tree Key Cells End) (start : Database) (list : List Request) (answer : Answer)
+    (next : State) : Type 0 where
+  pub first : slice_get answer.lines 0
+      ≡ option_map (λ request. record { q = request.q; reply = Ended (end_of (tree request) start) }) (slice_get list 0)
   pub fewer : length next.waiting < length list
   pub sooner : EachIndex next.waiting (λ i. SomeIndex list (λ j. (i < j) × (slice_get next.waiting i ≡ slice_get list j)))
 

@@ -46,7 +46,8 @@ is_wait (Waits wait) = true
 -- The answer tells a serial run of the list from the start. Its order names requests of the list. One after the other from the start
 -- they end as printed, and leave the rows of the next state. The other requests, in the list's order, are those that wait in the next
 -- state, and each of them is printed to wait. Order and waiting requests together have each number of the list once.
-pub record IsSerialAnswer (tree : Request → Tree Key Cells End) (start : Database) (list : List Request) (answer : Answer) (next : State) : Type 0 where
+pub record IsSerialAnswer (tree : Request → Tree Key Cells End) (start : Database) (list : List Request)
+    (answer : Answer) (next : State) : Type 0 where
   pub found : map (request_numbered list) answer.order ≡ map Some (named list answer.order)
   pub ends : map (printed answer) answer.order ≡ map (λ end. Some (Ended end)) (serial_ends is_done tree start (named list answer.order))
   pub rows : next.rows ≡ serial_map is_done tree start (named list answer.order)

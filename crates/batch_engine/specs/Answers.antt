@@ -21,7 +21,8 @@ use Rattle.dep_rules.specs.Words.{tids_before}
 
 -- the verdicts of all requests, by the numbers of their keys
 abbrev pub verdicts_on : Rule → Sheet → List Verdict
-verdicts_on rule sheet = map (λ tid. verdict nat_cmp (reads_at sheet) (writes_at sheet) rule (tids_before tid) tid) (range_with_len 1 (length sheet.reads))
+verdicts_on rule sheet = map (λ tid. verdict nat_cmp (reads_at sheet) (writes_at sheet) rule (tids_before tid) tid)
+    (range_with_len 1 (length sheet.reads))
 
 -- the request number of a TID
 abbrev pub number_in : List ℕ → ℕ → ℕ
@@ -50,4 +51,5 @@ first_ended (late ∷ lates) = has_ended late
 -- of the requests that wait, those that still do after these fates
 abbrev pub still_waiting : List Waiting → List (Fate Key End) → List Request
 still_waiting [] lates = []
-still_waiting (one ∷ rest) lates = if first_ended lates then still_waiting rest (drop 1 lates) else one.request ∷ still_waiting rest (drop 1 lates)
+still_waiting (one ∷ rest) lates = if first_ended lates then still_waiting rest (drop 1 lates)
+    else one.request ∷ still_waiting rest (drop 1 lates)

@@ -15,6 +15,7 @@ abbrev pub is_due : ℕ → ℕ → ℕ → Bool
 is_due percent waiting size = nat_lt 0 waiting && nat_le (percent * size) (waiting * 100)
 
 -- where it is due, the requests that wait have these fates and leave these rows, each run again within the keys that it touched
-pub record LateRun (tree : Request → Tree Key Cells End) (due : Bool) (start : Database) (waiting : List Waiting) (left : Database) (results : List (Fate Key End)) : Type 0 where
+pub record LateRun (tree : Request → Tree Key Cells End) (due : Bool) (start : Database) (waiting : List Waiting)
+    (left : Database) (results : List (Fate Key End)) : Type 0 where
   pub rows : left ≡ (if due then late_left is_done (λ w. touchable w.declared) (λ w. tree w.request) start waiting else start)
   pub fates : results ≡ (if due then late_fates is_done (λ w. touchable w.declared) (λ w. tree w.request) start waiting else [])

@@ -10,7 +10,8 @@ use Rattle.batch_rules.specs.Verdicts.{verdict}
 module _ {K : Type 0} (R : K → K → Ordering) (keys : List K) where
   -- two of these keys have the same number exactly where the order finds them equal
   abbrev pub IsOneToOneOn : (K → ℕ) → Type 0
-  IsOneToOneOn number = (x y : K) → is_among R keys x ≡ true → is_among R keys y ≡ true → eq_by_cmp nat_cmp (number x) (number y) ≡ eq_by_cmp R x y
+  IsOneToOneOn number = (x y : K) → is_among R keys x ≡ true → is_among R keys y ≡ true
+      → eq_by_cmp nat_cmp (number x) (number y) ≡ eq_by_cmp R x y
 
   -- the keys that each of these requests has on this side are among them
   abbrev pub HasKeysOf : {S : Type 0} → (S → List K) → List S → Type 0
@@ -21,6 +22,8 @@ module _ {K : Type 0} (R : K → K → Ordering) (keys : List K) where
   place_in k = position_or_len (eq_by_cmp R k) keys
 
 -- the verdict by the numbers of the touched keys is the verdict by the keys
-abbrev pub NumbersDecide : {K S : Type 0} (R : K → K → Ordering) (keys : List K) (number : K → ℕ) (reads writes : S → List K) → List S → S → Rule → Type 0
-NumbersDecide R keys number reads writes earlier me rule = IsOneToOneOn R keys number → HasKeysOf R keys reads (me ∷ earlier) → HasKeysOf R keys writes (me ∷ earlier)
+abbrev pub NumbersDecide : {K S : Type 0} (R : K → K → Ordering) (keys : List K) (number : K → ℕ)
+    (reads writes : S → List K) → List S → S → Rule → Type 0
+NumbersDecide R keys number reads writes earlier me rule = IsOneToOneOn R keys number
+    → HasKeysOf R keys reads (me ∷ earlier) → HasKeysOf R keys writes (me ∷ earlier)
     → verdict nat_cmp (λ s. map number (reads s)) (λ s. map number (writes s)) rule earlier me ≡ verdict R reads writes rule earlier me

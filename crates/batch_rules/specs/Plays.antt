@@ -40,9 +40,13 @@ module _ {K : Type 0} (R : K → K → Ordering) where
 module _ {K V A : Type 0} {R : K → K → Ordering} where
   abbrev pub play : Option (Declared K) → Tree K V A → Seen R V → Played R V A
   play limits (Ends a) seen = record { end = Finishes a; seen = seen }
-  play limits (Reads k next) seen = if allows_read R limits k then play limits (next (fin.get seen.map k)) (after_read seen k) else record { end = Strays k; seen = seen }
-  play limits (Writes k row next) seen = if allows_write R limits k then play limits next (after_write seen k row) else record { end = Strays k; seen = seen }
+  play limits (Reads k next) seen =
+      if allows_read R limits k then play limits (next (fin.get seen.map k)) (after_read seen k) else record { end = Strays k; seen = seen }
+  play limits (Writes k row next) seen = if allows_write R limits k then play limits next (after_write seen k row)
+      else record { end = Strays k; seen = seen }
 
   -- within declared keys a run is as without limits where no access lies outside, and stops before the first one that does
   abbrev pub PlaysWithin : Declared K → Tree K V A → Seen R V → Type 0
-  PlaysWithin declared t seen = MatchOption (outside R declared (trace_of t seen.map)) (play (Some declared) t seen ≡ play None t seen) (λ k. (play (Some declared) t seen).end ≡ Strays k)
+  PlaysWithin declared t seen =
+      MatchOption (outside R declared (trace_of t seen.map)) (play (Some declared) t seen ≡ play None t seen)
+      (λ k. (play (Some declared) t seen).end ≡ Strays k)

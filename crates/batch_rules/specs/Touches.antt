@@ -40,7 +40,8 @@ module _ {K V : Type 0} (R : K → K → Ordering) where
   with_write (w ∷ ws) k row = if eq_by_cmp R k w.0 then (w.0, row) ∷ ws else w ∷ with_write ws k row
 
   abbrev pub noted : Noted K V → Visit K V → Noted K V
-  noted n (Read k) = record { reads = if is_among R n.reads k || is_among R (keys_of n.writes) k then n.reads else n.reads ++ k ∷ []; writes = n.writes }
+  noted n (Read k) =
+      record { reads = if is_among R n.reads k || is_among R (keys_of n.writes) k then n.reads else n.reads ++ k ∷ []; writes = n.writes }
   noted n (Write k row) = record { reads = n.reads; writes = with_write n.writes k row }
 
   -- what is noted after these further accesses

@@ -12,7 +12,7 @@ use Rattle.proc_lang.specs.declared.operators.BinaryOp.TheVariants as binary
 use Rattle.proc_lang.specs.declared.procs.ArgKind.{ArgKind}
 use Rattle.proc_lang.specs.declared.procs.ArgKind.TheVariants as arg
 use Rattle.proc_lang.specs.Catalogs.{is_between}
-use Rattle.aria_base.specs.declared.limits.TheConstants.{LONGEST_TUPLE}
+use Rattle.aria_base.specs.declared.limits.TheConstants.{SHORTEST_TUPLE, LONGEST_TUPLE}
 use Rattle.cat_forms.specs.declared.names.Form.{Form}
 use Rattle.cat_forms.specs.declared.names.Form.TheVariants as form
 use Rattle.cat_forms.specs.declared.names.Verb.{Verb}
@@ -96,7 +96,7 @@ kind_name kind.Text = codes "text"
 abbrev pub arg_kind_name : ArgKind → List ℕ
 arg_kind_name arg.Int = codes "int"
 arg_kind_name arg.Text = codes "text"
-arg_kind_name (arg.List width) = if is_between 1 LONGEST_TUPLE width then codes "list" ++ (48 + width) ∷ [] else codes "list"
+arg_kind_name (arg.List width) = if is_between SHORTEST_TUPLE LONGEST_TUPLE width then codes "list" ++ (48 + width) ∷ [] else codes "list"
 
 abbrev pub kind_named : List ℕ → Option Kind
 kind_named name = find (λ k. bytes_eq (kind_name k) name) KINDS

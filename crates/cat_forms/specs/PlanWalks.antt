@@ -10,7 +10,7 @@ use Rattle.serde_json.specs.Events.{items_len, members_len}
 use Rattle.serde_json.specs.Find.{as_str, as_array, get}
 use Rattle.proc_lang.specs.declared.procs.PathPart.{PathPart}
 use Rattle.proc_lang.specs.declared.procs.Proc.{Proc}
-use Rattle.aria_base.specs.declared.limits.TheConstants.{MOST_PARTS, MOST_COLUMNS, MOST_ARGS}
+use Rattle.aria_base.specs.declared.limits.TheConstants.{FEWEST_PARTS, MOST_PARTS, MOST_COLUMNS, MOST_ARGS}
 use Rattle.proc_lang.specs.declared.limits.TheConstants.{MOST_TABLES, MOST_PROCS, MOST_REGS}
 use Rattle.proc_lang.specs.Catalogs.{Plan, is_between}
 use Rattle.cat_forms.specs.declared.members.Member.{Member}
@@ -33,13 +33,32 @@ member_count (object ms) = members_len ms
 
 -- the objects with these members and no others
 abbrev pub two_members : Member → Member → Data → Option (Data × Data)
-two_members a b d = if member_count d == 2 then option_and_then (λ x. option_and_then (λ y. Some (x, y)) (get (member_name b) d)) (get (member_name a) d) else None
+two_members a b d =
+    if member_count d == 2
+    then option_and_then (λ x. option_and_then (λ y. Some (x, y)) (get (member_name b) d)) (get (member_name a) d)
+    else None
 
 abbrev pub three_members : Member → Member → Member → Data → Option (Data × Data × Data)
-three_members a b c d = if member_count d == 3 then option_and_then (λ x. option_and_then (λ y. option_and_then (λ z. Some (x, y, z)) (get (member_name c) d)) (get (member_name b) d)) (get (member_name a) d) else None
+three_members a b c d =
+    if member_count d == 3
+    then option_and_then
+      (λ x. option_and_then
+        (λ y. option_and_then (λ z. Some (x, y, z)) (get (member_name c) d))
+        (get (member_name b) d))
+      (get (member_name a) d)
+    else None
 
 abbrev pub four_members : Member → Member → Member → Member → Data → Option (Data × Data × Data × Data)
-four_members a b c e d = if member_count d == 4 then option_and_then (λ w. option_and_then (λ x. option_and_then (λ y. option_and_then (λ z. Some (w, x, y, z)) (get (member_name e) d)) (get (member_name c) d)) (get (member_name b) d)) (get (member_name a) d) else None
+four_members a b c e d =
+    if member_count d == 4
+    then option_and_then
+      (λ w. option_and_then
+        (λ x. option_and_then
+          (λ y. option_and_then (λ z. Some (w, x, y, z)) (get (member_name e) d))
+          (get (member_name c) d))
+        (get (member_name b) d))
+      (get (member_name a) d)
+    else None
 
 -- ---- names and kinds
 
@@ -72,7 +91,7 @@ abbrev pub table_at : List PathPart → List (List ℕ) → Data → Shaped Tabl
 table_at path earlier d = do
   ms ← at_path path (three_members Name Key Cols d)
   name ← name_at (in_member path Name) earlier ms.0
-  key ← named_at kind_named (in_member path Key) 1 MOST_PARTS ms.1
+  key ← named_at kind_named (in_member path Key) FEWEST_PARTS MOST_PARTS ms.1
   cols ← named_at kind_named (in_member path Cols) 0 MOST_COLUMNS ms.2
   Ok (record { name = name; key = key; cols = cols })
 

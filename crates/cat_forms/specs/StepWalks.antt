@@ -1,6 +1,7 @@
 -- The walk through a procedure's body. Each statement's form comes first, then its operands from the front. A plain operand of the
 -- wrong form is a fault of its statement. The walk counts statements, those in blocks included, and stops at one too many.
-use Rattle.std.specs.Prelude.{ℕ, ◌+◌, nat_lt, List, [], ◌∷◌, ◌++◌, if◌then◌else◌, position, Option, Some, option_map, option_and_then, unwrap_or}
+use Rattle.std.specs.Prelude.{ℕ, ◌+◌, nat_lt, List, [], ◌∷◌, ◌++◌, if◌then◌else◌, position, Option, Some, option_map,
+    option_and_then, unwrap_or}
 use Rattle.std.specs.declared.result.Result.TheVariants.{Ok, Err}
 use Rattle.std.specs.Str.{bytes_eq}
 use Rattle.aria_base.specs.declared.schemas.Table.{Table}
@@ -77,7 +78,8 @@ abbrev mutual
 
   pub statement_at : List Table → List PathPart → List PathPart → ℕ → Items → Shaped (Step × ℕ)
   statement_at tables body path seen no_items = Err path
-  statement_at tables body path seen (item name operands) = verb_at tables body path seen (option_and_then verb_named (as_str name)) operands
+  statement_at tables body path seen (item name operands) =
+      verb_at tables body path seen (option_and_then verb_named (as_str name)) operands
 
   -- the verb has these operands, and no others
   pub verb_at : List Table → List PathPart → List PathPart → ℕ → Option Verb → Items → Shaped (Step × ℕ)
@@ -132,7 +134,9 @@ abbrev mutual
   -- statements one after another, behind those that are done
   pub steps_after : List Table → List PathPart → List PathPart → ℕ → ℕ → List Step → Items → Shaped (Steps × ℕ)
   steps_after tables body path at seen done no_items = Ok (in_turn done, seen)
-  steps_after tables body path at seen done (item d ds) = with_room body seen (step_at tables body (in_item path at) (seen + 1) d >>= (λ s. steps_after tables body path (at + 1) s.1 (done ++ s.0 ∷ []) ds))
+  steps_after tables body path at seen done (item d ds) =
+      with_room body seen
+      (step_at tables body (in_item path at) (seen + 1) d >>= (λ s. steps_after tables body path (at + 1) s.1 (done ++ s.0 ∷ []) ds))
 
 -- the body at the path
 abbrev pub body_at : List Table → List PathPart → Data → Shaped Steps

@@ -42,7 +42,8 @@ abbrev mutual
     ab ← both (term_at (in_item path 1) (level + 1) x) (term_at (in_item path 2) (level + 1) y)
     Ok (Binary o ab.0 ab.1)
   form_at path level (Some form.MulDiv) (item x (item y (item z no_items))) = do
-    abc ← both (both (term_at (in_item path 1) (level + 1) x) (term_at (in_item path 2) (level + 1) y)) (term_at (in_item path 3) (level + 1) z)
+    abc ← both (both (term_at (in_item path 1) (level + 1) x) (term_at (in_item path 2) (level + 1) y))
+        (term_at (in_item path 3) (level + 1) z)
     Ok (MulDiv abc.0.0 abc.0.1 abc.1)
   form_at path level (Some form.Front) (item x (item y (item n no_items))) = do
     ab ← both (term_at (in_item path 1) (level + 1) x) (term_at (in_item path 2) (level + 1) y)

@@ -77,10 +77,12 @@ read_last (Blanks flag) = index_data flag ∷ []
 abbrev mutual
   pub step_data : List Table → Step → Data
   step_data tables (step.Let r e) = verb_data verb.Let (index_data r ∷ term_data e ∷ [])
-  step_data tables (step.Read absence t ks rs) = verb_data (read_verb absence) (table_ref tables t ∷ terms_data ks ∷ indexes_data rs ∷ read_last absence)
+  step_data tables (step.Read absence t ks rs) =
+      verb_data (read_verb absence) (table_ref tables t ∷ terms_data ks ∷ indexes_data rs ∷ read_last absence)
   step_data tables (step.Put t ks es) = verb_data verb.Put (table_ref tables t ∷ terms_data ks ∷ terms_data es ∷ [])
   step_data tables (step.Del t ks) = verb_data verb.Del (table_ref tables t ∷ terms_data ks ∷ [])
-  step_data tables (step.If e a b) = verb_data verb.If (term_data e ∷ list_data (steps_data tables a) ∷ list_data (steps_data tables b) ∷ [])
+  step_data tables (step.If e a b) =
+      verb_data verb.If (term_data e ∷ list_data (steps_data tables a) ∷ list_data (steps_data tables b) ∷ [])
   step_data tables (step.Each n body) = verb_data verb.Each (index_data n ∷ list_data (steps_data tables body) ∷ [])
   step_data tables (step.Give e) = verb_data verb.Give (term_data e ∷ [])
   step_data tables (step.Fail code) = verb_data verb.Fail (index_data code ∷ [])
@@ -98,10 +100,17 @@ abbrev pub arg_kinds_data : List ArgKind → Data
 arg_kinds_data ks = list_data (map (λ k. string (arg_kind_name k)) ks)
 
 abbrev pub table_data : Table → Data
-table_data t = object (member (codes "cols") (kinds_data t.cols) (member (codes "key") (kinds_data t.key) (member (codes "name") (string t.name) no_members)))
+table_data t =
+    object (member (codes "cols") (kinds_data t.cols)
+    (member (codes "key") (kinds_data t.key) (member (codes "name") (string t.name) no_members)))
 
 abbrev pub proc_data : List Table → Proc → Data
-proc_data tables p = object (member (codes "args") (arg_kinds_data p.args) (member (codes "body") (list_data (steps_data tables p.body)) (member (codes "name") (string p.name) (member (codes "regs") (kinds_data p.regs) no_members))))
+proc_data tables p =
+    object (member (codes "args") (arg_kinds_data p.args)
+    (member (codes "body") (list_data (steps_data tables p.body))
+    (member (codes "name") (string p.name) (member (codes "regs") (kinds_data p.regs) no_members))))
 
 abbrev pub data_of : Plan → Data
-data_of plan = object (member (codes "procs") (list_data (map (proc_data plan.tables) plan.procs)) (member (codes "tables") (list_data (map table_data plan.tables)) no_members))
+data_of plan =
+    object (member (codes "procs") (list_data (map (proc_data plan.tables) plan.procs))
+    (member (codes "tables") (list_data (map table_data plan.tables)) no_members))

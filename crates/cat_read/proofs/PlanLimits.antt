@@ -16,7 +16,7 @@ use Rattle.serde_json.specs.Find.{as_str, as_array}
 use Rattle.proc_lang.specs.declared.procs.ArgKind.{ArgKind}
 use Rattle.proc_lang.specs.declared.procs.PathPart.{PathPart}
 use Rattle.proc_lang.specs.declared.procs.Proc.{Proc}
-use Rattle.aria_base.specs.declared.limits.TheConstants.{MOST_PARTS, MOST_COLUMNS, MOST_ARGS}
+use Rattle.aria_base.specs.declared.limits.TheConstants.{FEWEST_PARTS, MOST_PARTS, MOST_COLUMNS, MOST_ARGS}
 use Rattle.proc_lang.specs.declared.limits.TheConstants.{MOST_TABLES, MOST_PROCS, MOST_REGS, MOST_STATEMENTS}
 use Rattle.proc_lang.specs.Catalogs.{Plan, IsCatalog, is_between, arg_kind_fits, table_fits, proc_fits, steps_count, distinct}
 use Rattle.proc_lang.specs.Typing.{IsWellTyped}
@@ -114,10 +114,10 @@ table_ok : (path : List PathPart) (earlier : List (List ℕ)) (d : Data) (t : Ta
 table_ok path earlier d t h =
     let ms = bind_ok (at_path path (three_members Name Key Cols d)) _ t h in
     let name = bind_ok (name_at (in_member path Name) earlier ms.0.0) _ t ms.2 in
-    let key = bind_ok (named_at kind_named (in_member path Key) 1 MOST_PARTS ms.0.1) _ t name.2 in
+    let key = bind_ok (named_at kind_named (in_member path Key) FEWEST_PARTS MOST_PARTS ms.0.1) _ t name.2 in
     let cols = bind_ok (named_at kind_named (in_member path Cols) 0 MOST_COLUMNS ms.0.2) _ t key.2 in
     let n = name_ok (in_member path Name) earlier ms.0.0 name.0 name.1 in
-    let k = kinds_ok (in_member path Key) 1 MOST_PARTS ms.0.1 key.0 key.1 in
+    let k = kinds_ok (in_member path Key) FEWEST_PARTS MOST_PARTS ms.0.1 key.0 key.1 in
     let c = kinds_ok (in_member path Cols) 0 MOST_COLUMNS ms.0.2 cols.0 cols.1 in
     let e : ◌≡◌ {A = Table} (record { name = name.0; key = key.0; cols = cols.0 }) t = cc cols.2 in
     subst (λ (t : Table). (table_fits t ≡ true) × (list_any (bytes_eq t.name) earlier ≡ false)) e (rw (n.word, k) (grind (arith, common_steps, c)), n.other)

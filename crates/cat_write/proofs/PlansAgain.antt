@@ -19,7 +19,7 @@ use Rattle.serde_json.specs.Events.{items_len}
 use Rattle.serde_json.specs.View.{items_of}
 use Rattle.proc_lang.specs.declared.procs.PathPart.{PathPart}
 use Rattle.proc_lang.specs.declared.procs.Proc.{Proc}
-use Rattle.aria_base.specs.declared.limits.TheConstants.{MOST_PARTS, MOST_COLUMNS, MOST_ARGS}
+use Rattle.aria_base.specs.declared.limits.TheConstants.{FEWEST_PARTS, MOST_PARTS, MOST_COLUMNS, MOST_ARGS}
 use Rattle.proc_lang.specs.declared.limits.TheConstants.{MOST_TABLES, MOST_PROCS, MOST_REGS, MOST_STATEMENTS}
 use Rattle.proc_lang.specs.Catalogs.{Plan, IsCatalog, is_between, arg_kind_fits, table_fits, proc_fits, steps_fit, steps_count, distinct}
 use Rattle.proc_lang.specs.Typing.{IsWellTyped, Reached, Flaw, typed_proc, scope_of, at_start}
@@ -95,10 +95,10 @@ module _ {A : Type 0} (name : A → List ℕ) (said : A → Data) (Stands : A �
 table_again : (path : List PathPart) (earlier : List (List ℕ)) (t : Table) → table_fits t ≡ true → list_any (bytes_eq t.name) earlier ≡ false → table_at path earlier (table_data t) ≡ Ok t
 table_again path earlier t f new =
     let word : is_word t.name ≡ true = grind (arith, common_steps, f) in
-    let parts : is_between 1 MOST_PARTS (length t.key) ≡ true = grind (arith, common_steps, f) in
+    let parts : is_between FEWEST_PARTS MOST_PARTS (length t.key) ≡ true = grind (arith, common_steps, f) in
     let columns : is_between 0 MOST_COLUMNS (length t.cols) ≡ true = grind (arith, common_steps, f) in
     let en = name_again (in_member path Name) earlier t.name word new in
-    let ek = kinds_again (in_member path Key) 1 MOST_PARTS t.key parts in
+    let ek = kinds_again (in_member path Key) FEWEST_PARTS MOST_PARTS t.key parts in
     let ec = kinds_again (in_member path Cols) 0 MOST_COLUMNS t.cols columns in
     rw (en, ek, ec)
 

@@ -16,7 +16,8 @@ IsShutOrSame told image = IsShut image ⊎ ((before : List ℕ) × HasImage told
 
 -- The gate is closed, or these bytes begin as an image from before does with its gate open.
 abbrev pub IsShutOrOpened : Option File → List ℕ → Type 0
-IsShutOrOpened told image = IsShut image ⊎ ((before : List ℕ) × HasImage told before × (take (length (opened before)) image ≡ opened before))
+IsShutOrOpened told image =
+    IsShut image ⊎ ((before : List ℕ) × HasImage told before × (take (length (opened before)) image ≡ opened before))
 
 -- the file with its gate closed and synced; one that is closed was not written
 abbrev pub shut_file : File → File

@@ -71,7 +71,8 @@ module _ {K V A O : Type 0} (R : K → K → Ordering) (by : Carrier K V A O) (r
   Asked (MarkRead i p) = (d : Judged O) × Stands i d × ((k : K) × (slice_get (by.reads d.request) p ≡ Some k))
   Asked (MarkWrite i p) = (d : Judged O) × Stands i d × ((k : K) × (slice_get (written by d.request) p ≡ Some k))
   Asked (Decide i) = (d : Judged O) × Stands i d
-  Asked (Install i p) = (d : Judged O) × Stands i d × (finishes d.verdict ≡ true) × ((w : K × Option V) × (slice_get (by.rows d.request) p ≡ Some w))
+  Asked (Install i p) = (d : Judged O) × Stands i d × (finishes d.verdict ≡ true)
+      × ((w : K × Option V) × (slice_get (by.rows d.request) p ≡ Some w))
   Asked Turn = ⊥
 
   -- A turn is due where all that its phase asks for has come; another event where its phase asks for it and it has not come

@@ -1,5 +1,6 @@
 -- What the machine holds, what an event does to it, and what it is when it has settled.
-use Rattle.std.specs.Prelude.{◌≡◌, ℕ, ◌+◌, ◌-◌, ◌*◌, ◌<◌, ◌≤◌, ◌==◌, min, List, [], ◌∷◌, length, slice_get, Option, Some, None, Bool, true, false, if◌then◌else◌, is_some}
+use Rattle.std.specs.Prelude.{◌≡◌, ℕ, ◌+◌, ◌-◌, ◌*◌, ◌<◌, ◌≤◌, ◌==◌, min, List, [], ◌∷◌, length, slice_get, Option,
+    Some, None, Bool, true, false, if◌then◌else◌, is_some}
 use Rattle.std.specs.declared.cmp.Ordering.{Ordering}
 use Rattle.std.specs.Ordering.{eq_by_cmp}
 use Rattle.std.specs.Option.{option_map}
@@ -112,7 +113,8 @@ module _ {K V A O : Type 0} (by : Carrier K V A O) (rule : Rule) (tag : ℕ) whe
 abbrev pub AreFirst : {K : Type 0} → ℕ → (Bool → K → ℕ) → Type 0
 AreFirst tag first = (writes : Bool) (k : _) → (tag + 1) * TAG_SPAN ≤ first writes k
 
-module _ {K V Q A : Type 0} {R : K → K → Ordering} (is_done : A → Bool) (tree : Q → Tree K V A) (rule : Rule) (start : FinMap R V) (list : List Q) where
+module _ {K V Q A : Type 0} {R : K → K → Ordering} (is_done : A → Bool) (tree : Q → Tree K V A) (rule : Rule)
+    (start : FinMap R V) (list : List Q) where
   -- after each legal list of events that settles, the verdicts and the database are those of the batch's commit phase
   abbrev pub Commits : ℕ → (Bool → K → ℕ) → List Event → Type 0
   Commits tag first es =

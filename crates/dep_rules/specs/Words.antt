@@ -1,5 +1,6 @@
 -- A batch's reservation words as they are read for the decision of one request.
-use Rattle.std.specs.Prelude.{◌≡◌, ◌<◌, ℕ, ◌+◌, ◌*◌, ◌-◌, Option, None, Some, if◌then◌else◌, min, nat_lt, List, [], ◌∷◌, length, slice_index}
+use Rattle.std.specs.Prelude.{◌≡◌, ◌<◌, ℕ, ◌+◌, ◌*◌, ◌-◌, Option, None, Some, if◌then◌else◌, min, nat_lt, List, [], ◌∷◌,
+    length, slice_index}
 use Rattle.std.specs.List.{range_with_len}
 use Rattle.std.specs.Ordering.{nat_cmp}
 use Rattle.aria_base.specs.Reserved.{tid_under}
@@ -13,8 +14,10 @@ use Rattle.dep_rules.specs.declared.decisions.Side.TheVariants as side
 -- at the odd one; for none where no request does.
 pub record Tell (sheet : Sheet) (tag : ℕ) (words : List ℕ) : Type 0 where
   pub two_a_key : length words ≡ 2 * sheet.keys
-  pub writers : (key : ℕ) → key < sheet.keys → tid_under tag (slice_index words (2 * key)) ≡ least (λ keys. is_among nat_cmp keys key) sheet.writes
-  pub readers : (key : ℕ) → key < sheet.keys → tid_under tag (slice_index words (2 * key + 1)) ≡ least (λ keys. is_among nat_cmp keys key) sheet.reads
+  pub writers : (key : ℕ) → key < sheet.keys → tid_under tag (slice_index words (2 * key))
+      ≡ least (λ keys. is_among nat_cmp keys key) sheet.writes
+  pub readers : (key : ℕ) → key < sheet.keys → tid_under tag (slice_index words (2 * key + 1))
+      ≡ least (λ keys. is_among nat_cmp keys key) sheet.reads
 
 -- the TIDs of the requests before this one
 abbrev pub tids_before : ℕ → List ℕ

@@ -1,5 +1,6 @@
 -- One file of a disk: what a read gives, what is stable, and what a stop may leave of it.
-use Rattle.std.specs.Prelude.{◌≡◌, ℕ, ◌+◌, ◌<◌, ◌≤◌, max, List, [], ◌∷◌, ◌++◌, length, take, drop, slice_index, Bool, false, ◌||◌, ◌&&◌, nat_le, nat_lt}
+use Rattle.std.specs.Prelude.{◌≡◌, ℕ, ◌+◌, ◌<◌, ◌≤◌, max, List, [], ◌∷◌, ◌++◌, length, take, drop, slice_index, Bool,
+    false, ◌||◌, ◌&&◌, nat_le, nat_lt}
 
 pub record File : Type 0 where
   -- what a read gives
@@ -23,7 +24,8 @@ covers (range ∷ ranges) place = nat_le range.0 place && nat_lt place (range.0 
 pub record IsImage (file : File) (image : List ℕ) : Type 0 where
   pub long : length file.synced ≤ length image
   pub short : file.loose ≡ [] → length image ≤ length file.synced
-  pub stays : (place : ℕ) → place < length file.synced → covers file.loose place ≡ false → slice_index image place ≡ slice_index file.synced place
+  pub stays : (place : ℕ) → place < length file.synced → covers file.loose place ≡ false
+      → slice_index image place ≡ slice_index file.synced place
 
 -- these bytes in the place of what stood there, or behind the end
 abbrev pub put : List ℕ → ℕ → List ℕ → List ℕ

@@ -1,5 +1,6 @@
 -- A disk in memory: the four files that it began with, and all calls since.
-use Rattle.std.specs.Prelude.{◌≡◌, ℕ, ◌+◌, ◌<◌, ◌≤◌, ◌==◌, List, [], ◌∷◌, ◌++◌, length, take, slice_index_or, if◌then◌else◌, Bool, not, ◌&&◌, nat_le, nat_lt, Some}
+use Rattle.std.specs.Prelude.{◌≡◌, ℕ, ◌+◌, ◌<◌, ◌≤◌, ◌==◌, List, [], ◌∷◌, ◌++◌, length, take, slice_index_or,
+    if◌then◌else◌, Bool, not, ◌&&◌, nat_le, nat_lt, Some}
 use Rattle.std.specs.List.{list_any}
 use Rattle.aria_base.specs.Faults.{one_more}
 use Rattle.disk_model.specs.Files.{File, untouched}
@@ -37,7 +38,8 @@ counts disk = nat_lt (length disk.steps) disk.calls
 
 -- whether the next call succeeds, where it writes so many bytes
 abbrev pub passes : Recorded → ℕ → Bool
-passes disk len = counts disk && not (list_any (λ number. number == length disk.steps + 1) disk.fails) && nat_le (written disk.steps + len) disk.room
+passes disk len = counts disk && not (list_any (λ number. number == length disk.steps + 1) disk.fails)
+    && nat_le (written disk.steps + len) disk.room
 
 -- with one call more
 abbrev pub noted : Step → Recorded → Recorded
@@ -62,7 +64,8 @@ left_disk kept fill calls disk =
 pub record IsDisk (start : List (List ℕ)) (files : List RoomyBytes) (tape : Calls) : Type 0 where
   pub starts : length start ≡ 4
   pub four : length files ≡ 4
-  pub reads : (file : ℕ) → file < 4 → (slice_index_or files file no_bytes).bytes ≡ (after tape.steps file (untouched (slice_index_or start file []))).seen
+  pub reads : (file : ℕ) → file < 4 → (slice_index_or files file no_bytes).bytes
+      ≡ (after tape.steps file (untouched (slice_index_or start file []))).seen
   pub spare : (file : ℕ) → file < 4 → tape.room ≤ (slice_index_or files file no_bytes).spare + written tape.steps
 
 -- the first so many copies, each with the bytes of its file and room for more

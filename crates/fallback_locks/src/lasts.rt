@@ -5,7 +5,7 @@ ghost use Rattle.aria_base.specs.declared.keys.Key.{Key as Name};
 ghost use Rattle.batch_rules.specs.Touches.{is_among};
 ghost use Rattle.fallback_locks.specs.LastWaves.{last_in, with_reader, with_writer, highest};
 
-use aria_base::{Key, Memory, copy_key};
+use aria_base::{Duplicate, Key, Memory};
 use std::alloc::Global;
 use std::collections::BTreeMap;
 
@@ -66,7 +66,7 @@ pub(crate) fn note_reads(
             reader: last.reader.max(wave),
             writer: last.writer,
         };
-        lasts.insert(copy_key(alloc, key)?, next)?;
+        lasts.insert(key.duplicate(alloc)?, next)?;
     }
     Ok(())
 }
@@ -86,7 +86,7 @@ pub(crate) fn note_writes(
             reader: last.reader,
             writer: last.writer.max(wave),
         };
-        lasts.insert(copy_key(alloc, key)?, next)?;
+        lasts.insert(key.duplicate(alloc)?, next)?;
     }
     Ok(())
 }

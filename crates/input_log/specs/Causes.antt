@@ -16,4 +16,5 @@ ReadCause old new file (Damaged of at) = (of ≡ file) × IfSome (current old fi
 abbrev pub GateCause : History → History → ℕ → ℕ → LogRefused → Type 0
 GateCause old new file gate Memory = ⊤
 GateCause old new file gate DiskFault = Rose old.faults new.faults
-GateCause old new file gate (Damaged of at) = (of ≡ file) × (at ≡ gate) × IfSome (current old file) (λ f. next_of (drop gate f.seen) ≡ Broken)
+GateCause old new file gate (Damaged of at) = (of ≡ file) × (at ≡ gate)
+    × IfSome (current old file) (λ f. next_of (drop gate f.seen) ≡ Broken)

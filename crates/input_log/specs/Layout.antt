@@ -1,5 +1,6 @@
 -- What the bytes of a log stand for: its records up to the first closed gate.
-use Rattle.std.specs.Prelude.{◌≡◌, ◌⊎◌, ℕ, zero, suc, ◌+◌, ◌==◌, nat_lt, List, [], ◌∷◌, ◌++◌, length, take, drop, if◌then◌else◌, Option, None, Some}
+use Rattle.std.specs.Prelude.{◌≡◌, ◌⊎◌, ℕ, zero, suc, ◌+◌, ◌==◌, nat_lt, List, [], ◌∷◌, ◌++◌, length, take, drop,
+    if◌then◌else◌, Option, None, Some}
 use Rattle.byteorder.specs.Endian.{little_number, little_bytes}
 use Rattle.input_log.specs.declared.logs.Payload.{Payload}
 use Rattle.disk_model.specs.Files.{File}
@@ -42,7 +43,8 @@ with_payload before at payload = before ++ record { at = at; bytes = payload } �
 abbrev pub read_log : ℕ → List Payload → ℕ → List ℕ → Log
 read_log zero before at bytes = Breaks at
 read_log (suc fuel) before at bytes =
-    by_next (next_of bytes) before at (λ payload. read_log fuel (with_payload before at payload) (at + 5 + length payload) (drop (5 + length payload) bytes))
+    by_next (next_of bytes) before at
+        (λ payload. read_log fuel (with_payload before at payload) (at + 5 + length payload) (drop (5 + length payload) bytes))
 
 -- the log from a gate on, after the payloads before it
 abbrev pub log_from : List Payload → ℕ → List ℕ → Log
@@ -71,7 +73,8 @@ EndsAt bytes at batches = (payloads : List Payload) × (log_of bytes ≡ Ends pa
 
 -- the log is that of an image from before, without the payload or with it
 abbrev pub IsWithOrWithout : Option File → List ℕ → List ℕ → Type 0
-IsWithOrWithout told payload image = (before : List ℕ) × HasImage told before × ((log_of image ≡ log_of before) ⊎ (log_of image ≡ with_record payload (log_of before)))
+IsWithOrWithout told payload image = (before : List ℕ) × HasImage told before
+    × ((log_of image ≡ log_of before) ⊎ (log_of image ≡ with_record payload (log_of before)))
 
 -- what stands at a gate, where nothing is broken
 abbrev pub next_is : Option (List ℕ) → Next

@@ -12,7 +12,8 @@ use Rattle.key_numbering.specs.Numbers.{Numbers, number_in, with_key}
 -- the keys that have no number, each with its place, of which the first is this one
 abbrev pub unknown_in : Numbers → ℕ → List Key → List (ℕ × Key)
 unknown_in numbers place [] = []
-unknown_in numbers place (k ∷ ks) = if fin.contains_key numbers k then unknown_in numbers (place + 1) ks else (place, k) ∷ unknown_in numbers (place + 1) ks
+unknown_in numbers place (k ∷ ks) = if fin.contains_key numbers k then unknown_in numbers (place + 1) ks
+    else (place, k) ∷ unknown_in numbers (place + 1) ks
 
 abbrev pub shown : List Unknown → List (ℕ × Key)
 shown unknown = map (λ u. (u.place, u.key.now)) unknown

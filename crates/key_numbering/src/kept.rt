@@ -5,7 +5,7 @@ ghost use Rattle.key_numbering.specs.Numbers.{AreNumbers, number_in, with_key};
 ghost use Rattle.key_numbering.specs.declared.kept.TheConstants.{MOST_KEPT, MOST_KEYS};
 
 use crate::places::Places;
-use aria_base::{Key, Memory, copy_key};
+use aria_base::{Duplicate, Key, Memory};
 use std::alloc::Global;
 use std::marker::Model;
 
@@ -100,7 +100,7 @@ impl Kept {
         ensures number { IfOk result (λ n. n ≡ fin.len self.old) }
     {
         let number = self.len;
-        let key = copy_key(self.alloc, key)?;
+        let key = key.duplicate(self.alloc)?;
         self.places.put(key, number)?;
         self.len = number + 1;
         Ok(number)

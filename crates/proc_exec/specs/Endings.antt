@@ -13,7 +13,8 @@ use Rattle.proc_exec.specs.Steppings.{Window}
 -- The run ends as it does on the window's map. The window then stands for the map that the run leaves, writes of an early end
 -- included, and has noted what the run touches.
 abbrev pub EndsAs : Run → Window → Window → End → Type 0
-EndsAs run old new end = (end ≡ end_of run old.map) × (new ≡ record { map = left_by run old.map; noted = all_noted key_cmp old.noted (trace_of run old.map) })
+EndsAs run old new end = (end ≡ end_of run old.map)
+    × (new ≡ record { map = left_by run old.map; noted = all_noted key_cmp old.noted (trace_of run old.map) })
 
 -- the same where no access lies outside the declared keys; else the key of the first one that does
 abbrev pub EndsWithin : Touchable Key → Run → Window → Window → Ran → Type 0

@@ -19,6 +19,7 @@ fate_of (late.Moved key) = Moved key
 
 -- Run again on `start`, the waiting requests have these results, in their order, and leave this database. A result is told by its
 -- fate, and no two results have one fate.
-pub record IsLateFold (tree : Request → Tree Key Cells End) (start : Database) (waiting : List Waiting) (results : List Late) (left : Database) : Type 0 where
+pub record IsLateFold (tree : Request → Tree Key Cells End) (start : Database) (waiting : List Waiting)
+    (results : List Late) (left : Database) : Type 0 where
   pub fates : map fate_of results ≡ late_fates is_done (λ w. touchable w.declared) (λ w. tree w.request) start waiting
   pub rows : left ≡ late_left is_done (λ w. touchable w.declared) (λ w. tree w.request) start waiting

@@ -53,11 +53,14 @@ Performs result limits part old new seen seen' = (next : Next) → Follows resul
 
 -- one read of the key: the row, the frame and the window after it, or why it is not made
 abbrev pub Fetched : Result (Option Cells) Stop → Option (Touchable Key) → Key → Frame → Frame → Window → Window → Type 0
-Fetched (Ok row) limits key old new seen seen' = (nat_lt old.made MOST_ACCESSES ≡ true) × (allows_read key_cmp limits key ≡ true) × (row ≡ fin.get seen.map key) × (new ≡ record { regs = old.regs; gives = old.gives; made = old.made + 1 }) × (seen' ≡ after_read seen key)
+Fetched (Ok row) limits key old new seen seen' = (nat_lt old.made MOST_ACCESSES ≡ true)
+    × (allows_read key_cmp limits key ≡ true) × (row ≡ fin.get seen.map key)
+    × (new ≡ record { regs = old.regs; gives = old.gives; made = old.made + 1 }) × (seen' ≡ after_read seen key)
 Fetched (Err stop.Memory) limits key old new seen seen' = Unit {0}
 Fetched (Err (stop.Back code)) limits key old new seen seen' = ⊥
 Fetched (Err (stop.Trap trap)) limits key old new seen seen' = (trap ≡ Many) × (nat_lt old.made MOST_ACCESSES ≡ false) × (seen' ≡ seen)
-Fetched (Err (stop.Moved other)) limits key old new seen seen' = (other ≡ key) × (nat_lt old.made MOST_ACCESSES ≡ true) × (allows_read key_cmp limits key ≡ false) × (seen' ≡ seen)
+Fetched (Err (stop.Moved other)) limits key old new seen seen' = (other ≡ key) × (nat_lt old.made MOST_ACCESSES ≡ true)
+    × (allows_read key_cmp limits key ≡ false) × (seen' ≡ seen)
 
 -- the end that a run comes to, or the key at which it stops
 abbrev pub end_of_ran : Ran → PlayEnd Key End

@@ -11,4 +11,5 @@ abbrev pub proc_code : Coded Proc
 proc_code = (proc.the_row).coded
 
 abbrev pub plan_code : Coded Plan
-plan_code = code_by (List Table × List Proc) (coded× (coded_list (table.the_row).coded) (coded_list proc_code)) (λ p. (p.tables, p.procs)) (λ p. record { tables = p.0; procs = p.1 }) (λ _. refl)
+plan_code = code_by (List Table × List Proc) (coded× (coded_list (table.the_row).coded) (coded_list proc_code))
+    (λ p. (p.tables, p.procs)) (λ p. record { tables = p.0; procs = p.1 }) (λ _. refl)

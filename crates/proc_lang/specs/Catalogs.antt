@@ -1,5 +1,6 @@
 -- What a catalogue is: its tables and its procedures, within their limits; which calls it takes, and what a request of it does.
-use Rattle.std.specs.Prelude.{◌≡◌, ◌≤◌, ℕ, ◌+◌, ◌==◌, ◌&&◌, Bool, true, false, not, nat_le, max, List, [], ◌∷◌, map, length, slice_get, Option, Some, None}
+use Rattle.std.specs.Prelude.{◌≡◌, ◌≤◌, ℕ, ◌+◌, ◌==◌, ◌&&◌, Bool, true, false, not, nat_le, max, List, [], ◌∷◌, map,
+    length, slice_get, Option, Some, None}
 use Rattle.std.specs.List.{All, list_all, list_any}
 use Rattle.std.specs.Str.{bytes_eq}
 use Rattle.aria_base.specs.Texts.{is_word}
@@ -13,8 +14,9 @@ use Rattle.proc_lang.specs.declared.ends.End.TheVariants as end
 use Rattle.proc_lang.specs.declared.procs.ArgKind.{ArgKind}
 use Rattle.proc_lang.specs.declared.procs.ArgKind.TheVariants as kind
 use Rattle.proc_lang.specs.declared.procs.Proc.{Proc}
-use Rattle.aria_base.specs.declared.limits.TheConstants.{MOST_PARTS, MOST_COLUMNS, MOST_ARGS, LONGEST_TUPLE}
-use Rattle.proc_lang.specs.declared.limits.TheConstants.{MOST_TABLES, MOST_PROCS, MOST_REGS, MOST_STATEMENTS, DEEPEST_EXPR, GREATEST_CODE, MOST_FRONT}
+use Rattle.aria_base.specs.declared.limits.TheConstants.{FEWEST_PARTS, MOST_PARTS, MOST_COLUMNS, MOST_ARGS, SHORTEST_TUPLE, LONGEST_TUPLE}
+use Rattle.proc_lang.specs.declared.limits.TheConstants.{MOST_TABLES, MOST_PROCS, MOST_REGS, MOST_STATEMENTS,
+    DEEPEST_EXPR, GREATEST_CODE, MOST_FRONT}
 use Rattle.proc_lang.specs.Terms.{Term, Num, Text, Me, Named, Unary, Binary, MulDiv, Front}
 use Rattle.proc_lang.specs.Steps.{Absence, Traps, Fails, Blanks, Step, Steps, NoMore, More}
 use Rattle.proc_lang.specs.Steps as step
@@ -99,13 +101,14 @@ abbrev mutual
 abbrev pub arg_kind_fits : ArgKind → Bool
 arg_kind_fits kind.Int = true
 arg_kind_fits kind.Text = true
-arg_kind_fits (kind.List width) = is_between 1 LONGEST_TUPLE width
+arg_kind_fits (kind.List width) = is_between SHORTEST_TUPLE LONGEST_TUPLE width
 
 abbrev pub table_fits : Table → Bool
-table_fits t = is_word t.name && is_between 1 MOST_PARTS (length t.key) && nat_le (length t.cols) MOST_COLUMNS
+table_fits t = is_word t.name && is_between FEWEST_PARTS MOST_PARTS (length t.key) && nat_le (length t.cols) MOST_COLUMNS
 
 abbrev pub proc_fits : Proc → Bool
-proc_fits p = is_word p.name && nat_le (length p.args) MOST_ARGS && list_all arg_kind_fits p.args && nat_le (length p.regs) MOST_REGS && nat_le (steps_count p.body) MOST_STATEMENTS && steps_fit p.body
+proc_fits p = is_word p.name && nat_le (length p.args) MOST_ARGS && list_all arg_kind_fits p.args
+    && nat_le (length p.regs) MOST_REGS && nat_le (steps_count p.body) MOST_STATEMENTS && steps_fit p.body
 
 -- no name stands twice
 abbrev pub distinct : List (List ℕ) → Bool

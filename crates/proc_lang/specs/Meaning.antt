@@ -1,6 +1,7 @@
 -- The meaning of a procedure: its body as a tree of accesses. Each statement is one line, with what remains of the run as its
 -- continuation.
-use Rattle.std.specs.Prelude.{ℕ, ℤ, pos, ◌+◌, ◌+ℤ◌, ◌-ℤ◌, ◌*ℤ◌, Bool, true, false, not, ◌&&◌, ◌||◌, nat_lt, nat_le, int_lt, int_le, if◌then◌else◌, List, [], ◌∷◌, ◌++◌, length, map, take, slice_get, slice_index_or, slice_set, Option, Some, None}
+use Rattle.std.specs.Prelude.{ℕ, ℤ, pos, ◌+◌, ◌+ℤ◌, ◌-ℤ◌, ◌*ℤ◌, Bool, true, false, not, ◌&&◌, ◌||◌, nat_lt, nat_le,
+    int_lt, int_le, if◌then◌else◌, List, [], ◌∷◌, ◌++◌, length, map, take, slice_get, slice_index_or, slice_set, Option, Some, None}
 use Rattle.std.specs.declared.result.Result.TheVariants.{Ok, Err}
 use Rattle.std.specs.Fmt.{signed_decimal}
 use Rattle.aria_base.specs.Orders.{Cells}
@@ -28,7 +29,8 @@ use Rattle.proc_lang.specs.Terms.{Term}
 use Rattle.proc_lang.specs.Terms as term
 use Rattle.proc_lang.specs.Steps.{Absence, Traps, Fails, Blanks, Step, Steps, NoMore, More}
 use Rattle.proc_lang.specs.Steps as step
-use Rattle.proc_lang.specs.Values.{Got, got, both, int_of, text_of, is_true, truth, blank, same_value, number, divided, remainder, joined, front, me_of, value_of_arg, tuples_of}
+use Rattle.proc_lang.specs.Values.{Got, got, both, int_of, text_of, is_true, truth, blank, same_value, number, divided,
+    remainder, joined, front, me_of, value_of_arg, tuples_of}
 
 -- ---- operators
 
@@ -65,8 +67,11 @@ value_of r item regs term.Me = Ok (me_of r.q)
 value_of r item regs (term.Named from n) = Ok (named_value r item regs from n)
 value_of r item regs (term.Unary o a) = got (value_of r item regs a) (λ v. Ok (by_unary o v))
 value_of r item regs (term.Binary o a b) = got (both (value_of r item regs a) (value_of r item regs b)) (by_binary o)
-value_of r item regs (term.MulDiv a b c) = got (both (both (value_of r item regs a) (value_of r item regs b)) (value_of r item regs c)) (λ p. divided (int_of p.0.0 *ℤ int_of p.0.1) (int_of p.1))
-value_of r item regs (term.Front a b n) = got (both (value_of r item regs a) (value_of r item regs b)) (λ p. Ok (front (text_of p.0) (text_of p.1) n))
+value_of r item regs (term.MulDiv a b c) =
+    got (both (both (value_of r item regs a) (value_of r item regs b)) (value_of r item regs c))
+    (λ p. divided (int_of p.0.0 *ℤ int_of p.0.1) (int_of p.1))
+value_of r item regs (term.Front a b n) =
+    got (both (value_of r item regs a) (value_of r item regs b)) (λ p. Ok (front (text_of p.0) (text_of p.1) n))
 
 -- the values of a list, from the left, behind those that are done
 abbrev pub values_after : Request → List ℤ → List Value → List Value → List Term → Got (List Value)
@@ -130,7 +135,8 @@ with (Err trap) go = Ends (end.Trap trap)
 
 -- the test before an access
 abbrev pub counted : Frame → Next → Run
-counted f go = if nat_lt f.made MOST_ACCESSES then go (record { regs = f.regs; gives = f.gives; made = f.made + 1 }) else Ends (end.Trap Many)
+counted f go = if nat_lt f.made MOST_ACCESSES then go (record { regs = f.regs; gives = f.gives; made = f.made + 1 })
+    else Ends (end.Trap Many)
 
 abbrev pub reads : Got Key → (Frame → Option Cells → Run) → Next
 reads key go f = with key (λ key. counted f (λ f. Reads key (go f)))
@@ -154,7 +160,9 @@ row_or (Fails code) rs next = read_or (end.Back code) rs next
 row_or (Blanks flag) rs next = find_in rs flag next
 
 abbrev pub gives : Next → Frame → Value → Run
-gives next f v = if nat_lt (length f.gives) MOST_GIVEN then next (record { regs = f.regs; gives = f.gives ++ v ∷ []; made = f.made }) else Ends (end.Trap Many)
+gives next f v =
+    if nat_lt (length f.gives) MOST_GIVEN then next (record { regs = f.regs; gives = f.gives ++ v ∷ []; made = f.made })
+    else Ends (end.Trap Many)
 
 abbrev pub for_each : (List ℤ → Next → Next) → List (List ℤ) → Next → Next
 for_each body [] next f = next f
@@ -164,9 +172,11 @@ abbrev mutual
   pub step_run : Request → Step → List ℤ → Next → Next
   step_run r (step.Let n e) item next f = with (value_of r item f.regs e) (λ v. next (set_to f (slice_set f.regs n v)))
   step_run r (step.Read absence t ks rs) item next f = reads (key_from r item f.regs t ks) (row_or absence rs next) f
-  step_run r (step.Put t ks es) item next f = writes (key_from r item f.regs t ks) (got (row_from r item f.regs es) (λ row. Ok (Some row))) next f
+  step_run r (step.Put t ks es) item next f =
+      writes (key_from r item f.regs t ks) (got (row_from r item f.regs es) (λ row. Ok (Some row))) next f
   step_run r (step.Del t ks) item next f = writes (key_from r item f.regs t ks) (Ok None) next f
-  step_run r (step.If e a b) item next f = with (value_of r item f.regs e) (λ v. if is_true v then steps_run r a item next f else steps_run r b item next f)
+  step_run r (step.If e a b) item next f =
+      with (value_of r item f.regs e) (λ v. if is_true v then steps_run r a item next f else steps_run r b item next f)
   step_run r (step.Each n body) item next f = for_each (steps_run r body) (tuples_of (slice_get r.call.args n)) next f
   step_run r (step.Give e) item next f = with (value_of r item f.regs e) (gives next f)
   step_run r (step.Fail code) item next f = Ends (end.Back code)

@@ -37,10 +37,14 @@ abbrev mutual
 mutual
   pub step_one : (s t : Step) → kept_step s ≡ kept_step t → s ≡ t
   step_one (Let n a) (Let m b) e = λ i. Let (num (first (e i))) (term_code.inj a b (ap second e) i)
-  step_one (Read x t ks rs) (Read y u ls ss) e = λ i. Read (absence_one x y (ap (λ g. first (first g)) e) i) (tag (first (e i))) (terms_code.inj ks ls (ap second e) i) (numbers_code.inj rs ss (ap third e) i)
-  step_one (Put t ks es) (Put u ls fs) e = λ i. Put (num (first (e i))) (terms_code.inj ks ls (ap second e) i) (terms_code.inj es fs (ap third e) i)
+  step_one (Read x t ks rs) (Read y u ls ss) e =
+      λ i. Read (absence_one x y (ap (λ g. first (first g)) e) i) (tag (first (e i)))
+      (terms_code.inj ks ls (ap second e) i) (numbers_code.inj rs ss (ap third e) i)
+  step_one (Put t ks es) (Put u ls fs) e =
+      λ i. Put (num (first (e i))) (terms_code.inj ks ls (ap second e) i) (terms_code.inj es fs (ap third e) i)
   step_one (Del t ks) (Del u ls) e = λ i. Del (num (first (e i))) (terms_code.inj ks ls (ap second e) i)
-  step_one (If a b c) (If x y z) e = λ i. If (term_code.inj a x (ap first e) i) (steps_one b y (ap second e) i) (steps_one c z (ap third e) i)
+  step_one (If a b c) (If x y z) e =
+      λ i. If (term_code.inj a x (ap first e) i) (steps_one b y (ap second e) i) (steps_one c z (ap third e) i)
   step_one (Each n a) (Each m b) e = λ i. Each (num (first (e i))) (steps_one a b (ap second e) i)
   step_one (Give a) (Give b) e = λ i. Give (term_code.inj a b (ap first e) i)
   step_one (Fail n) (Fail m) e = λ i. Fail (num (first (e i)))

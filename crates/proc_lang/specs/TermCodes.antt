@@ -58,8 +58,10 @@ term_one (Text x) (Text y) e = ap Text (numbers_code.inj x y (ap first e))
 term_one Me Me e = refl
 term_one (Named x n) (Named y m) e = λ i. Named ((source.the_row).coded.inj x y (ap first e) i) (num (second (e i)))
 term_one (Unary o a) (Unary p b) e = λ i. Unary ((unary.the_row).coded.inj o p (ap first e) i) (term_one a b (ap second e) i)
-term_one (Binary o a b) (Binary p c d) e = λ i. Binary ((binary.the_row).coded.inj o p (ap first e) i) (term_one a c (ap second e) i) (term_one b d (ap third e) i)
-term_one (MulDiv a b c) (MulDiv x y z) e = λ i. MulDiv (term_one a x (ap first e) i) (term_one b y (ap second e) i) (term_one c z (ap third e) i)
+term_one (Binary o a b) (Binary p c d) e =
+    λ i. Binary ((binary.the_row).coded.inj o p (ap first e) i) (term_one a c (ap second e) i) (term_one b d (ap third e) i)
+term_one (MulDiv a b c) (MulDiv x y z) e =
+    λ i. MulDiv (term_one a x (ap first e) i) (term_one b y (ap second e) i) (term_one c z (ap third e) i)
 term_one (Front a b n) (Front x y m) e = λ i. Front (term_one a x (ap first e) i) (term_one b y (ap second e) i) (num (third (e i)))
 term_one s t e = absurd (subst (λ g. T (tag (kept s) == tag g)) e tt)
 

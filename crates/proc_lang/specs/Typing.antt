@@ -1,7 +1,8 @@
 -- When a procedure is well typed under a schema, and else which statement fails first, and why. Statements are looked at in the
 -- order in which they are written, an `if` or `each` before its blocks. Of a statement the first failure counts: how deep it lies,
 -- its table, its key's length, its columns' number, its expressions from the left, their kinds, and the registers that it sets.
-use Rattle.std.specs.Prelude.{ℕ, ◌+◌, ◌==◌, ◌&&◌, Bool, true, false, not, nat_lt, is_some, List, [], ◌∷◌, ◌++◌, map, length, slice_get, slice_index_or, slice_set, Option, Some, None, Result}
+use Rattle.std.specs.Prelude.{ℕ, ◌+◌, ◌==◌, ◌&&◌, Bool, true, false, not, nat_lt, is_some, List, [], ◌∷◌, ◌++◌, map,
+    length, slice_get, slice_index_or, slice_set, Option, Some, None, Result}
 use Rattle.std.specs.declared.result.Result.TheVariants.{Ok, Err}
 use Rattle.std.specs.Result.{IsOk}
 use Rattle.std.specs.Cmp.Lexicographic.{pointwise}
@@ -136,7 +137,8 @@ agree takes kinds = got kinds (λ ks. wanted KIND (pointwise same_kind ks takes)
 
 -- a value of this kind into a register
 abbrev pub set_one : Scope → ℕ → Kind → Set → Typed Set
-set_one s n k set = got (found REGISTER (slice_get s.regs n)) (λ holds. got (wanted KIND (same_kind holds k)) (λ _. Ok (slice_set set n true)))
+set_one s n k set =
+    got (found REGISTER (slice_get s.regs n)) (λ holds. got (wanted KIND (same_kind holds k)) (λ _. Ok (slice_set set n true)))
 
 -- values of these kinds into registers, from the left
 abbrev pub set_all : Scope → List ℕ → List Kind → Set → Typed Set
@@ -154,7 +156,8 @@ set_in_both (x ∷ xs) (y ∷ ys) = (x && y) ∷ set_in_both xs ys
 
 -- the table, with as many key parts as it has
 abbrev pub keyed : Scope → ℕ → ℕ → Typed Table
-keyed s t parts = got (found UNKNOWN_TABLE (slice_get s.tables t)) (λ table. got (wanted KEY_LENGTH (parts == length table.key)) (λ _. Ok table))
+keyed s t parts =
+    got (found UNKNOWN_TABLE (slice_get s.tables t)) (λ table. got (wanted KEY_LENGTH (parts == length table.key)) (λ _. Ok table))
 
 -- and with as many columns
 abbrev pub shaped : Scope → ℕ → ℕ → ℕ → Typed Table
@@ -162,7 +165,8 @@ shaped s t parts columns = got (keyed s t parts) (λ table. got (wanted COLUMNS 
 
 -- a row into registers
 abbrev pub reads : Scope → ℕ → List Term → List ℕ → Set → Typed Set
-reads s t ks rs set = got (shaped s t (length ks) (length rs)) (λ table. got (agree table.key (kinds_after s set [] ks)) (λ _. set_all s rs table.cols set))
+reads s t ks rs set =
+    got (shaped s t (length ks) (length rs)) (λ table. got (agree table.key (kinds_after s set [] ks)) (λ _. set_all s rs table.cols set))
 
 -- and whether there was one, where that is told
 abbrev pub tells : Scope → Absence → Set → Typed Set
@@ -171,7 +175,9 @@ tells s (Fails code) set = Ok set
 tells s (Blanks flag) set = set_one s flag Int set
 
 abbrev pub writes : Scope → ℕ → List Term → List Term → Set → Typed Set
-writes s t ks es set = got (shaped s t (length ks) (length es)) (λ table. got (agree (table.key ++ table.cols) (got (kinds_after s set [] ks) (λ kinds. kinds_after s set kinds es))) (λ _. Ok set))
+writes s t ks es set =
+    got (shaped s t (length ks) (length es))
+    (λ table. got (agree (table.key ++ table.cols) (got (kinds_after s set [] ks) (λ kinds. kinds_after s set kinds es))) (λ _. Ok set))
 
 abbrev pub deletes : Scope → ℕ → List Term → Set → Typed Set
 deletes s t ks set = got (keyed s t (length ks)) (λ table. got (agree table.key (kinds_after s set [] ks)) (λ _. Ok set))

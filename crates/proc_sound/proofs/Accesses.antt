@@ -13,7 +13,7 @@ use Rattle.aria_base.specs.declared.keys.Part.TheVariants as part
 use Rattle.aria_base.specs.declared.schemas.Table.{Table}
 use Rattle.aria_base.specs.declared.values.Value.{Value}
 use Rattle.aria_base.specs.declared.values.Kind.{Kind}
-use Rattle.aria_base.specs.declared.limits.TheConstants.{MOST_PARTS, MOST_COLUMNS}
+use Rattle.aria_base.specs.declared.limits.TheConstants.{FEWEST_PARTS, MOST_PARTS, MOST_COLUMNS}
 use Rattle.proc_lang.specs.declared.flaws.TheConstants.{UNKNOWN_TABLE, KEY_LENGTH, COLUMNS, KIND}
 use Rattle.batch_rules.specs.Trees.{Reads, Writes}
 use Rattle.proc_lang.specs.Terms.{Term}
@@ -63,9 +63,9 @@ abbrev pub IsRow : Table → Option Cells → Type 0
 IsRow table None = ⊤
 IsRow table (Some row) = map value_kind row ≡ table.cols
 
-all_parts : (vs : List Value) → is_between 1 MOST_PARTS (length vs) ≡ true → parts_of vs ≡ map part_of vs
+all_parts : (vs : List Value) → is_between FEWEST_PARTS MOST_PARTS (length vs) ≡ true → parts_of vs ≡ map part_of vs
 all_parts vs e =
-    let are = and_parts (nat_le 1 (length vs)) (nat_le (length vs) MOST_PARTS) e in
+    let are = and_parts (nat_le FEWEST_PARTS (length vs)) (nat_le (length vs) MOST_PARTS) e in
     cond-true (nat_lt 0 (length vs) && nat_le (length vs) 5) (map part_of vs) (part.Int (pos 0) ∷ []) (and_from (nat_lt 0 (length vs)) (nat_le (length vs) 5) (lt-ltb 0 (length vs) (leb-true 1 (length vs) are.0)) are.1)
 
 pub count_of : (vs : List Value) (ks : List Kind) → map value_kind vs ≡ ks → length vs ≡ length ks
@@ -74,7 +74,7 @@ count_of vs ks e = sym (length-map vs value_kind) ∙ ap length e
 -- a row is written whole
 whole_row : (table : Table) → shape_fits table ≡ true → {c : Sure (List Value)} (v : Got (List Value)) → IsSure (Values table.cols) c v → IsSure (IsRow table) (and_then c (λ vs. Some (Ok (Some vs)))) (got (got v (λ vs. Ok (take 16 vs))) (λ row. Ok (Some row)))
 whole_row table shape (Ok vs) s =
-    let few = leb-true (length table.cols) MOST_COLUMNS (and_parts (is_between 1 MOST_PARTS (length table.key)) (nat_le (length table.cols) MOST_COLUMNS) shape).1 in
+    let few = leb-true (length table.cols) MOST_COLUMNS (and_parts (is_between FEWEST_PARTS MOST_PARTS (length table.key)) (nat_le (length table.cols) MOST_COLUMNS) shape).1 in
     let all : take 16 vs ≡ vs = take_all 16 vs (subst (λ n. n ≤ 16) (sym (count_of vs table.cols s.value)) few) in
     rw (s.same, all) (record { same = refl; value = s.value })
 whole_row table shape (Err e) s = rw s.same (record { same = refl; value = tt })
@@ -83,7 +83,7 @@ module _ {tables : List Table} {t parts : ℕ} {table : Table} (at : Keyed table
   key_sure : (ks : List Term) (kinds : List Kind) (f : Found r item plain careful [] ks kinds) → kinds ≡ table.key → IsSure (IsKey t table) (careful_key r item careful t ks) (key_from r item plain t ks)
   key_sure ks kinds f e = then_sure (Values f.more) (IsKey t table) (values_of r item plain ks) (λ vs. Some (Ok (record { table = t; parts = map part_of vs }))) (λ vs. Ok (record { table = t; parts = parts_of vs })) (f.sure []) (λ vs are.
       let kinds_are = are ∙ sym f.are ∙ e in
-      let all = all_parts vs (ap (is_between 1 MOST_PARTS) (count_of vs table.key kinds_are) ∙ (and_parts (is_between 1 MOST_PARTS (length table.key)) (nat_le (length table.cols) MOST_COLUMNS) at.shape).0) in
+      let all = all_parts vs (ap (is_between FEWEST_PARTS MOST_PARTS) (count_of vs table.key kinds_are) ∙ (and_parts (is_between FEWEST_PARTS MOST_PARTS (length table.key)) (nat_le (length table.cols) MOST_COLUMNS) at.shape).0) in
       record { same = ap (λ (ps : List _). Some (Ok (record { table = t; parts = ps }))) (sym all); value = record { table_is = refl; kinds_are = ap (map part_kind) all ∙ parts_kinds vs ∙ kinds_are } })
 
   -- of the statements that give only a key

@@ -14,7 +14,7 @@ use Rattle.aria_base.specs.declared.keys.Key.{Key}
 use Rattle.aria_base.specs.declared.schemas.Table.{Table}
 use Rattle.aria_base.specs.declared.values.Kind.{Kind}
 use Rattle.aria_base.specs.declared.values.Kind.TheVariants.{Int, Text}
-use Rattle.aria_base.specs.declared.limits.TheConstants.{MOST_PARTS, MOST_COLUMNS}
+use Rattle.aria_base.specs.declared.limits.TheConstants.{FEWEST_PARTS, MOST_PARTS, MOST_COLUMNS}
 use Rattle.proc_lang.specs.declared.ends.End.TheVariants as end
 use Rattle.proc_lang.specs.declared.procs.Proc.{Proc}
 use Rattle.proc_lang.specs.Values.{blank}
@@ -72,9 +72,9 @@ shapes_fit : (tables : List Table) → list_all table_fits tables ≡ true → l
 shapes_fit [] e = refl
 shapes_fit (t ∷ tables) e =
     let all = and_parts (table_fits t) (list_all table_fits tables) e in
-    let cols = and_parts (is_word t.name && is_between 1 MOST_PARTS (length t.key)) (nat_le (length t.cols) MOST_COLUMNS) all.0 in
-    let key = and_parts (is_word t.name) (is_between 1 MOST_PARTS (length t.key)) cols.0 in
-    and_from (shape_fits t) (list_all shape_fits tables) (and_from (is_between 1 MOST_PARTS (length t.key)) (nat_le (length t.cols) MOST_COLUMNS) key.1 cols.1) (shapes_fit tables all.1)
+    let cols = and_parts (is_word t.name && is_between FEWEST_PARTS MOST_PARTS (length t.key)) (nat_le (length t.cols) MOST_COLUMNS) all.0 in
+    let key = and_parts (is_word t.name) (is_between FEWEST_PARTS MOST_PARTS (length t.key)) cols.0 in
+    and_from (shape_fits t) (list_all shape_fits tables) (and_from (is_between FEWEST_PARTS MOST_PARTS (length t.key)) (nat_le (length t.cols) MOST_COLUMNS) key.1 cols.1) (shapes_fit tables all.1)
 
 -- a request that the catalogue takes suits its procedure
 called : (plan : Plan) (request : Request) → IsCatalog plan → takes plan request.call ≡ true → (p : Proc) × (slice_get plan.procs request.call.proc ≡ Some p) × Suits plan.tables p request

@@ -5,7 +5,8 @@
 --   at a key or a row that its table does not take, and at a row that is read into more or fewer registers than it has columns.
 -- A trap is an end like any other, and not stuck. Two bounds are not for typing to keep, and stand as they are: `front` takes no more
 -- than a text has, and a request number is far below 2^63.
-use Rattle.std.specs.Prelude.{ℕ, ℤ, pos, ◌+◌, ◌+ℤ◌, ◌-ℤ◌, ◌*ℤ◌, Bool, true, false, not, ◌&&◌, ◌||◌, nat_lt, int_lt, int_le, if◌then◌else◌, List, [], ◌∷◌, ◌++◌, length, map, slice_get, slice_index_or, slice_set, Option, Some, None}
+use Rattle.std.specs.Prelude.{ℕ, ℤ, pos, ◌+◌, ◌+ℤ◌, ◌-ℤ◌, ◌*ℤ◌, Bool, true, false, not, ◌&&◌, ◌||◌, nat_lt, int_lt,
+    int_le, if◌then◌else◌, List, [], ◌∷◌, ◌++◌, length, map, slice_get, slice_index_or, slice_set, Option, Some, None}
 use Rattle.std.specs.declared.result.Result.TheVariants.{Ok, Err}
 use Rattle.std.specs.Cmp.Lexicographic.{pointwise}
 use Rattle.std.specs.Fmt.{signed_decimal}
@@ -145,9 +146,13 @@ careful_value r item regs (term.Text bytes) = Some (Ok (value.Text bytes))
 careful_value r item regs term.Me = Some (Ok (me_of r.q))
 careful_value r item regs (term.Named from n) = careful_named r item regs from n
 careful_value r item regs (term.Unary o a) = and_then (careful_value r item regs a) (careful_unary o)
-careful_value r item regs (term.Binary o a b) = and_then (pair (careful_value r item regs a) (careful_value r item regs b)) (careful_binary o)
-careful_value r item regs (term.MulDiv a b c) = and_then (pair (pair (careful_value r item regs a) (careful_value r item regs b)) (careful_value r item regs c)) (on_three (λ x y z. divided (x *ℤ y) z))
-careful_value r item regs (term.Front a b n) = and_then (pair (careful_value r item regs a) (careful_value r item regs b)) (on_texts (λ x y. Ok (front x y n)))
+careful_value r item regs (term.Binary o a b) =
+    and_then (pair (careful_value r item regs a) (careful_value r item regs b)) (careful_binary o)
+careful_value r item regs (term.MulDiv a b c) =
+    and_then (pair (pair (careful_value r item regs a) (careful_value r item regs b)) (careful_value r item regs c))
+    (on_three (λ x y z. divided (x *ℤ y) z))
+careful_value r item regs (term.Front a b n) =
+    and_then (pair (careful_value r item regs a) (careful_value r item regs b)) (on_texts (λ x y. Ok (front x y n)))
 
 -- the values of a list, from the left, behind those that are done
 abbrev pub careful_values : Request → List ℤ → List (Option Value) → List Value → List Term → Sure (List Value)
@@ -155,7 +160,8 @@ careful_values r item regs done [] = Some (Ok done)
 careful_values r item regs done (t ∷ ts) = and_then (careful_value r item regs t) (λ v. careful_values r item regs (done ++ v ∷ []) ts)
 
 abbrev pub careful_key : Request → List ℤ → List (Option Value) → ℕ → List Term → Sure Key
-careful_key r item regs table ks = and_then (careful_values r item regs [] ks) (λ vs. Some (Ok (record { table = table; parts = map part_of vs })))
+careful_key r item regs table ks =
+    and_then (careful_values r item regs [] ks) (λ vs. Some (Ok (record { table = table; parts = map part_of vs })))
 
 abbrev pub careful_row : Request → List ℤ → List (Option Value) → List Term → Sure (Option Cells)
 careful_row r item regs es = and_then (careful_values r item regs [] es) (λ vs. Some (Ok (Some vs)))
@@ -176,7 +182,8 @@ has_columns table (Some row) = same_kinds (map value_kind row) table.cols
 
 -- the table is there, and takes the key and the row
 abbrev pub has_place : List Table → Key → Option Cells → Bool
-has_place tables key row = holds_of (slice_get tables key.table) (λ table. same_kinds (map part_kind key.parts) table.key && has_columns table row)
+has_place tables key row =
+    holds_of (slice_get tables key.table) (λ table. same_kinds (map part_kind key.parts) table.key && has_columns table row)
 
 -- the register is there, and takes the value
 abbrev pub fits_register : List Kind → ℕ → Value → Bool
@@ -211,7 +218,8 @@ checked false run = Ends None
 
 -- the test before an access
 abbrev pub counted : Next → Next
-counted go s = if nat_lt s.made MOST_ACCESSES then go (record { regs = s.regs; gives = s.gives; made = s.made + 1 }) else Ends (Some (end.Trap Many))
+counted go s = if nat_lt s.made MOST_ACCESSES then go (record { regs = s.regs; gives = s.gives; made = s.made + 1 })
+    else Ends (Some (end.Trap Many))
 
 abbrev pub reads : List Table → Sure Key → (State → Option Cells → Careful) → Next
 reads tables key go s = with key (λ key. checked (has_place tables key None) (counted (λ s. Reads key (go s)) s))
@@ -250,7 +258,9 @@ row_or kinds (Fails code) rs next = read_or kinds (end.Back code) rs next
 row_or kinds (Blanks flag) rs next = find_in kinds rs flag next
 
 abbrev pub gives : Next → State → Value → Careful
-gives next s v = if nat_lt (length s.gives) MOST_GIVEN then next (record { regs = s.regs; gives = s.gives ++ v ∷ []; made = s.made }) else Ends (Some (end.Trap Many))
+gives next s v =
+    if nat_lt (length s.gives) MOST_GIVEN then next (record { regs = s.regs; gives = s.gives ++ v ∷ []; made = s.made })
+    else Ends (Some (end.Trap Many))
 
 abbrev pub for_each : (List ℤ → Next → Next) → List (List ℤ) → Next → Next
 for_each body [] next s = next s
@@ -263,7 +273,9 @@ module _ (tables : List Table) (kinds : List Kind) (r : Request) where
     careful_step (step.Read absence t ks rs) item next s = reads tables (careful_key r item s.regs t ks) (row_or kinds absence rs next) s
     careful_step (step.Put t ks es) item next s = writes tables (careful_key r item s.regs t ks) (careful_row r item s.regs es) next s
     careful_step (step.Del t ks) item next s = writes tables (careful_key r item s.regs t ks) (Some (Ok None)) next s
-    careful_step (step.If e a b) item next s = with (and_then (careful_value r item s.regs e) as_int) (λ n. if is_true (value.Int n) then careful_steps a item next s else careful_steps b item next s)
+    careful_step (step.If e a b) item next s =
+        with (and_then (careful_value r item s.regs e) as_int)
+        (λ n. if is_true (value.Int n) then careful_steps a item next s else careful_steps b item next s)
     careful_step (step.Each n body) item next s = with (list_argument r n) (λ tuples. for_each (careful_steps body) tuples next s)
     careful_step (step.Give e) item next s = with (careful_value r item s.regs e) (gives next s)
     careful_step (step.Fail code) item next s = Ends (Some (end.Back code))

@@ -8,7 +8,7 @@ use Rattle.aria_base.specs.declared.calls.Request.{Request}
 use Rattle.batch_rules.specs.Trees.{trace_of, end_of, left_by}
 use Rattle.batch_rules.specs.Touches.{reads_of, writes_of, map_after}
 use Rattle.proc_lang.specs.declared.procs.Proc.{Proc}
-use Rattle.aria_base.specs.declared.limits.TheConstants.{MOST_PARTS, MOST_COLUMNS}
+use Rattle.aria_base.specs.declared.limits.TheConstants.{FEWEST_PARTS, MOST_PARTS, MOST_COLUMNS}
 use Rattle.proc_lang.specs.declared.limits.TheConstants.{MOST_ACCESSES}
 use Rattle.proc_lang.specs.Meaning.{Run, is_done}
 use Rattle.proc_lang.specs.Typing.{IsWellTyped}
@@ -17,7 +17,7 @@ use Rattle.proc_sound.specs.Careful.{Careful}
 
 -- keys and rows of the table are within the limits of keys and of rows
 abbrev pub shape_fits : Table → Bool
-shape_fits t = is_between 1 MOST_PARTS (length t.key) && nat_le (length t.cols) MOST_COLUMNS
+shape_fits t = is_between FEWEST_PARTS MOST_PARTS (length t.key) && nat_le (length t.cols) MOST_COLUMNS
 
 -- the procedure is well typed under the tables, and the request's arguments fit it
 pub record Suits (tables : List Table) (p : Proc) (request : Request) : Type 0 where

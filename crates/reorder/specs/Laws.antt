@@ -15,4 +15,5 @@ PlacedNames verdict_of list = Names list (placed_tids (map verdict_of list)) (pl
 
 -- of a batch's entries they name the printed order
 abbrev pub OrderedNames : {K Q A : Type 0} → List (Entry K Q A) → Type 0
-OrderedNames entries = Names entries (ordered_tids (map (λ e. e.judged.verdict) entries) (map (λ e. has_ended e.fate) entries)) (ordered entries)
+OrderedNames entries =
+    Names entries (ordered_tids (map (λ e. e.judged.verdict) entries) (map (λ e. has_ended e.fate) entries)) (ordered entries)

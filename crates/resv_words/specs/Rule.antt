@@ -17,7 +17,8 @@ view share marks = record { share = share; marks = marks }
 
 -- a mark at the place puts this number there, in some seat's view
 abbrev pub IsPut : ℕ → ℕ → List View → ℕ → Type 0
-IsPut tag place views number = (seat : ℕ) × (v : View) × (tid : ℕ) × (get_elem? views seat ≡ some v) × IsMarked place v.marks tid × (number ≡ number_under tag tid)
+IsPut tag place views number = (seat : ℕ) × (v : View) × (tid : ℕ) × (get_elem? views seat ≡ some v)
+    × IsMarked place v.marks tid × (number ≡ number_under tag tid)
 
 -- what a word comes down to: the least of what it began with and what was put at its place
 pub record IsLeastPut (old : List ℕ) (tag place : ℕ) (views : List View) (word : ℕ) : Type 0 where

@@ -60,6 +60,7 @@ pub record Tells (closed : ClosedWords) (words : List ℕ) : Type 0 where
   pub words_are : AreWords closed.old closed.tag closed.keys closed.marks words
   pub stand : StandFor closed.tag closed.keys closed.marks words
   -- the marks count as a set, whoever made them and in whatever order
-  pub as_set : (marks : List Mark) → SameMarks closed.marks marks → AreWords closed.old closed.tag closed.keys marks words × StandFor closed.tag closed.keys marks words
+  pub as_set : (marks : List Mark) → SameMarks closed.marks marks
+      → AreWords closed.old closed.tag closed.keys marks words × StandFor closed.tag closed.keys marks words
   -- the words can be the old numbers of words under any lesser tag
   pub later : (tag : ℕ) → tag < closed.tag → AreAbove tag words

@@ -22,7 +22,8 @@ IsReadCause stop.NoRead source sink disk = source
 
 -- what is left behind a stop at the later state is left behind a stop at the earlier one
 abbrev pub Back : {R D : Type 0} → (R → Stop → Option (List ℕ) → D → Type 0) → R → R → Type 0
-Back {D = D} left later earlier = (why : Stop) (given : Option (List ℕ)) (disk : D) → left later why given disk → left earlier why given disk
+Back {D = D} left later earlier = (why : Stop) (given : Option (List ℕ)) (disk : D) → left later why given disk
+    → left earlier why given disk
 
 -- no byte was past a bound, and so far the text is taken
 abbrev pub IsTaken : Scan → Feed → Type 0

@@ -57,19 +57,22 @@ abbrev pub IsToldOf : {R : Type 0} → (List ℕ → Course R) → Option (List 
 IsToldOf told left rest old new = (text : List ℕ) × Consumes left rest text × IsSoFar (told text) old new
 
 -- so it is where the source failed
-abbrev pub ToldWhere : {R : Type 0} → (List ℕ → Course R) → Option (List ℕ) → Option (List ℕ) → Option (List ℕ) → Option (List ℕ) → Stop → Type 0
+abbrev pub ToldWhere : {R : Type 0} → (List ℕ → Course R) → Option (List ℕ) → Option (List ℕ) → Option (List ℕ)
+    → Option (List ℕ) → Stop → Type 0
 ToldWhere told left rest old new stop.Refused = Unit {0}
 ToldWhere told left rest old new stop.NoMemory = Unit {0}
 ToldWhere told left rest old new stop.NoWrite = Unit {0}
 ToldWhere told left rest old new stop.NoDisk = Unit {0}
 ToldWhere told left rest old new stop.NoRead = IsToldOf told left rest old new
 
-abbrev pub Tells : {A R : Type 0} → (List ℕ → Course R) → Option (List ℕ) → Option (List ℕ) → Option (List ℕ) → Option (List ℕ) → Result A Stop → Type 0
+abbrev pub Tells : {A R : Type 0} → (List ℕ → Course R) → Option (List ℕ) → Option (List ℕ) → Option (List ℕ)
+    → Option (List ℕ) → Result A Stop → Type 0
 Tells told left rest old new (Ok r) = Unit {0}
 Tells told left rest old new (Err why) = ToldWhere told left rest old new why
 
 -- what a reading comes to, where the source tells what it had
-abbrev pub Comes : {R : Type 0} → (List ℕ → Course R) → (List ℕ → Course R) → Option (List ℕ) → Option (List ℕ) → Option (List ℕ) → Option (List ℕ) → Result R Stop → Type 0
+abbrev pub Comes : {R : Type 0} → (List ℕ → Course R) → (List ℕ → Course R) → Option (List ℕ) → Option (List ℕ)
+    → Option (List ℕ) → Option (List ℕ) → Result R Stop → Type 0
 Comes told whole left rest old new result = IfSome left (λ text. Reaches (whole text) old new result) × Tells told left rest old new result
 
 -- to read the rest of a text from here is to read the whole from there
@@ -93,5 +96,7 @@ Finishes out old new (Ok status) = (out.status ≡ status) × Appends old new ou
 Finishes out old new (Err why) = FinishesCut out old new why
 
 -- what a command comes to, where the source tells what it had
-abbrev pub Completes : {R : Type 0} → (List ℕ → Course R) → (List ℕ → Out) → Option (List ℕ) → Option (List ℕ) → Option (List ℕ) → Option (List ℕ) → Result ℕ Stop → Type 0
-Completes told whole left rest old new result = IfSome left (λ text. Finishes (whole text) old new result) × Tells told left rest old new result
+abbrev pub Completes : {R : Type 0} → (List ℕ → Course R) → (List ℕ → Out) → Option (List ℕ) → Option (List ℕ)
+    → Option (List ℕ) → Option (List ℕ) → Result ℕ Stop → Type 0
+Completes told whole left rest old new result = IfSome left (λ text. Finishes (whole text) old new result)
+    × Tells told left rest old new result

@@ -11,4 +11,5 @@ abbrev pub entry_code : Coded (Key × Cells)
 entry_code = coded× (key.the_row).coded cells_code
 
 abbrev pub piece_code : Coded Piece
-piece_code = code_by (ℕ × Database) (coded× coded_ℕ database_code) (λ p. (p.number, p.rows)) (λ p. record { number = p.0; rows = p.1 }) (λ _. refl)
+piece_code =
+    code_by (ℕ × Database) (coded× coded_ℕ database_code) (λ p. (p.number, p.rows)) (λ p. record { number = p.0; rows = p.1 }) (λ _. refl)

@@ -20,7 +20,8 @@ abbrev Stored : Type 0
 Stored = Database × (List Key × List (Key × Option Cells))
 
 abbrev stored_code : Coded Stored
-stored_code = coded× database_code (coded× (coded_list (key.the_row).coded) (coded_list (coded× (key.the_row).coded (coded_option cells_code))))
+stored_code =
+    coded× database_code (coded× (coded_list (key.the_row).coded) (coded_list (coded× (key.the_row).coded (coded_option cells_code))))
 
 abbrev pub layer_code : Coded Layer
 layer_code =

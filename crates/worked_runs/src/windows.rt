@@ -9,7 +9,7 @@ ghost use Rattle.batch_rules.specs.Touches.{nothing};
 
 use crate::catalogs::{Given, NONE, catalog, declared, request};
 use crate::words::{change_words, end_words, key_words, listed, moved_words};
-use aria_base::{Duplicate, Key, Memory, Row, copy_key, same_key};
+use aria_base::{Duplicate, Key, Memory, Row, same_key};
 use proc_exec::{Ran, interpret, interpret_within};
 use proc_lang::Access;
 use std::alloc::{AllocError, Global};
@@ -33,7 +33,7 @@ impl Access for Window {
         for visit in &self.visits {
             found = row_after(self.alloc, found, visit, key)?;
         }
-        let key = copy_key(self.alloc, key)?;
+        let key = key.duplicate(self.alloc)?;
         self.visits.push((key, None))?;
         Ok(found)
     }
