@@ -1,33 +1,8 @@
 -- The reservation words of a batch. Each key number k has two places: 2 * k for the requests that write the key,
 -- and 2 * k + 1 for those that read it.
 -- A word says which TID is the least that is marked at its place. It says so under a tag, so that words of another tag say nothing.
-use Rattle.std.specs.Prelude.{
-  ◌≡◌,
-  ℕ,
-  ◌+◌,
-  ◌-◌,
-  ◌*◌,
-  ◌/◌,
-  ◌%◌,
-  ◌^◌,
-  ◌<◌,
-  ◌≤◌,
-  ◌↔◌,
-  ◌==◌,
-  if◌then◌else◌,
-  min,
-  List,
-  [],
-  ◌∷◌,
-  length,
-  slice_index,
-  slice_index_or,
-  All,
-  Contains,
-  Option,
-  None,
-  Some,
-}
+use Rattle.std.specs.Prelude.{◌≡◌, ℕ, ◌+◌, ◌-◌, ◌*◌, ◌/◌, ◌%◌, ◌^◌, ◌<◌, ◌≤◌, ◌↔◌, ◌==◌, if◌then◌else◌, min, List, [], ◌∷◌}
+use Rattle.std.specs.Prelude.{length, slice_index, slice_index_or, All, Contains, Option, None, Some}
 use Rattle.std.specs.Option.{option_map_or}
 use Rattle.aria_base.specs.declared.limits.TheConstants.{MOST_REQUESTS, TAG_SPAN}
 use Rattle.aria_base.specs.declared.marks.Mark.{Mark}

@@ -23,8 +23,14 @@ use Rattle.aria_top.specs.Out.{never}
 use Rattle.aria_top.specs.declared.engines.Engine.{Engine}
 
 abbrev pub state_of : Engine → State
-state_of engine = record { rule = Plain; percent = never; rows = engine.tables; waiting = engine.waiting.items;
-    batches = engine.batches; requests = engine.requests }
+state_of engine = record {
+  rule = Plain;
+  percent = never;
+  rows = engine.tables;
+  waiting = engine.waiting.items;
+  batches = engine.batches;
+  requests = engine.requests;
+}
 
 abbrev pub executed_at : Plan → Database → Request → Request × Outcome
 executed_at plan start request = (request, outcome_at (run_of plan) start request)

@@ -1,6 +1,6 @@
 -- What a whole script says.
-use Rattle.std.specs.Prelude.{ℕ, ◌+◌, ◌-◌, Bool, ◌&&◌, ◌==◌, nat_lt, nat_le, if◌then◌else◌, List, [], ◌∷◌, ◌++◌, length,
-    take, slice_index, Option, Some, None, option_and_then, codes, bytes_eq}
+use Rattle.std.specs.Prelude.{ℕ, ◌+◌, ◌-◌, Bool, ◌&&◌, ◌==◌, nat_lt, nat_le, if◌then◌else◌, List, [], ◌∷◌, ◌++◌, length, take}
+use Rattle.std.specs.Prelude.{slice_index, Option, Some, None, option_and_then, codes, bytes_eq}
 use Rattle.std.specs.List.{slice_split}
 use Rattle.aria_base.specs.Orders.{Cells}
 use Rattle.aria_base.specs.declared.keys.Key.{Key}

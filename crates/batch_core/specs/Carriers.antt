@@ -28,4 +28,4 @@ module _ {O : Type 0} (tree : Request → Tree Key Cells End) (request_of : O �
   abbrev pub StepsBy : State → Handed → Type 0
   StepsBy state handed = Carries tree state.rows request_of by of
       → IsStep tree request_of state handed
-          (batch_by by is_done (λ o. tree (request_of o)) handed.rule handed.percent state.rows (map of (list_of state handed)))
+      (batch_by by is_done (λ o. tree (request_of o)) handed.rule handed.percent state.rows (map of (list_of state handed)))

@@ -12,7 +12,7 @@ use Rattle.batch_core.specs.Steps.{State}
 abbrev pub state_code : Coded State
 state_code = code_by (((Rule × ℕ) × (Database × List Request)) × (ℕ × ℕ))
     (coded× (coded× (coded× (rule.the_row).coded coded_ℕ) (coded× database_code (coded_list (request.the_row).coded)))
-        (coded× coded_ℕ coded_ℕ))
+    (coded× coded_ℕ coded_ℕ))
     (λ s. (((s.rule, s.percent), (s.rows, s.waiting)), (s.batches, s.requests)))
     (λ p. record { rule = p.0.0.0; percent = p.0.0.1; rows = p.0.1.0; waiting = p.0.1.1; batches = p.1.0; requests = p.1.1 })
     (λ _. refl)

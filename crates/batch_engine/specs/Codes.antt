@@ -33,7 +33,7 @@ marks_code = code_by (Sheet × ClosedWords) (coded× sheet_code closed_code) (λ
 abbrev pub between_code : Coded Between
 between_code = code_by (((Plan × Database) × (List Request × (ℕ × ℕ))) × Option Marks)
     (coded× (coded× (coded× plan_code database_code)
-        (coded× (coded_list (request.the_row).coded) (coded× coded_ℕ coded_ℕ))) (coded_option marks_code))
+    (coded× (coded_list (request.the_row).coded) (coded× coded_ℕ coded_ℕ))) (coded_option marks_code))
     (λ e. (((e.plan, e.rows), (e.carried, (e.batches, e.requests))), e.marked))
     (λ p. record { plan = p.0.0.0; rows = p.0.0.1; carried = p.0.1.0; batches = p.0.1.1.0; requests = p.0.1.1.1; marked = p.1 })
     (λ _. refl)

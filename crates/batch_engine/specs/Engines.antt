@@ -24,8 +24,14 @@ pub record Between : Type 0 where
 
 -- the state that it stands for, with these settings
 abbrev pub state_in : Config → Between → State
-state_in config engine = record { rule = config.rule; percent = config.fallback; rows = engine.rows;
-    waiting = engine.carried; batches = engine.batches; requests = engine.requests }
+state_in config engine = record {
+  rule = config.rule;
+  percent = config.fallback;
+  rows = engine.rows;
+  waiting = engine.carried;
+  batches = engine.batches;
+  requests = engine.requests;
+}
 
 -- new calls with the settings of their batch
 abbrev pub handed_by : Config → List Call → Handed

@@ -3,8 +3,8 @@
 -- O is whatever carries a request and what its run on the batch's start came to: in code that ran its requests the outcomes that it
 -- has in its hands; in the definition of a batch the request itself, since its tree and the start tell the rest.
 -- `is_done` tells an end that installs the writes from a failure or a trap.
-use Rattle.std.specs.Prelude.{ℕ, ◌+◌, ◌*◌, List, [], ◌∷◌, ◌++◌, reverse, length, drop, Option, Some, None, Bool, true,
-    false, ◌&&◌, if◌then◌else◌, nat_lt, nat_le}
+use Rattle.std.specs.Prelude.{ℕ, ◌+◌, ◌*◌, List, [], ◌∷◌, ◌++◌, reverse, length, drop, Option, Some, None, Bool, true, false}
+use Rattle.std.specs.Prelude.{◌&&◌, if◌then◌else◌, nat_lt, nat_le}
 use Rattle.std.specs.declared.cmp.Ordering.{Ordering}
 use Rattle.std.specs.List.{filter}
 use Rattle.std.specs.FinMap.{FinMap}

@@ -1,6 +1,6 @@
 -- The laws of a batch, as sentences over the definitions.
-use Rattle.std.specs.Prelude.{◌≡◌, ◌↔◌, ⊤, ℕ, ◌+◌, ◌-◌, ◌<◌, ◌≤◌, List, [], ◌++◌, map, length, slice_index_or, Option,
-    Some, None, Bool, true, false, IsSomeAnd, slice_get}
+use Rattle.std.specs.Prelude.{◌≡◌, ◌↔◌, ⊤, ℕ, ◌+◌, ◌-◌, ◌<◌, ◌≤◌, List, [], ◌++◌, map, length, slice_index_or, Option, Some, None}
+use Rattle.std.specs.Prelude.{Bool, true, false, IsSomeAnd, slice_get}
 use Rattle.std.specs.declared.cmp.Ordering.{Ordering}
 use Rattle.std.specs.FinMap as fin
 use Rattle.std.specs.FinMap.{FinMap, find}
@@ -13,12 +13,12 @@ use Rattle.batch_rules.specs.declared.verdicts.Cause.TheVariants.{Waw, Raw, Both
 use Rattle.batch_rules.specs.declared.verdicts.Verdict.{Verdict}
 use Rattle.batch_rules.specs.declared.verdicts.Verdict.TheVariants.{Finish, Wait}
 use Rattle.batch_rules.specs.Verdicts.{Dependencies, finishes, meets, verdict_on}
-use Rattle.batch_rules.specs.Batches.{Carrier, Judged, Entry, Batch, Ended, ordered, carried, decided, judged, written,
-    after_commit, batch_by, read_through, entry_through}
+use Rattle.batch_rules.specs.Batches.{Carrier, Judged, Entry, Batch, Ended, ordered, carried, decided, judged, written}
+use Rattle.batch_rules.specs.Batches.{after_commit, batch_by, read_through, entry_through}
 use Rattle.batch_rules.specs.Serials.{serial_ends, serial_map}
 use Rattle.batch_rules.specs.Trees.{Tree, trace_of, end_of}
-use Rattle.batch_rules.specs.Touches.{Declared, keys_of, is_among, may_read, may_write, reads_of, writes_of, map_after,
-    outside, overwritten}
+use Rattle.batch_rules.specs.Touches.{Declared, keys_of, is_among, may_read, may_write, reads_of, writes_of, map_after, outside}
+use Rattle.batch_rules.specs.Touches.{overwritten}
 
 module _ {K V : Type 0} {R : K → K → Ordering} where
   -- the databases have the same row, or none, at each of the keys

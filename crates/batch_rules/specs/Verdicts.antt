@@ -54,8 +54,11 @@ verdict_on on rule earlier me = verdict_by rule (least (on.waw me) earlier) (lea
 
 -- the same dependencies of values that these are made of
 abbrev pub through : {S Z : Type 0} → (Z → S) → Dependencies S → Dependencies Z
-through of on = record { waw = λ me other. on.waw (of me) (of other); raw = λ me other. on.raw (of me) (of other);
-    war = λ me other. on.war (of me) (of other) }
+through of on = record {
+  waw = λ me other. on.waw (of me) (of other);
+  raw = λ me other. on.raw (of me) (of other);
+  war = λ me other. on.war (of me) (of other);
+}
 
 -- whether two lists have a common key
 abbrev pub meets : {K : Type 0} (R : K → K → Ordering) → List K → List K → Bool

@@ -58,4 +58,4 @@ pub record IsInWaves {K V W A : Type 0} {R : K → K → Ordering} (is_done : A 
       (waved R declared_of [] ws) ≡ late_fates is_done declared_of tree db ws
   pub left : (n : ℕ) → All (λ e. e.wave < n) (waved R declared_of [] ws)
       → found is_done (λ e. declared_of e.item) (λ e. tree e.item) (λ e. e.wave) db (waved R declared_of [] ws) n
-          ≡ late_left is_done declared_of tree db ws
+      ≡ late_left is_done declared_of tree db ws

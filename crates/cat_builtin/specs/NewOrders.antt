@@ -7,8 +7,8 @@ use Rattle.proc_lang.specs.Terms.{Term, Text, MulDiv}
 use Rattle.proc_lang.specs.Steps.{Step, Let, Put, If, Each, Give}
 use Rattle.proc_lang.specs.Syntax.{in_turn}
 use Rattle.cat_builtin.specs.Words.{Reg, Arg, Item, Len, Add, Sub, Mul, Eq, Ne, Le, And, Get, Need, all_ints, with_text, int, more, raise}
-use Rattle.cat_builtin.specs.Warehouses.{districts, customers, open_orders, orders, order_lines, items, stocks,
-    warehouse, district, w_tax, d_tax, d_ytd, d_next_o_id, read_warehouse, read_district}
+use Rattle.cat_builtin.specs.Warehouses.{districts, customers, open_orders, orders, order_lines, items, stocks, warehouse}
+use Rattle.cat_builtin.specs.Warehouses.{district, w_tax, d_tax, d_ytd, d_next_o_id, read_warehouse, read_district}
 
 -- ---- the further arguments, and the numbers of a line
 

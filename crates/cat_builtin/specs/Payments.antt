@@ -7,8 +7,8 @@ use Rattle.proc_lang.specs.Terms.{Term, Text, Me, Front}
 use Rattle.proc_lang.specs.Steps.{Step, Let, Put, If, Give}
 use Rattle.proc_lang.specs.Syntax.{in_turn}
 use Rattle.cat_builtin.specs.Words.{Reg, Arg, Sub, Div, Eq, Cat, Show, Get, Need, all_ints, with_text, int_args, int, more}
-use Rattle.cat_builtin.specs.Warehouses.{warehouses, districts, customers, payments, name_counts, name_places,
-    warehouse, district, w_tax, w_ytd, d_tax, d_ytd, d_next_o_id, read_warehouse, read_district}
+use Rattle.cat_builtin.specs.Warehouses.{warehouses, districts, customers, payments, name_counts, name_places, warehouse}
+use Rattle.cat_builtin.specs.Warehouses.{district, w_tax, w_ytd, d_tax, d_ytd, d_next_o_id, read_warehouse, read_district}
 
 -- ---- the further arguments
 
@@ -120,7 +120,7 @@ balance_after = Sub (Reg c_balance) amount
 abbrev pub pay_customer : Step
 pay_customer = Put customers customer_key
     (Reg c_last ∷ Reg c_first ∷ Reg c_credit ∷ Reg c_discount ∷ balance_after ∷ more c_ytd_payment amount
-        ∷ more c_payment_cnt (int 1) ∷ Reg data_after ∷ [])
+    ∷ more c_payment_cnt (int 1) ∷ Reg data_after ∷ [])
 
 -- ---- the whole
 

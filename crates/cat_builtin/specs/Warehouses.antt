@@ -46,7 +46,7 @@ tables =
     table_of (codes "warehouse") 1 (all_ints 2)  -- w: w_tax, w_ytd
     ∷ table_of (codes "district") 2 (all_ints 3)  -- w d: d_tax, d_ytd, d_next_o_id
     ∷ table_of (codes "customer") 3 (with_text 7 (all_ints 8))  -- w d c: c_last, c_first, c_credit (1 is bad), c_discount,
-                                                                -- c_balance, c_ytd_payment, c_payment_cnt, c_data
+    -- c_balance, c_ytd_payment, c_payment_cnt, c_data
     ∷ table_of (codes "history") 1 (all_ints 7)  -- number of the request: h_c_id, h_c_d_id, h_c_w_id, h_d_id, h_w_id, h_date, h_amount
     ∷ table_of (codes "new_order") 3 (all_ints 0)  -- w d o: none
     ∷ table_of (codes "orders") 3 (all_ints 5)  -- w d o: o_c_id, o_entry_d, o_carrier_id (0 is none), o_ol_cnt, o_all_local

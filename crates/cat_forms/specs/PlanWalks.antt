@@ -42,22 +42,22 @@ abbrev pub three_members : Member → Member → Member → Data → Option (Dat
 three_members a b c d =
     if member_count d == 3
     then option_and_then
-      (λ x. option_and_then
-        (λ y. option_and_then (λ z. Some (x, y, z)) (get (member_name c) d))
-        (get (member_name b) d))
-      (get (member_name a) d)
+    (λ x. option_and_then
+    (λ y. option_and_then (λ z. Some (x, y, z)) (get (member_name c) d))
+    (get (member_name b) d))
+    (get (member_name a) d)
     else None
 
 abbrev pub four_members : Member → Member → Member → Member → Data → Option (Data × Data × Data × Data)
 four_members a b c e d =
     if member_count d == 4
     then option_and_then
-      (λ w. option_and_then
-        (λ x. option_and_then
-          (λ y. option_and_then (λ z. Some (w, x, y, z)) (get (member_name e) d))
-          (get (member_name c) d))
-        (get (member_name b) d))
-      (get (member_name a) d)
+    (λ w. option_and_then
+    (λ x. option_and_then
+    (λ y. option_and_then (λ z. Some (w, x, y, z)) (get (member_name e) d))
+    (get (member_name c) d))
+    (get (member_name b) d))
+    (get (member_name a) d)
     else None
 
 -- ---- names and kinds

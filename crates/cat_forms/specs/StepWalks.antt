@@ -1,7 +1,7 @@
 -- The walk through a procedure's body. Each statement's form comes first, then its operands from the front. A plain operand of the
 -- wrong form is a fault of its statement. The walk counts statements, those in blocks included, and stops at one too many.
-use Rattle.std.specs.Prelude.{ℕ, ◌+◌, nat_lt, List, [], ◌∷◌, ◌++◌, if◌then◌else◌, position, Option, Some, option_map,
-    option_and_then, unwrap_or}
+use Rattle.std.specs.Prelude.{ℕ, ◌+◌, nat_lt, List, [], ◌∷◌, ◌++◌, if◌then◌else◌, position, Option, Some, option_map}
+use Rattle.std.specs.Prelude.{option_and_then, unwrap_or}
 use Rattle.std.specs.declared.result.Result.TheVariants.{Ok, Err}
 use Rattle.std.specs.Str.{bytes_eq}
 use Rattle.aria_base.specs.declared.schemas.Table.{Table}

@@ -32,8 +32,14 @@ rule_byte Reorder = 1
 
 -- the head that sound fields stand for
 abbrev pub head_in : Fields → Head
-head_in f = record { format = f.format; rule = rule_of f.rule; fallback = f.fallback; generation = f.generation;
-    batches = f.batches; requests = f.requests }
+head_in f = record {
+  format = f.format;
+  rule = rule_of f.rule;
+  fallback = f.fallback;
+  generation = f.generation;
+  batches = f.batches;
+  requests = f.requests;
+}
 
 -- the fields that a head is written as, before a body of so many bytes
 abbrev pub fields_for : Head → ℕ → Fields
@@ -52,4 +58,4 @@ fields_for h body = record {
 abbrev pub head_bytes : Head → ℕ → List ℕ
 head_bytes h body =
     little_bytes 4 magic ++ h.format ∷ rule_byte h.rule ∷ h.fallback ∷ little_bytes 8 h.generation
-        ++ little_bytes 8 h.batches ++ little_bytes 8 h.requests ++ little_bytes 8 body
+    ++ little_bytes 8 h.batches ++ little_bytes 8 h.requests ++ little_bytes 8 body

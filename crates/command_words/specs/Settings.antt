@@ -1,6 +1,6 @@
 -- The settings of a line, by its command.
-use Rattle.std.specs.Prelude.{ℕ, ◌+◌, ◌*◌, nat_le, if◌then◌else◌, List, [], ◌∷◌, find, Option, Some, None,
-    option_and_then, option_map, codes, bytes_eq}
+use Rattle.std.specs.Prelude.{ℕ, ◌+◌, ◌*◌, nat_le, if◌then◌else◌, List, [], ◌∷◌, find, Option, Some, None, option_and_then}
+use Rattle.std.specs.Prelude.{option_map, codes, bytes_eq}
 use Rattle.command_words.specs.declared.settings.Amount.{Amount}
 use Rattle.command_words.specs.declared.settings.Accesses.{Accesses}
 use Rattle.command_words.specs.declared.settings.Stock.{Stock}

@@ -1,6 +1,6 @@
 -- What the machine in code is after events: it has what the definition's machine holds.
-use Rattle.std.specs.Prelude.{◌≡◌, ◌↔◌, ⊤, ℕ, ◌+◌, ◌-◌, ◌^◌, ◌<◌, ◌≤◌, ◌&&◌, ◌==◌, not, min, List, [], ◌∷◌, ◌++◌,
-    length, map, take, slice_get, slice_set, Option, Some, None, Bool, true, false, is_some, Contains}
+use Rattle.std.specs.Prelude.{◌≡◌, ◌↔◌, ⊤, ℕ, ◌+◌, ◌-◌, ◌^◌, ◌<◌, ◌≤◌, ◌&&◌, ◌==◌, not, min, List, [], ◌∷◌, ◌++◌, length, map}
+use Rattle.std.specs.Prelude.{take, slice_get, slice_set, Option, Some, None, Bool, true, false, is_some, Contains}
 use Rattle.std.specs.Option.{option_map}
 use Rattle.aria_base.specs.Orders.{key_cmp, Cells, Database}
 use Rattle.aria_base.specs.Reserved.{number_under}

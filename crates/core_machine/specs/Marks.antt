@@ -43,5 +43,5 @@ module _ {K V Q A : Type 0} {R : K → K → Ordering} (is_done : A → Bool) (t
       length list ≤ MOST_REQUESTS → tag < TAGS → AreAbove tag old → IsSheet sheet
       → IsOneToOneOn R keys number → IsNumbered R by.reads (written by) keys number list sheet
       → AreMarksOf sheet marks → AreWords old tag sheet.keys marks words → IsLegal R by rule list at_first es
-          → 1 < (all_along at_first es).phase
+      → 1 < (all_along at_first es).phase
       → AreHeld R by list number words (steps by rule tag start list first (begun by rule tag start list first) es)

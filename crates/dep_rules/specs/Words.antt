@@ -1,6 +1,6 @@
 -- A batch's reservation words as they are read for the decision of one request.
-use Rattle.std.specs.Prelude.{◌≡◌, ◌<◌, ℕ, ◌+◌, ◌*◌, ◌-◌, Option, None, Some, if◌then◌else◌, min, nat_lt, List, [], ◌∷◌,
-    length, slice_index}
+use Rattle.std.specs.Prelude.{◌≡◌, ◌<◌, ℕ, ◌+◌, ◌*◌, ◌-◌, Option, None, Some, if◌then◌else◌, min, nat_lt, List, [], ◌∷◌, length}
+use Rattle.std.specs.Prelude.{slice_index}
 use Rattle.std.specs.List.{range_with_len}
 use Rattle.std.specs.Ordering.{nat_cmp}
 use Rattle.aria_base.specs.Reserved.{tid_under}

@@ -1,6 +1,6 @@
 -- One file of a disk: what a read gives, what is stable, and what a stop may leave of it.
-use Rattle.std.specs.Prelude.{◌≡◌, ℕ, ◌+◌, ◌<◌, ◌≤◌, max, List, [], ◌∷◌, ◌++◌, length, take, drop, slice_index, Bool,
-    false, ◌||◌, ◌&&◌, nat_le, nat_lt}
+use Rattle.std.specs.Prelude.{◌≡◌, ℕ, ◌+◌, ◌<◌, ◌≤◌, max, List, [], ◌∷◌, ◌++◌, length, take, drop, slice_index, Bool, false, ◌||◌}
+use Rattle.std.specs.Prelude.{◌&&◌, nat_le, nat_lt}
 
 pub record File : Type 0 where
   -- what a read gives

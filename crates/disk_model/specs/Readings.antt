@@ -1,7 +1,7 @@
 -- What a read gives of a disk in memory is one of its images. This is the proof of a law, which stands beside what it is
 -- about: all other proofs are in proofs/.
-use Rattle.std.proofs.Common.{◌≡◌, ℕ, ◌+◌, ◌<◌, ◌≤◌, slice_index_or, List, [], ◌∷◌, ◌++◌, length, take, drop, get_or,
-    Bool, true, false, refl, ◌∙◌, arith, inl, inr, length-append, length-take, length-drop}
+use Rattle.std.proofs.Common.{◌≡◌, ℕ, ◌+◌, ◌<◌, ◌≤◌, slice_index_or, List, [], ◌∷◌, ◌++◌, length, take, drop, get_or, Bool, true}
+use Rattle.std.proofs.Common.{false, refl, ◌∙◌, arith, inl, inr, length-append, length-take, length-drop}
 use Rattle.std.specs.Prelude.{nat_le, nat_lt, ◌&&◌, ◌||◌, ◌==◌, if◌then◌else◌}
 use Rattle.std.proofs.lemmas.Bool.{cases_lt}
 use Rattle.std.proofs.lemmas.Bool.Decides.{nat_tests}
@@ -15,8 +15,13 @@ untouched_reads bytes = record { long = omega arith; short = λ none. omega arit
 
 length_put : (old : List ℕ) (at : ℕ) (bytes : List ℕ) → length old ≤ length (put old at bytes)
 length_put old at bytes =
-    omega (arith, length-append (take at old ++ bytes) (drop (at + length bytes) old),
-        length-append (take at old) bytes, length-take at old, length-drop (at + length bytes) old)
+    omega (
+      arith,
+      length-append (take at old ++ bytes) (drop (at + length bytes) old),
+      length-append (take at old) bytes,
+      length-take at old,
+      length-drop (at + length bytes) old,
+    )
 
 outside_put : (old : List ℕ) (at : ℕ) (bytes : List ℕ) (place : ℕ) → place < length old
     → nat_le at place && nat_lt place (at + length bytes) ≡ false → get_or (put old at bytes) place 0 ≡ get_or old place 0

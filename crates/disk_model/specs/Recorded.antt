@@ -1,6 +1,6 @@
 -- A disk in memory: the four files that it began with, and all calls since.
-use Rattle.std.specs.Prelude.{◌≡◌, ℕ, ◌+◌, ◌<◌, ◌≤◌, ◌==◌, List, [], ◌∷◌, ◌++◌, length, take, slice_index_or,
-    if◌then◌else◌, Bool, not, ◌&&◌, nat_le, nat_lt, Some}
+use Rattle.std.specs.Prelude.{◌≡◌, ℕ, ◌+◌, ◌<◌, ◌≤◌, ◌==◌, List, [], ◌∷◌, ◌++◌, length, take, slice_index_or, if◌then◌else◌, Bool}
+use Rattle.std.specs.Prelude.{not, ◌&&◌, nat_le, nat_lt, Some}
 use Rattle.std.specs.List.{list_any}
 use Rattle.aria_base.specs.Faults.{one_more}
 use Rattle.disk_model.specs.Files.{File, untouched}

@@ -1,6 +1,6 @@
 -- The catalogue at a body's front: the line `catalog text`, and the catalogue's text in pieces.
-use Rattle.std.specs.Prelude.{◌≡◌, ℕ, ◌+◌, ◌≢◌, Bool, true, false, ◌==◌, if◌then◌else◌, List, [], ◌∷◌, ◌++◌, length,
-    map, take, drop, slice_index, Option, Some, None, option_map, option_and_then, codes, bytes_eq}
+use Rattle.std.specs.Prelude.{◌≡◌, ℕ, ◌+◌, ◌≢◌, Bool, true, false, ◌==◌, if◌then◌else◌, List, [], ◌∷◌, ◌++◌, length, map, take}
+use Rattle.std.specs.Prelude.{drop, slice_index, Option, Some, None, option_map, option_and_then, codes, bytes_eq}
 use Rattle.proc_lang.specs.Catalogs.{Plan}
 use Rattle.serde_json.specs.Written.{compact_text}
 use Rattle.cat_forms.specs.Written.{data_of}

@@ -1,6 +1,6 @@
 -- The line of a request that is carried over: `held Q PROC a1 ..`.
-use Rattle.std.specs.Prelude.{◌≡◌, ℕ, ℤ, pos, negsuc, ◌^◌, ◌<◌, ◌==◌, if◌then◌else◌, List, [], ◌∷◌, ◌++◌, Option, Some,
-    None, option_map, option_and_then, codes, bytes_eq, decimal}
+use Rattle.std.specs.Prelude.{◌≡◌, ℕ, ℤ, pos, negsuc, ◌^◌, ◌<◌, ◌==◌, if◌then◌else◌, List, [], ◌∷◌, ◌++◌, Option, Some, None}
+use Rattle.std.specs.Prelude.{option_map, option_and_then, codes, bytes_eq, decimal}
 use Rattle.aria_base.specs.declared.calls.Call.{Call}
 use Rattle.aria_base.specs.declared.calls.Request.{Request}
 use Rattle.proc_lang.specs.Catalogs.{Plan}

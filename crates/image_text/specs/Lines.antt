@@ -1,6 +1,6 @@
 -- A text of whole lines: what it is, and how it is taken line by line.
-use Rattle.std.specs.Prelude.{◌≡◌, ℕ, ◌==◌, Bool, true, false, if◌then◌else◌, List, [], ◌∷◌, ◌++◌, length, flat_map,
-    Option, Some, None, option_and_then}
+use Rattle.std.specs.Prelude.{◌≡◌, ℕ, ◌==◌, Bool, true, false, if◌then◌else◌, List, [], ◌∷◌, ◌++◌, length, flat_map, Option, Some}
+use Rattle.std.specs.Prelude.{None, option_and_then}
 
 -- each line with its line feed (10)
 abbrev pub lines_text : List (List ℕ) → List ℕ

@@ -1,6 +1,6 @@
 -- What the bytes of a log stand for: its records up to the first closed gate.
-use Rattle.std.specs.Prelude.{◌≡◌, ◌⊎◌, ℕ, zero, suc, ◌+◌, ◌==◌, nat_lt, List, [], ◌∷◌, ◌++◌, length, take, drop,
-    if◌then◌else◌, Option, None, Some}
+use Rattle.std.specs.Prelude.{◌≡◌, ◌⊎◌, ℕ, zero, suc, ◌+◌, ◌==◌, nat_lt, List, [], ◌∷◌, ◌++◌, length, take, drop, if◌then◌else◌}
+use Rattle.std.specs.Prelude.{Option, None, Some}
 use Rattle.byteorder.specs.Endian.{little_number, little_bytes}
 use Rattle.input_log.specs.declared.logs.Payload.{Payload}
 use Rattle.disk_model.specs.Files.{File}
@@ -44,7 +44,7 @@ abbrev pub read_log : ℕ → List Payload → ℕ → List ℕ → Log
 read_log zero before at bytes = Breaks at
 read_log (suc fuel) before at bytes =
     by_next (next_of bytes) before at
-        (λ payload. read_log fuel (with_payload before at payload) (at + 5 + length payload) (drop (5 + length payload) bytes))
+    (λ payload. read_log fuel (with_payload before at payload) (at + 5 + length payload) (drop (5 + length payload) bytes))
 
 -- the log from a gate on, after the payloads before it
 abbrev pub log_from : List Payload → ℕ → List ℕ → Log

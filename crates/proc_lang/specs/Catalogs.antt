@@ -1,6 +1,6 @@
 -- What a catalogue is: its tables and its procedures, within their limits; which calls it takes, and what a request of it does.
-use Rattle.std.specs.Prelude.{◌≡◌, ◌≤◌, ℕ, ◌+◌, ◌==◌, ◌&&◌, Bool, true, false, not, nat_le, max, List, [], ◌∷◌, map,
-    length, slice_get, Option, Some, None}
+use Rattle.std.specs.Prelude.{◌≡◌, ◌≤◌, ℕ, ◌+◌, ◌==◌, ◌&&◌, Bool, true, false, not, nat_le, max, List, [], ◌∷◌, map, length}
+use Rattle.std.specs.Prelude.{slice_get, Option, Some, None}
 use Rattle.std.specs.List.{All, list_all, list_any}
 use Rattle.std.specs.Str.{bytes_eq}
 use Rattle.aria_base.specs.Texts.{is_word}
@@ -15,8 +15,8 @@ use Rattle.proc_lang.specs.declared.procs.ArgKind.{ArgKind}
 use Rattle.proc_lang.specs.declared.procs.ArgKind.TheVariants as kind
 use Rattle.proc_lang.specs.declared.procs.Proc.{Proc}
 use Rattle.aria_base.specs.declared.limits.TheConstants.{FEWEST_PARTS, MOST_PARTS, MOST_COLUMNS, MOST_ARGS, SHORTEST_TUPLE, LONGEST_TUPLE}
-use Rattle.proc_lang.specs.declared.limits.TheConstants.{MOST_TABLES, MOST_PROCS, MOST_REGS, MOST_STATEMENTS,
-    DEEPEST_EXPR, GREATEST_CODE, MOST_FRONT}
+use Rattle.proc_lang.specs.declared.limits.TheConstants.{MOST_TABLES, MOST_PROCS, MOST_REGS, MOST_STATEMENTS, DEEPEST_EXPR}
+use Rattle.proc_lang.specs.declared.limits.TheConstants.{GREATEST_CODE, MOST_FRONT}
 use Rattle.proc_lang.specs.Terms.{Term, Num, Text, Me, Named, Unary, Binary, MulDiv, Front}
 use Rattle.proc_lang.specs.Steps.{Absence, Traps, Fails, Blanks, Step, Steps, NoMore, More}
 use Rattle.proc_lang.specs.Steps as step

@@ -1,7 +1,8 @@
 -- The meaning of a procedure: its body as a tree of accesses. Each statement is one line, with what remains of the run as its
 -- continuation.
-use Rattle.std.specs.Prelude.{ℕ, ℤ, pos, ◌+◌, ◌+ℤ◌, ◌-ℤ◌, ◌*ℤ◌, Bool, true, false, not, ◌&&◌, ◌||◌, nat_lt, nat_le,
-    int_lt, int_le, if◌then◌else◌, List, [], ◌∷◌, ◌++◌, length, map, take, slice_get, slice_index_or, slice_set, Option, Some, None}
+use Rattle.std.specs.Prelude.{ℕ, ℤ, pos, ◌+◌, ◌+ℤ◌, ◌-ℤ◌, ◌*ℤ◌, Bool, true, false, not, ◌&&◌, ◌||◌, nat_lt, nat_le, int_lt}
+use Rattle.std.specs.Prelude.{int_le, if◌then◌else◌, List, [], ◌∷◌, ◌++◌, length, map, take, slice_get, slice_index_or, slice_set}
+use Rattle.std.specs.Prelude.{Option, Some, None}
 use Rattle.std.specs.declared.result.Result.TheVariants.{Ok, Err}
 use Rattle.std.specs.Fmt.{signed_decimal}
 use Rattle.aria_base.specs.Orders.{Cells}
@@ -29,8 +30,8 @@ use Rattle.proc_lang.specs.Terms.{Term}
 use Rattle.proc_lang.specs.Terms as term
 use Rattle.proc_lang.specs.Steps.{Absence, Traps, Fails, Blanks, Step, Steps, NoMore, More}
 use Rattle.proc_lang.specs.Steps as step
-use Rattle.proc_lang.specs.Values.{Got, got, both, int_of, text_of, is_true, truth, blank, same_value, number, divided,
-    remainder, joined, front, me_of, value_of_arg, tuples_of}
+use Rattle.proc_lang.specs.Values.{Got, got, both, int_of, text_of, is_true, truth, blank, same_value, number, divided, remainder}
+use Rattle.proc_lang.specs.Values.{joined, front, me_of, value_of_arg, tuples_of}
 
 -- ---- operators
 

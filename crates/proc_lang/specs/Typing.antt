@@ -1,8 +1,8 @@
 -- When a procedure is well typed under a schema, and else which statement fails first, and why. Statements are looked at in the
 -- order in which they are written, an `if` or `each` before its blocks. Of a statement the first failure counts: how deep it lies,
 -- its table, its key's length, its columns' number, its expressions from the left, their kinds, and the registers that it sets.
-use Rattle.std.specs.Prelude.{ℕ, ◌+◌, ◌==◌, ◌&&◌, Bool, true, false, not, nat_lt, is_some, List, [], ◌∷◌, ◌++◌, map,
-    length, slice_get, slice_index_or, slice_set, Option, Some, None, Result}
+use Rattle.std.specs.Prelude.{ℕ, ◌+◌, ◌==◌, ◌&&◌, Bool, true, false, not, nat_lt, is_some, List, [], ◌∷◌, ◌++◌, map, length}
+use Rattle.std.specs.Prelude.{slice_get, slice_index_or, slice_set, Option, Some, None, Result}
 use Rattle.std.specs.declared.result.Result.TheVariants.{Ok, Err}
 use Rattle.std.specs.Result.{IsOk}
 use Rattle.std.specs.Cmp.Lexicographic.{pointwise}

@@ -1,7 +1,7 @@
 -- What expressions compute with. Every word is total: where the typing of procedures rules a value out, a plain default stands, 0
 -- for a number and the empty text for a text, and a well-typed procedure never meets it.
-use Rattle.std.specs.Prelude.{ℕ, ℤ, pos, negsuc, ◌-ℤ◌, ◌*ℤ◌, neg_ℤ, suc, ◌^◌, Bool, false, not, nat_lt, nat_le,
-    if◌then◌else◌, List, [], ◌++◌, length, take, min, Option, Some, None, Result}
+use Rattle.std.specs.Prelude.{ℕ, ℤ, pos, negsuc, ◌-ℤ◌, ◌*ℤ◌, neg_ℤ, suc, ◌^◌, Bool, false, not, nat_lt, nat_le, if◌then◌else◌}
+use Rattle.std.specs.Prelude.{List, [], ◌++◌, length, take, min, Option, Some, None, Result}
 use Rattle.std.specs.declared.result.Result.TheVariants.{Ok, Err}
 use Rattle.std.specs.Ordering.{int_eq}
 use Rattle.std.specs.Int.{int_div_euclid}

@@ -11,8 +11,10 @@ placed_tids verdicts = map (λ p. p.0) (placed (λ p. p.1) (enumerate_from 1 ver
 
 -- An entry that tells its place, its verdict and whether it has its final end, and nothing of keys, requests and ends
 abbrev pub bare : ℕ → Verdict → Bool → Entry (Unit {0}) (Unit {0}) (Unit {0})
-bare tid verdict ended = record { judged = record { tid = tid; request = tt; verdict = verdict };
-    fate = if ended then Ended tt else Moved tt }
+bare tid verdict ended = record {
+  judged = record { tid = tid; request = tt; verdict = verdict };
+  fate = if ended then Ended tt else Moved tt;
+}
 
 abbrev pub bare_from : ℕ → List Verdict → List Bool → List (Entry (Unit {0}) (Unit {0}) (Unit {0}))
 bare_from tid [] ended = []

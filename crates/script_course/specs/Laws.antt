@@ -13,4 +13,4 @@ pub record EndsOf (R : Type 0) : Type 0 where
   -- the reading stopped
   pub cut : (on_end : R → Out) (told whole : List ℕ → Course R) (left rest old new : Option (List ℕ)) (why : Stop)
       → Comes {R = R} told whole left rest old new (Err why)
-          → Completes told (λ text. ended on_end (whole text)) left rest old new (Err why)
+      → Completes told (λ text. ended on_end (whole text)) left rest old new (Err why)

@@ -1,6 +1,6 @@
 -- What a catalogue makes of a line: names are looked up, and what the line brings has to fit in number and kind.
-use Rattle.std.specs.Prelude.{ℕ, ℤ, pos, negsuc, Bool, true, false, ◌&&◌, nat_le, if◌then◌else◌, List, [], ◌∷◌, map,
-    position, Option, Some, None, codes, bytes_eq, Result, Ok, Err}
+use Rattle.std.specs.Prelude.{ℕ, ℤ, pos, negsuc, Bool, true, false, ◌&&◌, nat_le, if◌then◌else◌, List, [], ◌∷◌, map, position}
+use Rattle.std.specs.Prelude.{Option, Some, None, codes, bytes_eq, Result, Ok, Err}
 use Rattle.std.specs.List.{slice_get}
 use Rattle.aria_base.specs.Kinds.{part_kind, value_kind}
 use Rattle.aria_base.specs.Orders.{Cells}

@@ -1,6 +1,6 @@
 -- A number of 64 bits with a sign, in its one spelling.
-use Rattle.std.specs.Prelude.{ℕ, ◌+◌, ◌-◌, ◌*◌, ◌^◌, ℤ, pos, neg_ℤ, int_le, int_lt, Bool, not, ◌&&◌, ◌||◌, ◌==◌, nat_le,
-    if◌then◌else◌, List, [], ◌∷◌, length, Option, Some, None, option_and_then}
+use Rattle.std.specs.Prelude.{ℕ, ◌+◌, ◌-◌, ◌*◌, ◌^◌, ℤ, pos, neg_ℤ, int_le, int_lt, Bool, not, ◌&&◌, ◌||◌, ◌==◌, nat_le}
+use Rattle.std.specs.Prelude.{if◌then◌else◌, List, [], ◌∷◌, length, Option, Some, None, option_and_then}
 use Rattle.script_text.specs.declared.numbers.TheConstants.{MOST_DIGITS}
 use Rattle.std.specs.Char.{is_ascii_digit}
 
