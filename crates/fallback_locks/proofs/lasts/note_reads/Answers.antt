@@ -13,7 +13,7 @@ pub loop-key-preserved : goal.loop-key-preserved
 loop-key-preserved c = λ q.
     let k = c.key-item.result in
     let rest = drop (c.loop-key.key-index + 1) c.args.keys.now in
-    let copied : c.in_ok-copy_key.field-0 ≡ k = search rules in
+    let copied : c.in_ok-duplicate.field-0 ≡ k = search rules in
     let cons : drop c.loop-key.key-index c.args.keys.now ≡ k ∷ rest = let e : suc c.loop-key.key-index ≡ c.loop-key.key-index + 1 = omega arith in
     drop-cons c.args.keys.now c.loop-key.key-index k c.loop-key-test.true ∙ (λ i. sym c.key-item.is i ∷ drop (e i) c.args.keys.now) in
     let is : (q ≡ k) → c.last_at-last.result ≡ or_none (tree.get key_cmp c.loop-key.lasts q) = λ e. c.last_at-last.ensures ∙ ap (λ k. or_none (tree.get key_cmp c.loop-key.lasts k)) (sym e) in
