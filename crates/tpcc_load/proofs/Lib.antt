@@ -1,0 +1,5 @@
+pub mod Overs
+pub mod Layings
+pub mod Advances
+pub mod Ordering
+pub mod Fitting

@@ -1,0 +1,4 @@
+pub mod Draws
+pub mod Rows
+pub mod Heads
+pub mod Requests

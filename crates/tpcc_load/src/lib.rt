@@ -1,0 +1,31 @@
+//! The workload of order entry, after TPC-C: the database before it, and batches of its requests.
+//!
+//! Both are functions of the settings and of lists of words that the settings' number chooses, so that
+//! whoever has the settings has the same workload. The head is drawn from stream 1 of the number, and
+//! the requests from stream 2.
+//!
+//! ```text
+//! settings ─> head ─> catalogue, rows
+//! settings, words ─> batch ─> calls, and the words behind them
+//! ```
+#![tactic(auto)]
+
+mod chances;
+mod customers;
+mod districts;
+mod heads;
+mod names;
+mod orders;
+mod payments;
+mod requests;
+mod rows;
+mod settings;
+mod shuffles;
+mod stocks;
+mod tables;
+#[cfg(test)]
+mod tests;
+
+pub use heads::head;
+pub use requests::batch;
+pub use settings::Tpcc;
