@@ -1,5 +1,22 @@
 # For the run.sh of each benchmark to source. The gate does not see a benchmark: its sources end in .txt.
-#
+
+# below TOP CRATE..: these crates and all of the repository in TOP that they stand on.
+below() {
+    python3 - "$@" <<'END'
+import sys
+
+lines = [line.split(":") for line in open(sys.argv[1] + "/crates.txt") if not line.startswith("#")]
+uses = {name.split()[0]: on.split() for name, on in lines}
+found, open_names = [], sys.argv[2:]
+while open_names:
+    name = open_names.pop()
+    if name in uses and name not in found:
+        found.append(name)
+        open_names += uses[name]
+print(*found)
+END
+}
+
 # lay_out FOLDER HANDLES LINE CRATE..
 #
 # Lays a benchmark out beside copies of the crates that it uses, in a temporary folder that goes when

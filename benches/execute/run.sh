@@ -9,23 +9,6 @@ trap 'rm -rf "$built"' EXIT
 
 uses='exec_phase cat_builtin tbl_snapshot tbl_rows proc_lang aria_base'
 
-# below TOP CRATE..: these crates and all of the repository in TOP that they stand on.
-below() {
-    python3 - "$@" <<'END'
-import sys
-
-lines = [line.split(":") for line in open(sys.argv[1] + "/crates.txt") if not line.startswith("#")]
-uses = {name.split()[0]: on.split() for name, on in lines}
-found, open_names = [], sys.argv[2:]
-while open_names:
-    name = open_names.pop()
-    if name in uses and name not in found:
-        found.append(name)
-        open_names += uses[name]
-print(*found)
-END
-}
-
 # build TOP NAME: the program over the crates that lie in TOP.
 build() (
     lay_out "$1/benches/execute" Threads "execute_bench: anyhow $uses" $(below "$1" $uses)

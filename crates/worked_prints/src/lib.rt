@@ -1,0 +1,22 @@
+//! Worked lines of output, which the gate runs. There is no code here, only tests.
+//!
+//! `answers`, `states` and `refusals` have what is printed with all its bytes, worked out by hand.
+//!
+//! ```text
+//! Wait::Moved of a key of `seat`      15 wait moved seat 4 "c d"
+//! Kind8::Site on line 3               refused 3 place
+//! ```
+//!
+//! `catalogs` makes the catalogue of the rows, and `checks` is how a test compares.
+#![tactic(auto)]
+
+#[cfg(test)]
+mod answers;
+#[cfg(test)]
+mod catalogs;
+#[cfg(test)]
+mod checks;
+#[cfg(test)]
+mod refusals;
+#[cfg(test)]
+mod states;

@@ -1,0 +1,108 @@
+// Refusals, and lines that stand alone.
+use crate::checks::same;
+use answer_text::{
+    Refused, append_at, append_damaged, append_kept, print_refusal, ready_line, refused_line,
+};
+use aria_base::Memory;
+use cat_text::catalog_of;
+use script_text::{CatFault, Kind8, LinesRefused, Refusal};
+use std::alloc::Global;
+use std::test::Fail;
+
+/// The kinds of refusal, but for those of a catalogue that a text tells.
+const KINDS: [(Kind8, &str); 12] = [
+    (Kind8::Long, "refused 3 long\n"),
+    (Kind8::Byte, "refused 3 byte\n"),
+    (Kind8::Word, "refused 3 word\n"),
+    (Kind8::Name, "refused 3 name\n"),
+    (Kind8::Argument, "refused 3 argument\n"),
+    (Kind8::Site, "refused 3 place\n"),
+    (Kind8::Unfinished, "refused 3 unfinished\n"),
+    (Kind8::Size, "refused 3 size\n"),
+    (Kind8::Batch, "refused 3 batch\n"),
+    (
+        Kind8::Gap {
+            got: u64::MAX,
+            wanted: 2,
+        },
+        "refused 3 gap 18446744073709551615 2\n",
+    ),
+    (Kind8::Numbers, "refused 3 numbers\n"),
+    (Kind8::Catalog(CatFault::Long), "refused 3 catalog long\n"),
+];
+
+#[test]
+fn each_refusal_has_its_line(rt: HostRuntime) -> Result<(), Fail> {
+    for (kind, said) in KINDS {
+        let found = print_refusal(rt.alloc(), &Refusal { line: 3, kind })?;
+        same(&rt, &said, &found, said.as_bytes());
+    }
+    Ok(())
+}
+
+/// Texts that are no catalogue, and what is printed of them.
+const TEXTS: [(&str, &str); 6] = [
+    ("{", "refused 9 catalog json\n"),
+    (r#"{"tables":[]}"#, "refused 9 catalog shape /\n"),
+    (
+        r#"{"tables":[],"procs":7}"#,
+        "refused 9 catalog shape /procs\n",
+    ),
+    (
+        r#"{"tables":[{"name":"t","key":["int","list1"],"cols":[]}],"procs":[]}"#,
+        "refused 9 catalog shape /tables/0/key/1\n",
+    ),
+    (
+        r#"{"tables":[],"procs":[{"name":"p","args":[],"regs":["int"],"body":[["give",["reg",0]]]}]}"#,
+        "refused 9 catalog wrong 0 0 5\n",
+    ),
+    (
+        r#"{"tables":[],"procs":[{"name":"p","args":[],"regs":[],"body":[]},{"name":"q","args":[],"regs":[],"body":[["give",1],["fail",1],["del","t",[1]]]}]}"#,
+        "refused 9 catalog wrong 1 2 1\n",
+    ),
+];
+
+#[test]
+fn faults_of_catalogues_have_their_places(rt: HostRuntime) -> Result<(), Fail> {
+    for (text, said) in TEXTS {
+        let Err(LinesRefused::Line(refusal)) = catalog_of(rt.alloc(), text.as_bytes(), 9) else {
+            return Err(Fail::new("the text is no catalogue"));
+        };
+        let found = print_refusal(rt.alloc(), &refusal)?;
+        same(&rt, &text, &found, said.as_bytes());
+    }
+    Ok(())
+}
+
+/// Lines of commands.
+const NOTICES: &str = "ready
+refused usage
+refused form
+refused store none
+refused store exists
+refused store 3 18
+at 0
+batch 4611686018427387904 kept
+";
+
+fn notices(alloc: Global) -> Result<Vec<u8>, Memory> {
+    let mut out = Vec::from_slice(alloc, ready_line())?;
+    for refused in [
+        Refused::Usage,
+        Refused::Form,
+        Refused::NoStore,
+        Refused::StoreExists,
+    ] {
+        out.extend_from_slice(refused_line(refused))?;
+    }
+    append_damaged(&mut out, 3, 18)?;
+    append_at(&mut out, 0)?;
+    append_kept(&mut out, 1 << 62)?;
+    Ok(out)
+}
+
+#[test]
+fn commands_have_lines_of_their_own(rt: HostRuntime) -> Result<(), Fail> {
+    same(&rt, &"commands", &notices(rt.alloc())?, NOTICES.as_bytes());
+    Ok(())
+}

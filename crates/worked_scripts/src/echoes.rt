@@ -1,0 +1,58 @@
+// A command that prints what each line asks for.
+ghost use Rattle.std.specs.Prelude.{◌≡◌};
+ghost use Rattle.worked_scripts.specs.Echoes.{echo_line, word_of};
+
+use aria_base::Sink;
+use script_course::{Reads, Stop, give, refuse};
+use script_places::{Counts, Deed, Place};
+use script_text::LinesRefused;
+use std::alloc::Global;
+
+/// A script of which each line is answered by a word; the counts are the same at each.
+#[derive(Drop)]
+pub struct Echo {
+    pub place: Place,
+    pub counts: Counts,
+}
+
+impl Reads<()> for Echo {
+    ghost on_line = { echo_line };
+
+    ghost held = { λ _ _ _. Unit {0} };
+
+    ghost left = { λ _ _ _ _. Unit {0} };
+
+    ghost disk_faults = { λ _. 0 };
+
+    ghost leaves = { λ _ _ _ _ _ _ _ _. tt };
+
+    fn line<K: Sink>(
+        self,
+        alloc: Global,
+        line: &[u8],
+        out: &mut K,
+        _disk: &mut (),
+    ) -> Result<Self, Stop> {
+        let Echo { place, counts } = self;
+        match place.ask(alloc, counts, line) {
+            Ok((place, deed)) => give(Echo { place, counts }, word_of(&deed), out),
+            Err(LinesRefused::Memory) => Err(Stop::NoMemory),
+            Err(LinesRefused::Line(refusal)) => refuse(alloc, &refusal, out),
+        }
+    }
+}
+
+/// The word of a deed, and a space.
+fn word_of(deed: &Deed) -> &'static [u8]
+    ensures { result.now ≡ word_of deed.now }
+{
+    match deed {
+        Deed::Nothing => b"nothing ",
+        Deed::Put(_, _) => b"put ",
+        Deed::Call(_) => b"call ",
+        Deed::Set { .. } => b"set ",
+        Deed::Keep(_) => b"keep ",
+        Deed::Run => b"run ",
+        Deed::Tell => b"tell ",
+    }
+}
