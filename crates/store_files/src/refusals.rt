@@ -5,6 +5,7 @@ ghost use Rattle.store_files.specs.Attachments.{as_store};
 
 use aria_base::{Failed, Memory};
 use disk_model::LogRefused;
+use std::alloc::AllocFailed;
 use thiserror::Error;
 
 /// A refused call on a store.
@@ -41,6 +42,14 @@ impl From<Memory> for StoreRefused {
     ghost from_gives = { λ _ e. e ≡ refused.Memory };
 
     fn from(_: Memory) -> StoreRefused {
+        StoreRefused::Memory
+    }
+}
+
+impl<T: Drop> From<AllocFailed<T>> for StoreRefused {
+    ghost from_gives = { λ _ e. e ≡ refused.Memory };
+
+    fn from(_: AllocFailed<T>) -> StoreRefused {
         StoreRefused::Memory
     }
 }
