@@ -1,0 +1,4 @@
+pub mod Openings
+pub mod Holdings
+pub mod Stores
+pub mod Attachments
