@@ -1,0 +1,4 @@
+pub mod Crosses
+pub mod Likeness
+pub mod Pairs
+pub mod Running

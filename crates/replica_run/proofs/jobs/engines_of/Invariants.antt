@@ -1,0 +1,9 @@
+use Rattle.std.proofs.Common.{◌≡◌, ◌++◌, map}
+use Rattle.std.specs.Vec.Iter.{into_iter_items}
+use Rattle.replica_run.proofs.jobs.engines_of.Given as goal
+
+abbrev pub invariant-loop-ran : goal.invariant-loop-ran
+invariant-loop-ran l =
+    goal.iterator-loop-ran.can_next l.ran-iterator ×
+    goal.iterator-loop-ran.is_finite l.ran-iterator ×
+    (l.engines.items ++ map (λ ran. ran.engine) (into_iter_items l.ran-iterator) ≡ map (λ ran. ran.engine) (into_iter_items l.initial.ran-iterator))
