@@ -121,9 +121,9 @@ call_in plan args (Some proc) r e =
 
 percent_of : (rule : ℕ) (percent : ℤ) (r : ℕ × ℕ) → with_percent rule percent ≡ Ok r → r.1 ≤ MOST_PERCENT
 percent_of rule (pos n) r e = elim (branch (Result (ℕ × ℕ) Kind8) (nat_le n MOST_PERCENT) (Ok (rule, n)) (Err Argument) (Ok r) e) [
-      | on_yes fits is ↦ subst (λ (q : ℕ × ℕ). q.1 ≤ MOST_PERCENT) (ok_is (rule, n) r is) (leb-true n MOST_PERCENT fits)
-      | on_no fits is ↦ absurd cc
-    ]
+  | on_yes fits is ↦ subst (λ (q : ℕ × ℕ). q.1 ≤ MOST_PERCENT) (ok_is (rule, n) r is) (leb-true n MOST_PERCENT fits)
+  | on_no fits is ↦ absurd cc
+]
 percent_of rule (negsuc n) r e = absurd cc
 
 settings_in : (rule : Option ℕ) (percent : ℤ) (r : ℕ × ℕ) → settings_by rule percent ≡ Ok r → r.1 ≤ MOST_PERCENT
@@ -178,60 +178,60 @@ row_follows : (p : Place) (counts : Counts) (table : List ℕ) (parts : List Par
 row_follows p counts table parts row r e =
     elim (stands p.head (λ plan. cond p.rows_ended (Err Site) (and_then (puts p) (placed_row plan table parts row))) r e) [
       | there plan is may ↦ elim (branch Asked p.rows_ended (Err Site) (and_then (puts p) (placed_row plan table parts row)) (Ok r) may) [
-          | on_yes off such ↦ absurd cc
-          | on_no open_still such ↦ elim (step (Key × Cells) (Place × Deed) (puts p) (placed_row plan table parts row) r such) [
-              | stepped pair fits last ↦ is_this p counts (p, deed.Put pair.0 pair.1) r last (record {
-                  mode_stays = refl;
-                  head_stays = stays p.head;
-                  allows = record {
-                    fits = ready_with p.head plan (λ q. Fits q.tables pair.0 pair.1) is (row_of plan parts row (table_named plan table) pair fits);
-                    calls = refl;
-                    rows = open_still;
-                  };
-                })
-            ]
+        | on_yes off such ↦ absurd cc
+        | on_no open_still such ↦ elim (step (Key × Cells) (Place × Deed) (puts p) (placed_row plan table parts row) r such) [
+          | stepped pair fits last ↦ is_this p counts (p, deed.Put pair.0 pair.1) r last (record {
+            mode_stays = refl;
+            head_stays = stays p.head;
+            allows = record {
+              fits = ready_with p.head plan (λ q. Fits q.tables pair.0 pair.1) is (row_of plan parts row (table_named plan table) pair fits);
+              calls = refl;
+              rows = open_still;
+            };
+          })
         ]
+      ]
     ]
 
 call_follows : (p : Place) (counts : Counts) (proc : List ℕ) (args : List Arg) (r : Place × Deed) → at_call p proc args ≡ Ok r → Says p counts r
 call_follows p counts proc args r e =
     elim (stands p.head (λ plan. cond (has_batches p.mode) (and_then (calls p) (placed_call plan proc args)) (Err Site)) r e) [
       | there plan is may ↦ elim (branch Asked (has_batches p.mode) (and_then (calls p) (placed_call plan proc args)) (Err Site) (Ok r) may) [
-          | on_no off such ↦ absurd cc
-          | on_yes has such ↦ elim (step Call (Place × Deed) (calls p) (placed_call plan proc args) r such) [
-              | stepped call fits last ↦
-                  let next : Place = record p { rows_ended = true; open_calls = p.open_calls + 1 } in
-                  elim (branch Asked (nat_lt p.open_calls MOST_REQUESTS) (Ok (next, deed.Call call)) (Err Batch) (Ok r) last) [
-                    | on_no full such ↦ absurd cc
-                    | on_yes room such ↦ is_this p counts (next, deed.Call call) r such (record {
-                        mode_stays = refl;
-                        head_stays = stays p.head;
-                        allows = record {
-                          fits = ready_with p.head plan (λ q. takes q call ≡ true) is (call_in plan args (proc_named plan proc) call fits);
-                          calls = refl;
-                          room = ltb-true p.open_calls MOST_REQUESTS room;
-                          rows = refl;
-                        };
-                      })
-                  ]
-            ]
+        | on_no off such ↦ absurd cc
+        | on_yes has such ↦ elim (step Call (Place × Deed) (calls p) (placed_call plan proc args) r such) [
+          | stepped call fits last ↦
+              let next : Place = record p { rows_ended = true; open_calls = p.open_calls + 1 } in
+              elim (branch Asked (nat_lt p.open_calls MOST_REQUESTS) (Ok (next, deed.Call call)) (Err Batch) (Ok r) last) [
+                | on_no full such ↦ absurd cc
+                | on_yes room such ↦ is_this p counts (next, deed.Call call) r such (record {
+                  mode_stays = refl;
+                  head_stays = stays p.head;
+                  allows = record {
+                    fits = ready_with p.head plan (λ q. takes q call ≡ true) is (call_in plan args (proc_named plan proc) call fits);
+                    calls = refl;
+                    room = ltb-true p.open_calls MOST_REQUESTS room;
+                    rows = refl;
+                  };
+                })
+              ]
         ]
+      ]
     ]
 
 settings_follow : (p : Place) (counts : Counts) (name : List ℕ) (percent : ℤ) (r : Place × Deed) → at_settings p name percent ≡ Ok r → Says p counts r
 settings_follow p counts name percent r e =
     elim (stands p.head (λ plan. cond (has_batches p.mode && p.open_calls == 0) (and_then (sets p) (placed_settings name percent)) (Err Site)) r e) [
       | there plan is may ↦ elim (branch Asked (has_batches p.mode && p.open_calls == 0) (and_then (sets p) (placed_settings name percent)) (Err Site) (Ok r) may) [
-          | on_no off such ↦ absurd cc
-          | on_yes has such ↦ elim (step (ℕ × ℕ) (Place × Deed) (sets p) (placed_settings name percent) r such) [
-              | stepped pair fits last ↦
-                  is_this p counts (record p { rows_ended = true }, deed.Set (rule_of pair.0) pair.1) r last (record {
-                    mode_stays = refl;
-                    head_stays = stays p.head;
-                    allows = record { within = settings_in (rule_named name) percent pair fits; calls = refl; rows = refl };
-                  })
-            ]
+        | on_no off such ↦ absurd cc
+        | on_yes has such ↦ elim (step (ℕ × ℕ) (Place × Deed) (sets p) (placed_settings name percent) r such) [
+          | stepped pair fits last ↦
+              is_this p counts (record p { rows_ended = true }, deed.Set (rule_of pair.0) pair.1) r last (record {
+                mode_stays = refl;
+                head_stays = stays p.head;
+                allows = record { within = settings_in (rule_named name) percent pair fits; calls = refl; rows = refl };
+              })
         ]
+      ]
     ]
 
 not_below : (a b : ℕ) → nat_lt a b ≡ false → b ≤ a
@@ -276,22 +276,22 @@ ends_follow p counts n plan r is e =
     elim (branch Asked (nat_lt (counts.batches + 1) n) (Err (Gap n (counts.batches + 1))) (cond (nat_le n counts.batches) (Ok (closed p, deed.Keep n)) (runs p counts n)) (Ok r) e) [
       | on_yes gap such ↦ absurd cc
       | on_no next such ↦ elim (branch Asked (nat_le n counts.batches) (Ok (closed p, deed.Keep n)) (runs p counts n) (Ok r) such) [
-          | on_yes was last ↦ is_this p counts (closed p, deed.Keep n) r last (record {
-              mode_stays = refl;
-              head_stays = stays p.head;
-              allows = record { calls = refl; rows = refl };
-            })
-          | on_no new last ↦ runs_follow p counts n plan r is (leb-false n counts.batches new) last
-        ]
+        | on_yes was last ↦ is_this p counts (closed p, deed.Keep n) r last (record {
+          mode_stays = refl;
+          head_stays = stays p.head;
+          allows = record { calls = refl; rows = refl };
+        })
+        | on_no new last ↦ runs_follow p counts n plan r is (leb-false n counts.batches new) last
+      ]
     ]
 
 end_follows : (p : Place) (counts : Counts) (n : ℕ) (r : Place × Deed) → at_end p counts n ≡ Ok r → Says p counts r
 end_follows p counts n r e =
     elim (stands p.head (λ plan. cond (has_batches p.mode) (ends p counts n) (Err Site)) r e) [
       | there plan is may ↦ elim (branch Asked (has_batches p.mode) (ends p counts n) (Err Site) (Ok r) may) [
-          | on_no off such ↦ absurd cc
-          | on_yes has such ↦ ends_follow p counts n plan r is such
-        ]
+        | on_no off such ↦ absurd cc
+        | on_yes has such ↦ ends_follow p counts n plan r is such
+      ]
     ]
 
 report_follows : (p : Place) (counts : Counts) (r : Place × Deed) → at_report p ≡ Ok r → Says p counts r
@@ -343,11 +343,11 @@ module _ (p : Place) (counts : Counts) (text : List ℕ) (is_text : p.head ≡ h
 
   behind_follows : (i : Item) (r : Place × Deed) → behind_text (without_head p) counts text i ≡ Ok r → Says p counts r
   behind_follows i r e = elim (step Place (Place × Deed) (λ ready. at_item ready counts i) (read_text (without_head p) text) r e) [
-      | stepped place read last ↦ elim (step Plan Place (λ plan. Ok (record (without_head p) { head = head.Ready plan })) (catalog_of text) place read) [
-          | stepped plan said is ↦ of_text (head.Ready plan) r (item_follows (record p { head = head.Ready plan }) counts i r
-              (subst (λ (q : Place). at_item q counts i ≡ Ok r) (sym (ok_is (record p { head = head.Ready plan }) place is)) last))
-        ]
+    | stepped place read last ↦ elim (step Plan Place (λ plan. Ok (record (without_head p) { head = head.Ready plan })) (catalog_of text) place read) [
+      | stepped plan said is ↦ of_text (head.Ready plan) r (item_follows (record p { head = head.Ready plan }) counts i r
+          (subst (λ (q : Place). at_item q counts i ≡ Ok r) (sym (ok_is (record p { head = head.Ready plan }) place is)) last))
     ]
+  ]
 
   piece_follows : (piece : List ℕ) (r : Place × Deed) → at_piece (without_head p) text piece ≡ Ok r → Says p counts r
   piece_follows piece r e =
@@ -372,17 +372,17 @@ module _ (p : Place) (counts : Counts) (text : List ℕ) (is_text : p.head ≡ h
 
   refused_follows : (why : Kind8) (r : Place × Deed) → refused_in_text (without_head p) text why ≡ Ok r → Says p counts r
   refused_follows why r e = elim (branch Asked (is_byte why) (Err why) (and_then (λ ready. Err why) (read_text (without_head p) text)) (Ok r) e) [
-      | on_yes byte such ↦ absurd cc
-      | on_no other such ↦ elim (step Place (Place × Deed) (λ ready. Err why) (read_text (without_head p) text) r such) [ | stepped place read last ↦ absurd cc ]
-    ]
+    | on_yes byte such ↦ absurd cc
+    | on_no other such ↦ elim (step Place (Place × Deed) (λ ready. Err why) (read_text (without_head p) text) r such) [ stepped place read last ↦ absurd cc ]
+  ]
 
   in_text_follows : (line : Result Item Kind8) (r : Place × Deed) → in_text (without_head p) counts text line ≡ Ok r → Says p counts r
   in_text_follows (Ok i) r e = item_in_follows i r e
   in_text_follows (Err why) r e = refused_follows why r e
 
 line_follows : (p : Place) (counts : Counts) (h : Head) (line : Result Item Kind8) (r : Place × Deed) → p.head ≡ h → by_head p counts h line ≡ Ok r → Says p counts r
-line_follows p counts head.Unnamed line r is e = elim (step Item (Place × Deed) (at_item p counts) line r e) [ | stepped i said last ↦ item_follows p counts i r last ]
-line_follows p counts (head.Ready plan) line r is e = elim (step Item (Place × Deed) (at_item p counts) line r e) [ | stepped i said last ↦ item_follows p counts i r last ]
+line_follows p counts head.Unnamed line r is e = elim (step Item (Place × Deed) (at_item p counts) line r e) [ stepped i said last ↦ item_follows p counts i r last ]
+line_follows p counts (head.Ready plan) line r is e = elim (step Item (Place × Deed) (at_item p counts) line r e) [ stepped i said last ↦ item_follows p counts i r last ]
 line_follows p counts (head.Text text) line r is e = in_text_follows p counts text is line r e
 
 -- one line more changes nothing of what is allowed
@@ -411,9 +411,9 @@ follows p counts line after asks e =
 
 shut_stays : (p q : Place) → shut p ≡ Ok q → HeadStays p.head q.head
 shut_stays p q e = elim (branch (Result Place Kind8) (p.open_calls == 0) (Ok p) (Err Unfinished) (Ok q) e) [
-    | on_yes none such ↦ subst (λ (x : Place). HeadStays p.head x.head) (ok_is p q such) (stays p.head)
-    | on_no some such ↦ absurd cc
-  ]
+  | on_yes none such ↦ subst (λ (x : Place). HeadStays p.head x.head) (ok_is p q such) (stays p.head)
+  | on_no some such ↦ absurd cc
+]
 
 closed_stays : (p q : Place) (h : Head) → p.head ≡ h → closed_by p h ≡ Ok q → HeadStays p.head q.head
 closed_stays p q head.Unnamed is e = shut_stays p q e
