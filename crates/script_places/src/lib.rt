@@ -11,16 +11,19 @@
 //!           pieces of a catalogue's text are read (cat_text) when the first other line comes
 //! ```
 //!
-//! In `specs/`: `Places` says all of this, for any command that reads.
+//! In `specs/`: `Places` says all of this, for any command that reads, and `Follows` what is known behind a
+//! line that is not refused.
 #![tactic(auto)]
 
 mod asks;
 mod deeds;
 mod heads;
+mod laws;
 mod limits;
 mod places;
 
 pub use deeds::Deed;
 pub use heads::Head;
+pub use laws::{closes, follows};
 pub use limits::MOST_CATALOG;
 pub use places::{Counts, Mode, Place};

@@ -1,0 +1,121 @@
+// The database that is served, and its next batch.
+ghost use Rattle.std.specs.Prelude.{◌≡◌, ◌≤◌, IfOk, if◌then◌else◌, [], ◌++◌, length};
+ghost use Rattle.answer_text.specs.Answers.{answer_text};
+ghost use Rattle.serving.specs.Lives.{IsNext, MayServe, listing, next_answer, next_text, plan_of, state_of};
+
+use answer_text::{append_state, print_answer, print_state};
+use aria_base::{Call, Memory, Pace};
+use batch_core::Answer;
+use dep_rules::Config;
+use replica_run::Replicas;
+use std::alloc::Global;
+use std::thread::Threads;
+
+/// A database that is served.
+#[derive(Drop)]
+pub struct Live {
+    /// The engines.
+    pub replicas: Replicas,
+    /// The settings of the next batch.
+    pub config: Config,
+    /// Whether the rows are listed behind each answer.
+    pub each: bool,
+    /// Behind how many batches each a checkpoint is laid, 0 for never. It has no effect in memory.
+    pub checkpoint: u32,
+}
+
+impl Live {
+    /// Runs the next batch, of what waits and these calls, on all replicas. The text is the answer and,
+    /// where each answer has one, the listing. After want of memory the database is gone.
+    pub fn next<P: Pace + Sync, R: Threads + Sync>(
+        self,
+        rt: &R,
+        alloc: Global,
+        new: Vec<Call>,
+        pace: &P,
+    ) -> Result<(Live, Vec<u8>), Memory>
+        requires { MayServe self new.items }
+        ensures next { IfOk result (λ r. IsNext self new.items r.0) }
+        ensures text { IfOk result (λ r. r.1.items ≡ next_text self new.items) }
+    {
+        let (next, answer) = self.run(rt, alloc, new, pace)?;
+        let text = next.text(alloc, &answer)?;
+        Ok((next, text))
+    }
+
+    /// That batch alone, and its answer.
+    pub fn run<P: Pace + Sync, R: Threads + Sync>(
+        self,
+        rt: &R,
+        alloc: Global,
+        new: Vec<Call>,
+        pace: &P,
+    ) -> Result<(Live, Answer), Memory>
+        requires { MayServe self new.items }
+        ensures next { IfOk result (λ r. IsNext self new.items r.0) }
+        ensures answer { IfOk result (λ r. r.1 ≡ next_answer self new.items) }
+    {
+        // What the first engine is, all are.
+        let _first = self.replicas.first();
+        let Live {
+            replicas,
+            config,
+            each,
+            checkpoint,
+        } = self;
+        let (replicas, answer) = replicas.run_batch(rt, alloc, new, &config, pace)?;
+        let next = Live {
+            replicas,
+            config,
+            each,
+            checkpoint,
+        };
+        Ok((next, answer))
+    }
+
+    /// The listing of its rows.
+    pub fn list(&self, alloc: Global) -> Result<Vec<u8>, Memory>
+        ensures { IfOk result (λ text. text.items ≡ listing (plan_of self.now) (state_of self.now)) }
+    {
+        let engine = self.replicas.first();
+        print_state(alloc, engine.catalog(), engine.tables(), engine.batches())
+    }
+
+    /// How many requests wait. No memory.
+    pub fn waiting(&self) -> usize
+        ensures { result ≡ length (state_of self.now).waiting }
+    {
+        self.replicas.first().carried().len()
+    }
+
+    /// How many batches were run. No memory.
+    pub fn batches(&self) -> u64
+        ensures { result ≡ (state_of self.now).batches }
+    {
+        self.replicas.first().batches()
+    }
+
+    /// How many requests were numbered. No memory.
+    pub fn requests(&self) -> u64
+        ensures { result ≡ (state_of self.now).requests }
+    {
+        self.replicas.first().requests()
+    }
+
+    /// The text of an answer, with the listing where each answer has one.
+    fn text(&self, alloc: Global, answer: &Answer) -> Result<Vec<u8>, Memory>
+        ensures { IfOk result (λ text. text.items ≡ answer_text (plan_of self.now).tables answer.now ++ (if self.now.each then listing (plan_of self.now) (state_of self.now) else [])) }
+    {
+        let engine = self.replicas.first();
+        let mut text = print_answer(alloc, engine.catalog(), answer)?;
+        if self.each {
+            append_state(
+                &mut text,
+                engine.catalog(),
+                engine.tables(),
+                engine.batches(),
+            )?;
+        }
+        Ok(text)
+    }
+}
