@@ -139,15 +139,16 @@ last_or false true c e = absurd (cc e)
 last_or true b c e = absurd (cc e)
 
 -- what is known of fields with which nothing is wrong
-record Clear (slot : ℕ) (f : Fields) : Type 0 where
+pub record Clear (slot : ℕ) (f : Fields) : Type 0 where
   pub behind_magic : first_fault (drop 1 (faults slot f)) ≡ None
   pub format : not (f.format == 1 || f.format == 2) ≡ false
   pub rule : nat_lt 1 f.rule ≡ false
+  pub fallback : nat_lt 101 f.fallback ≡ false
   pub generation : wrong_generation slot f ≡ false
   pub batches : nat_lt GREATEST_NUMBER f.batches ≡ false
   pub requests : nat_lt GREATEST_NUMBER f.requests ≡ false
 
-clear : (slot : ℕ) (f : Fields) → first_fault (faults slot f) ≡ None → Clear slot f
+pub clear : (slot : ℕ) (f : Fields) → first_fault (faults slot f) ≡ None → Clear slot f
 clear slot f none =
     let magic_row = no_fault (not (f.magic == magic)) 1 (drop 1 (faults slot f)) none in
     let format_row = no_fault (not (f.format == 1 || f.format == 2)) 5 (drop 2 (faults slot f)) magic_row.1 in
@@ -160,6 +161,7 @@ clear slot f none =
       behind_magic = magic_row.1;
       format = format_row.0;
       rule = rule_row.0;
+      fallback = fallback_row.0;
       generation = generation_row.0;
       batches = batches_row.0;
       requests = requests_row.0;
