@@ -1,0 +1,3 @@
+pub mod Carried
+pub mod Loaded
+pub mod Once

@@ -1,0 +1,4 @@
+pub mod Images
+pub mod Said
+pub mod Causes
+pub mod Laws
