@@ -14,7 +14,7 @@ use Rattle.input_log.specs.declared.logs.Payload.{Payload}
 use Rattle.checkpoint.specs.declared.heads.Head.{Head}
 use Rattle.checkpoint.specs.Damage.{IsSound}
 use Rattle.checkpoint.specs.Heads.{fields_for}
-use Rattle.checkpoint.specs.Slots.{Slot, Shut, Shown, Bad, slot_of, IsHead}
+use Rattle.checkpoint.specs.Slots.{Slot, Shut, Shown, Bad, slot_of, is_open, IsHead}
 use Rattle.checkpoint.specs.Causes.{LookCause}
 use Rattle.checkpoint.proofs.Showing.{clear}
 use Rattle.store_files.specs.declared.refusals.StoreRefused.{StoreRefused}
@@ -23,7 +23,7 @@ use Rattle.store_files.specs.Openings.{by_slots, beside, opened_of, NoGate, Dama
 use Rattle.store_files.specs.Holdings.{IsLower, IsBehind, Holds, IsSettled}
 use Rattle.store_files.specs.Stores.{Stored, slot_in, Rests}
 use Rattle.store_files.proofs.Syncs.{rose_later}
-use Rattle.store_files.specs.Attachments.{as_store, pick_of, Heads, Chosen, TakeCause}
+use Rattle.store_files.specs.Attachments.{as_store, pick_of, Heads, Chosen, TakeCause, IsTaken}
 
 -- what was left before is left still
 pub still_leaves : (a b c : History) → LeavesAll a b (MayLeave a a.now) → Still b c → LeavesAll a c (MayLeave a a.now)
@@ -297,3 +297,21 @@ still_chosen b c slot head still chosen = record {
   behind = subst (λ (t : Option File). EachImage t (IsBehind (1 - slot) head.generation))
       (sym (still_now b c still (1 - slot))) chosen.behind;
 }
+
+-- ---- whether a gate is tells
+
+gate_is : (told : Option File) (shown answer : Bool) → IfSome told (λ f. shown ≡ is_open f.seen) → shown ≡ answer → IfSome told (λ f. is_open f.seen ≡ answer)
+gate_is None shown answer tells is = tt
+gate_is (Some f) shown answer tells is = sym tells ∙ is
+
+pub taken_first : (a : History) (shown : Bool) → IfSome (current a 0) (λ f. shown ≡ is_open f.seen) → shown ≡ true → IsTaken a true
+taken_first a shown tells is = inl (gate_is (current a 0) shown true tells is)
+
+pub taken_second : (a b : History) (first second : Bool) → Still a b → IfSome (current a 0) (λ f. first ≡ is_open f.seen) → first ≡ false
+    → IfSome (current b 1) (λ f. second ≡ is_open f.seen) → IsTaken a second
+taken_second a b first true still tells is other =
+    inr (gate_is (current a 1) true true (subst (λ (t : Option File). IfSome t (λ f. true ≡ is_open f.seen)) (still_now a b still 1) other) refl)
+taken_second a b first false still tells is other = (
+  gate_is (current a 0) first false tells is,
+  gate_is (current a 1) false false (subst (λ (t : Option File). IfSome t (λ f. false ≡ is_open f.seen)) (still_now a b still 1) other) refl,
+)

@@ -1,12 +1,12 @@
 -- What attaching finds of the slots.
-use Rattle.std.specs.Prelude.{◌≡◌, ℕ, ◌-◌, ◌<◌, nat_lt, List, Option, None, Some, IfSome, if◌then◌else◌}
+use Rattle.std.specs.Prelude.{◌≡◌, ◌⊎◌, ℕ, ◌-◌, ◌<◌, nat_lt, Bool, true, false, List, Option, None, Some, IfSome, if◌then◌else◌}
 use Rattle.aria_base.specs.Faults.{Rose}
 use Rattle.disk_model.specs.Histories.{History, current, EachImage, MayLeave}
 use Rattle.disk_model.specs.declared.refusals.LogRefused.{LogRefused}
 use Rattle.disk_model.specs.declared.refusals.LogRefused.TheVariants as of_file
 use Rattle.checkpoint.specs.declared.heads.Head.{Head}
 use Rattle.checkpoint.specs.Damage.{IsSound}
-use Rattle.checkpoint.specs.Slots.{slot_of, IsHead}
+use Rattle.checkpoint.specs.Slots.{slot_of, is_open, IsHead}
 use Rattle.store_files.specs.declared.refusals.StoreRefused.{StoreRefused}
 use Rattle.store_files.specs.declared.refusals.StoreRefused.TheVariants.{Memory, DiskFault, NoStore, Exists, Damaged, Closed}
 use Rattle.store_files.specs.Openings.{NoGate, Damage, opened_of}
@@ -47,3 +47,10 @@ TakeCause old new NoStore = (images : ℕ → List ℕ) → MayLeave new new.now
 TakeCause old new (Damaged file at) = (images : ℕ → List ℕ) → MayLeave new new.now images → opened_of images ≡ Damage file at
 TakeCause old new Exists = ⊥
 TakeCause old new (Closed faults) = ⊥
+
+-- whether one of the two gates is open, as a read gives them
+abbrev pub IsTaken : History → Bool → Type 0
+IsTaken disk true =
+    IfSome (current disk 0) (λ f. is_open f.seen ≡ true) ⊎ IfSome (current disk 1) (λ f. is_open f.seen ≡ true)
+IsTaken disk false =
+    IfSome (current disk 0) (λ f. is_open f.seen ≡ false) × IfSome (current disk 1) (λ f. is_open f.seen ≡ false)

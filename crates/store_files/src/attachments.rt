@@ -1,10 +1,10 @@
 // Which slot is taken.
-ghost use Rattle.std.specs.Prelude.{◌≡◌, ◌⊎◌, ◌<◌, true, IfOk, IfErr, IfSome, OnErr};
+ghost use Rattle.std.specs.Prelude.{◌≡◌, ◌<◌, IfOk, IfErr, IfSome, OnErr};
 ghost use Rattle.aria_base.specs.Faults.{Rose};
 ghost use Rattle.disk_model.specs.Histories.{current, MayLeave, LeavesAll, Still};
 ghost use Rattle.checkpoint.specs.Slots.{is_open};
 ghost use Rattle.store_files.specs.Holdings.{IsSettled};
-ghost use Rattle.store_files.specs.Attachments.{pick_of, Heads, Chosen, TakeCause};
+ghost use Rattle.store_files.specs.Attachments.{pick_of, Heads, Chosen, IsTaken, TakeCause};
 
 use crate::creations::sync_all;
 use crate::refusals::StoreRefused;
@@ -14,10 +14,16 @@ use disk_model::Disk;
 
 /// Whether one of the two gates is open.
 pub fn is_taken<D: Disk>(disk: &mut D) -> Result<bool, Failed>
+    ensures taken { IfOk result (IsTaken (D.history disk.old)) }
     ensures still { Still (D.history disk.old) (D.history disk.new) }
     ensures cause { OnErr result (Rose (D.history disk.old).faults (D.history disk.new).faults) }
 {
-    Ok(gate_open(disk, 0)? || gate_open(disk, 1)?)
+    let first = gate_open(disk, 0)?;
+    if first {
+        return Ok(true);
+    }
+    let second = gate_open(disk, 1)?;
+    Ok(second)
 }
 
 // Whether a slot's gate is open.
