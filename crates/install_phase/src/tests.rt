@@ -1,68 +1,21 @@
-// What no clause shows: the rows after a batch worked out by hand, that workers write at the same time,
-// and which steps they tell of.
+// What no clause shows: the rows after a batch worked out by hand. `worked_phases` has two workers write
+// at the same time, and counts the steps that they tell of.
 ghost use Rattle.std.specs.Prelude.{◌≤◌};
 
 use crate::install;
-use aria_base::{Changes, Free, Key, Keys, Memory, Pace, Part, Parts, Place, Row, Value};
+use aria_base::{Changes, Free, Key, Keys, Memory, Part, Parts, Row, Value};
 use batch_rules::verdicts::{Cause, Verdict};
 use proc_exec::Outcome;
 use proc_lang::{End, Gives};
 use std::alloc::Global;
 use std::fmt::Debug;
 use std::process::Abort;
-use std::sync::atomic::{AtomicU64, Ordering};
 use std::test::Fail;
-use std::thread::{Threads, yield_now};
+use std::thread::Threads;
 use tbl_rows::Tables;
 
 /// How many accounts there are, and requests, each of which writes one.
 const COUNT: i64 = 40;
-
-/// How often a worker looks at most whether the other one is there.
-const TURNS: u64 = 100_000_000;
-
-/// Counts the steps.
-#[derive(Drop)]
-struct Steps {
-    installs: AtomicU64,
-    others: AtomicU64,
-}
-
-impl Pace for Steps {
-    fn at(&self, _who: u32, place: Place) {
-        let counter = match place {
-            Place::Install => &self.installs,
-            _ => &self.others,
-        };
-        counter.fetch_add(1, Ordering::SeqCst);
-    }
-}
-
-/// Holds each of two workers back before its first write until the other one has come to its own.
-#[derive(Drop)]
-struct Gate {
-    first: AtomicU64,
-    second: AtomicU64,
-    missed: AtomicU64,
-}
-
-impl Pace for Gate {
-    fn at(&self, who: u32, _place: Place) {
-        let (mine, other) = if who == 0 {
-            (&self.first, &self.second)
-        } else {
-            (&self.second, &self.first)
-        };
-        mine.store(1, Ordering::SeqCst);
-        for _ in 0..TURNS {
-            if other.load(Ordering::SeqCst) == 1 {
-                return;
-            }
-            yield_now();
-        }
-        self.missed.store(1, Ordering::SeqCst);
-    }
-}
 
 /// Asserts that what was found in this case is what is wanted.
 fn same<T: PartialEq + Debug>(rt: &impl Abort, case: &impl Debug, found: &T, wanted: &T) {
@@ -114,12 +67,7 @@ fn verdict(number: i64) -> Verdict {
 }
 
 /// The accounts after the batch.
-fn installed<R: Threads + Sync, P: Pace + Sync>(
-    rt: &R,
-    alloc: Global,
-    workers: u32,
-    pace: &P,
-) -> Result<Tables, Fail>
+fn installed<R: Threads + Sync>(rt: &R, alloc: Global, workers: u32) -> Result<Tables, Fail>
     requires { (1 ≤ workers) × (workers ≤ 64) }
 {
     let mut outcomes = Vec::new(alloc);
@@ -129,7 +77,7 @@ fn installed<R: Threads + Sync, P: Pace + Sync>(
         verdicts.push(verdict(number))?;
     }
     let tables = accounts(alloc)?;
-    Ok(install(rt, alloc, tables, outcomes, &verdicts, workers, pace)?)
+    Ok(install(rt, alloc, tables, outcomes, &verdicts, workers, &Free)?)
 }
 
 /// Their numbers and what stands there.
@@ -161,36 +109,8 @@ fn any_number_of_workers_gives_the_same_rows(rt: HostRuntime) -> Result<(), Fail
     let alloc = rt.alloc();
     let wanted = expected(alloc)?;
     for workers in [1, 2, 7, 64_u32] {
-        let after = installed(&rt, alloc, workers, &Free)?;
+        let after = installed(&rt, alloc, workers)?;
         same(&rt, &workers, &listed(alloc, &after)?, &wanted);
     }
-    Ok(())
-}
-
-#[test]
-fn each_write_is_told(rt: HostRuntime) -> Result<(), Fail> {
-    let steps = Steps {
-        installs: AtomicU64::new(0),
-        others: AtomicU64::new(0),
-    };
-    let _after = installed(&rt, rt.alloc(), 3, &steps)?;
-    let told = [
-        steps.installs.load(Ordering::SeqCst),
-        steps.others.load(Ordering::SeqCst),
-    ];
-    same(&rt, &"the writes of 27 that finish", &told, &[27, 0]);
-    Ok(())
-}
-
-#[test]
-fn two_workers_meet_before_their_first_write(rt: HostRuntime) -> Result<(), Fail> {
-    let gate = Gate {
-        first: AtomicU64::new(0),
-        second: AtomicU64::new(0),
-        missed: AtomicU64::new(0),
-    };
-    let _after = installed(&rt, rt.alloc(), 2, &gate)?;
-    let missed = gate.missed.load(Ordering::SeqCst);
-    same(&rt, &"one worker writes all alone", &missed, &0);
     Ok(())
 }

@@ -1,20 +1,16 @@
-// What no clause shows: the words of batches worked out by hand, that workers mark at the same time, and
-// which steps they tell of.
+// What no clause shows: the words of batches worked out by hand. `worked_phases` has two workers mark at
+// the same time, and counts the steps that they tell of.
 ghost use Rattle.std.specs.Prelude.{◌≡◌, ◌≤◌, ◌<◌, length, map, IfOk, All};
 ghost use Rattle.dep_rules.specs.Sheets.{AllBelow};
 
 use crate::reserve;
-use aria_base::{Free, Memory, Pace, Place};
+use aria_base::{Free, Memory};
 use dep_rules::Numbered;
 use std::alloc::Global;
 use std::fmt::Debug;
 use std::process::Abort;
-use std::sync::atomic::{AtomicU64, Ordering};
 use std::test::Fail;
-use std::thread::{Threads, yield_now};
-
-/// How often a worker looks at most whether the other one is there.
-const TURNS: u64 = 100_000_000;
+use std::thread::Threads;
 
 /// From this TID on each request touches one key, its TID times the factor. Keys go round.
 #[derive(Clone, Copy, Drop)]
@@ -27,54 +23,6 @@ const NOTHING: Touches = Touches {
     from: 10_001,
     factor: 0,
 };
-
-/// Counts the steps.
-#[derive(Drop)]
-struct Steps {
-    draws: AtomicU64,
-    marks: AtomicU64,
-    others: AtomicU64,
-}
-
-impl Pace for Steps {
-    fn at(&self, _who: u32, place: Place) {
-        let counter = match place {
-            Place::Draw => &self.draws,
-            Place::Mark => &self.marks,
-            _ => &self.others,
-        };
-        counter.fetch_add(1, Ordering::SeqCst);
-    }
-}
-
-/// Holds each of two workers back before its first mark until the other one has come to its own.
-#[derive(Drop)]
-struct Gate {
-    first: AtomicU64,
-    second: AtomicU64,
-    missed: AtomicU64,
-}
-
-impl Pace for Gate {
-    fn at(&self, who: u32, place: Place) {
-        if place != Place::Mark {
-            return;
-        }
-        let (mine, other) = if who == 0 {
-            (&self.first, &self.second)
-        } else {
-            (&self.second, &self.first)
-        };
-        mine.store(1, Ordering::SeqCst);
-        for _ in 0..TURNS {
-            if other.load(Ordering::SeqCst) == 1 {
-                return;
-            }
-            yield_now();
-        }
-        self.missed.store(1, Ordering::SeqCst);
-    }
-}
 
 /// Asserts that what was found in this case is what is wanted.
 fn same<T: PartialEq + Debug>(rt: &impl Abort, case: &impl Debug, found: &T, wanted: &T) {
@@ -212,50 +160,5 @@ fn more_workers_than_requests(rt: HostRuntime) -> Result<(), Fail> {
     let closed = reserve(&rt, alloc, &batch, Vec::new(alloc), 0, 64, &Free)?;
     let wanted = vec![in alloc; u64::MAX, 3, u64::MAX, 1, u64::MAX, 2]?;
     same(&rt, &"words", &closed.into_words(), &wanted);
-    Ok(())
-}
-
-#[test]
-fn each_draw_and_each_mark_is_told(rt: HostRuntime) -> Result<(), Fail> {
-    let alloc = rt.alloc();
-    let steps = Steps {
-        draws: AtomicU64::new(0),
-        marks: AtomicU64::new(0),
-        others: AtomicU64::new(0),
-    };
-    let reads = Touches { from: 1, factor: 1 };
-    let writes = Touches {
-        from: 51,
-        factor: 1,
-    };
-    let batch = batch(alloc, reads, writes, 100, 10)?;
-    let _closed = reserve(&rt, alloc, &batch, Vec::new(alloc), 0, 3, &steps)?;
-    let told = [
-        steps.draws.load(Ordering::SeqCst),
-        steps.marks.load(Ordering::SeqCst),
-        steps.others.load(Ordering::SeqCst),
-    ];
-    same(
-        &rt,
-        &"each worker draws once in vain",
-        &told,
-        &[103, 150, 0],
-    );
-    Ok(())
-}
-
-#[test]
-fn two_workers_meet_before_their_first_mark(rt: HostRuntime) -> Result<(), Fail> {
-    let alloc = rt.alloc();
-    let gate = Gate {
-        first: AtomicU64::new(0),
-        second: AtomicU64::new(0),
-        missed: AtomicU64::new(0),
-    };
-    let writes = Touches { from: 1, factor: 1 };
-    let batch = batch(alloc, NOTHING, writes, 40, 40)?;
-    let _closed = reserve(&rt, alloc, &batch, Vec::new(alloc), 0, 2, &gate)?;
-    let missed = gate.missed.load(Ordering::SeqCst);
-    same(&rt, &"one worker marks all alone", &missed, &0);
     Ok(())
 }

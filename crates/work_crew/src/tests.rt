@@ -1,15 +1,11 @@
-// What no clause shows: that workers run at the same time, and which steps they tell of.
+// What no clause shows: that a work is done, and that want of memory is told. `worked_phases` has two
+// workers at work at once, and counts the steps that they tell of.
 ghost use Rattle.std.specs.Prelude.{◌≡◌, ◌/◌, ◌<◌, ◌≤◌};
 
 use crate::{Task, Work, carry_out, gather};
-use aria_base::{Free, Memory, Pace, Place};
+use aria_base::{Free, Memory, Place};
 use std::alloc::Global;
-use std::sync::atomic::{AtomicU64, Ordering};
 use std::test::Fail;
-use std::thread::yield_now;
-
-/// How often a worker looks at most whether the other one is there.
-const TURNS: u64 = 100_000_000;
 
 /// At each place half of its number.
 #[derive(Drop)]
@@ -99,54 +95,6 @@ impl Work for Lists {
     }
 }
 
-/// Counts the steps.
-#[derive(Drop)]
-struct Steps {
-    draws: AtomicU64,
-    runs: AtomicU64,
-    others: AtomicU64,
-}
-
-impl Pace for Steps {
-    fn at(&self, _who: u32, place: Place) {
-        let counter = match place {
-            Place::Draw => &self.draws,
-            Place::Execute => &self.runs,
-            _ => &self.others,
-        };
-        counter.fetch_add(1, Ordering::SeqCst);
-    }
-}
-
-/// Holds each of two workers back before its first run until the other one is there.
-#[derive(Drop)]
-struct Gate {
-    first: AtomicU64,
-    second: AtomicU64,
-    missed: AtomicU64,
-}
-
-impl Pace for Gate {
-    fn at(&self, who: u32, place: Place) {
-        if place == Place::Draw {
-            return;
-        }
-        let (mine, other) = if who == 0 {
-            (&self.first, &self.second)
-        } else {
-            (&self.second, &self.first)
-        };
-        mine.store(1, Ordering::SeqCst);
-        for _ in 0..TURNS {
-            if other.load(Ordering::SeqCst) == 1 {
-                return;
-            }
-            yield_now();
-        }
-        self.missed.store(1, Ordering::SeqCst);
-    }
-}
-
 #[test]
 fn outputs_come_to_their_places(rt: HostRuntime) -> Result<(), Fail> {
     for count in [0, 3, 1_000_u32] {
@@ -183,40 +131,6 @@ fn hands_run_each_place_once(rt: HostRuntime) -> Result<(), Fail> {
             .iter()
             .enumerate()
             .all(|(at, place)| at == *place as usize)
-    );
-    Ok(())
-}
-
-#[test]
-fn each_draw_and_each_run_is_told(rt: HostRuntime) -> Result<(), Fail> {
-    let steps = Steps {
-        draws: AtomicU64::new(0),
-        runs: AtomicU64::new(0),
-        others: AtomicU64::new(0),
-    };
-    let _halves = gather(&rt, rt.alloc(), &Halves { count: 100 }, 3, &steps)?;
-    assert_eq!(rt;
-        steps.draws.load(Ordering::SeqCst),
-        103,
-        "each worker draws once in vain"
-    );
-    assert_eq!(rt; steps.runs.load(Ordering::SeqCst), 100);
-    assert_eq!(rt; steps.others.load(Ordering::SeqCst), 0);
-    Ok(())
-}
-
-#[test]
-fn two_workers_meet_before_their_first_run(rt: HostRuntime) -> Result<(), Fail> {
-    let gate = Gate {
-        first: AtomicU64::new(0),
-        second: AtomicU64::new(0),
-        missed: AtomicU64::new(0),
-    };
-    let _halves = gather(&rt, rt.alloc(), &Halves { count: 1_000 }, 2, &gate)?;
-    assert_eq!(rt;
-        gate.missed.load(Ordering::SeqCst),
-        0,
-        "one worker did all alone"
     );
     Ok(())
 }

@@ -1,0 +1,22 @@
+//! Worked examples of a batch's phases on several workers, which the gate runs. There is no code here,
+//! only tests.
+//!
+//! `accounts` makes what the phases work on: accounts as keys, sets, rows and writes, and calls of the
+//! catalogue `bank`. `decisions` numbers, marks and decides made-up batches, and has both forms of a
+//! decision side by side. `executions` runs a batch by several workers. `meetings` holds two workers
+//! back until both are at work, in each phase that has steps to tell of, and counts these steps.
+//! `keeping` keeps more keys than a batch may find.
+//!
+//! The tests of each phase alone stand in its own crate.
+#![tactic(auto)]
+
+#[cfg(test)]
+mod accounts;
+#[cfg(test)]
+mod decisions;
+#[cfg(test)]
+mod executions;
+#[cfg(test)]
+mod keeping;
+#[cfg(test)]
+mod meetings;

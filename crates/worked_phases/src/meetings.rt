@@ -1,0 +1,152 @@
+// That two workers are at work at the same time in each phase, and the steps that each tells of.
+ghost use Rattle.std.specs.Prelude.{◌≤◌};
+
+use crate::accounts::{bank, change, copies, same, sets, tables};
+use aria_base::{Pace, Place};
+use batch_rules::verdicts::{Cause, Verdict};
+use dep_rules::Sets;
+use exec_phase::execute_all;
+use install_phase::install_changes;
+use key_numbering::{may_be_numbered, number};
+use resv_phase::reserve;
+use std::alloc::Global;
+use std::process::Abort;
+use std::test::Fail;
+use std::thread::Threads;
+use tbl_snapshot::Snapshot;
+use test_paces::{Gate, Steps};
+
+/// How many of each kind were told: draws, executions, marks, installs, runs again.
+fn told(steps: &Steps) -> [u64; 5] {
+    [
+        steps.told(Place::Draw),
+        steps.told(Place::Execute),
+        steps.told(Place::Mark),
+        steps.told(Place::Install),
+        steps.told(Place::Rerun),
+    ]
+}
+
+/// Asserts that two workers met at the gate, and how many steps there were.
+fn met(rt: &impl Abort, gate: &Gate, steps: u64) {
+    let found = (gate.was_missed(), gate.steps());
+    same(rt, &"one alone, and steps", &found, &(false, steps));
+}
+
+/// A hundred calls are run at this pace.
+fn execute_hundred<R: Threads + Sync, P: Pace + Sync>(
+    rt: &R,
+    alloc: Global,
+    workers: u32,
+    pace: &P,
+) -> Result<(), Fail>
+    requires { (1 ≤ workers) × (workers ≤ 64) }
+{
+    let catalog = bank(alloc)?;
+    let tables = tables(alloc, 4)?;
+    let list = copies(alloc, &catalog, 100)?;
+    let _outcomes = execute_all(
+        rt,
+        alloc,
+        &catalog,
+        Snapshot::of(&tables),
+        &list,
+        workers,
+        pace,
+    )?;
+    Ok(())
+}
+
+/// A hundred requests: each reads one of ten accounts, and each from the 51st on writes one.
+fn hundred_sets(alloc: Global) -> Result<Vec<Sets>, Fail> {
+    let mut list = Vec::new(alloc);
+    for place in 0..100_u32 {
+        let account = [place % 10];
+        let written = if place < 50 { 0 } else { 1 };
+        list.push(sets(alloc, &account, &account[..written])?)?;
+    }
+    Ok(list)
+}
+
+/// They are marked at this pace.
+fn mark_hundred<R: Abort + Threads + Sync, P: Pace + Sync>(
+    rt: &R,
+    alloc: Global,
+    workers: u32,
+    pace: &P,
+) -> Result<(), Fail>
+    requires { (1 ≤ workers) × (workers ≤ 64) }
+{
+    let sets = hundred_sets(alloc)?;
+    if !may_be_numbered(&sets) {
+        panic!(rt; "too many sets");
+    }
+    let numbered = number(alloc, &sets)?;
+    let _closed = reserve(rt, alloc, &numbered, Vec::new(alloc), 0, workers, pace)?;
+    Ok(())
+}
+
+/// A hundred writes, each to an account of its own, of which each fourth waits, are installed at this
+/// pace.
+fn install_hundred<R: Threads + Sync, P: Pace + Sync>(
+    rt: &R,
+    alloc: Global,
+    workers: u32,
+    pace: &P,
+) -> Result<(), Fail>
+    requires { (1 ≤ workers) × (workers ≤ 64) }
+{
+    let mut list = Vec::new(alloc);
+    let mut verdicts = Vec::new(alloc);
+    for number in 0..100_u32 {
+        list.push(change(alloc, number, 7)?)?;
+        let waits = number % 4 == 3;
+        verdicts.push(if waits {
+            Verdict::Wait(Cause::Waw(1))
+        } else {
+            Verdict::Finish { raw: false }
+        })?;
+    }
+    let tables = tables(alloc, 4)?;
+    let _after = install_changes(rt, alloc, tables, list, &verdicts, workers, pace)?;
+    Ok(())
+}
+
+#[test]
+fn two_workers_meet_before_their_first_run(rt: HostRuntime) -> Result<(), Fail> {
+    let gate = Gate::before(Place::Execute);
+    execute_hundred(&rt, rt.alloc(), 2, &gate)?;
+    met(&rt, &gate, 100);
+    Ok(())
+}
+
+#[test]
+fn two_workers_meet_before_their_first_mark(rt: HostRuntime) -> Result<(), Fail> {
+    let gate = Gate::before(Place::Mark);
+    mark_hundred(&rt, rt.alloc(), 2, &gate)?;
+    met(&rt, &gate, 150);
+    Ok(())
+}
+
+#[test]
+fn two_workers_meet_before_their_first_write(rt: HostRuntime) -> Result<(), Fail> {
+    let gate = Gate::before(Place::Install);
+    install_hundred(&rt, rt.alloc(), 2, &gate)?;
+    met(&rt, &gate, 75);
+    Ok(())
+}
+
+#[test]
+fn each_step_is_told(rt: HostRuntime) -> Result<(), Fail> {
+    let alloc = rt.alloc();
+    let steps = Steps::new();
+    execute_hundred(&rt, alloc, 3, &steps)?;
+    same(&rt, &"runs", &told(&steps), &[103, 100, 0, 0, 0]);
+    let steps = Steps::new();
+    mark_hundred(&rt, alloc, 3, &steps)?;
+    same(&rt, &"marks", &told(&steps), &[103, 0, 150, 0, 0]);
+    let steps = Steps::new();
+    install_hundred(&rt, alloc, 3, &steps)?;
+    same(&rt, &"writes", &told(&steps), &[0, 0, 0, 75, 0]);
+    Ok(())
+}
