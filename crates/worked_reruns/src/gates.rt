@@ -1,0 +1,115 @@
+// The requests of a wave run at once, and each is told. What a long list comes to.
+ghost use Rattle.std.specs.Prelude.{◌≤◌, length};
+ghost use Rattle.aria_base.specs.declared.limits.TheConstants.{MOST_REQUESTS};
+
+use crate::makings::{ADD, Again, catalog, crowd, tables, waiting};
+use crate::words::{late_words, rows_words};
+use aria_base::{Free, Memory, Pace, Place};
+use fallback_locks::{rerun, waves};
+use proc_exec::{Late, Waiting};
+use std::alloc::Global;
+use std::sync::atomic::{AtomicU64, Ordering};
+use std::test::Fail;
+use std::thread::yield_now;
+use tbl_rows::Tables;
+
+/// Two that do not conflict.
+const APART: [Again; 2] = [(ADD, [1, 1], &[1], &[1]), (ADD, [2, 1], &[2], &[2])];
+
+/// How often a worker looks at most whether the other one is there.
+const TURNS: u64 = 100_000_000;
+
+/// Holds each of two workers back before its first run until the other one is there.
+#[derive(Drop)]
+struct Gate {
+    first: AtomicU64,
+    second: AtomicU64,
+    missed: AtomicU64,
+    runs: AtomicU64,
+}
+
+impl Pace for Gate {
+    fn at(&self, who: u32, place: Place) {
+        if place != Place::Rerun {
+            return;
+        }
+        self.runs.fetch_add(1, Ordering::SeqCst);
+        let (mine, other) = if who == 0 {
+            (&self.first, &self.second)
+        } else {
+            (&self.second, &self.first)
+        };
+        mine.store(1, Ordering::SeqCst);
+        for _ in 0..TURNS {
+            if other.load(Ordering::SeqCst) == 1 {
+                return;
+            }
+            yield_now();
+        }
+        self.missed.store(1, Ordering::SeqCst);
+    }
+}
+
+#[test]
+fn two_requests_of_one_wave_meet(rt: HostRuntime) -> Result<(), Fail> {
+    let alloc = rt.alloc();
+    let gate = Gate {
+        first: AtomicU64::new(0),
+        second: AtomicU64::new(0),
+        missed: AtomicU64::new(0),
+        runs: AtomicU64::new(0),
+    };
+    let catalog = catalog(alloc)?;
+    let tables = tables(alloc, &[(1, 10), (2, 20)])?;
+    let waiting = waiting(alloc, &APART)?;
+    if waiting.len() > 10_000 {
+        return Err(Fail::new("a list has at most 10,000 requests"));
+    }
+    let (tables, _lates) = rerun(&rt, alloc, &catalog, tables, &waiting, 2, &gate)?;
+    let left = rows_words(alloc, &tables.rows()?)?;
+    assert_eq!(rt; left.as_str(), "1 = 11; 2 = 21; ");
+    let told = (
+        gate.missed.load(Ordering::SeqCst),
+        gate.runs.load(Ordering::SeqCst),
+    );
+    assert_eq!(rt; told, (0, 2), "missed, and runs");
+    Ok(())
+}
+
+/// Whether the requests have the waves 1, 2, 3 and so on.
+fn in_turn(alloc: Global, waiting: &[Waiting]) -> Result<bool, Memory>
+    requires { length waiting.now ≤ MOST_REQUESTS }
+{
+    let waves = waves(alloc, waiting)?;
+    Ok(
+        waves
+            .iter()
+            .enumerate()
+            .all(|(at, wave)| at.wrapping_add(1) == *wave as usize),
+    )
+}
+
+/// The accounts, and what became of the last request, in words.
+fn left_and_last(alloc: Global, tables: &Tables, lates: &[Late]) -> Result<String, Memory> {
+    let mut words = rows_words(alloc, &tables.rows()?)?;
+    if let Some(late) = lates.last() {
+        words.push_str(&late_words(alloc, late)?)?;
+    }
+    Ok(words)
+}
+
+#[test]
+fn ten_thousand_on_one_account_run_one_by_one(rt: HostRuntime) -> Result<(), Fail> {
+    let alloc = rt.alloc();
+    let catalog = catalog(alloc)?;
+    let waiting = crowd(alloc, 10_000)?;
+    if waiting.len() > 10_000 {
+        return Err(Fail::new("a list has at most 10,000 requests"));
+    }
+    assert!(rt; in_turn(alloc, &waiting)?, "waves 1 to 10,000");
+    let tables = tables(alloc, &[(1, 10)])?;
+    let (tables, lates) = rerun(&rt, alloc, &catalog, tables, &waiting, 4, &Free)?;
+    let left = left_and_last(alloc, &tables, &lates)?;
+    assert_eq!(rt; left.as_str(), "1 = 10010; done 10010");
+    Ok(())
+}
