@@ -1,5 +1,6 @@
 mod Batching
 mod Committing
+mod Deciding
 mod Judging
 mod Readying
 mod Settling

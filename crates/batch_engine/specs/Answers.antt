@@ -19,10 +19,13 @@ use Rattle.batch_core.specs.Steps.{reply_by}
 use Rattle.dep_rules.specs.Sheets.{Sheet, reads_at, writes_at}
 use Rattle.dep_rules.specs.Words.{tids_before}
 
--- the verdicts of all requests, by the numbers of their keys
+-- the verdict of a request, by the numbers of the keys
+abbrev pub verdict_of : Rule → Sheet → ℕ → Verdict
+verdict_of rule sheet tid = verdict nat_cmp (reads_at sheet) (writes_at sheet) rule (tids_before tid) tid
+
+-- the verdicts of all requests
 abbrev pub verdicts_on : Rule → Sheet → List Verdict
-verdicts_on rule sheet = map (λ tid. verdict nat_cmp (reads_at sheet) (writes_at sheet) rule (tids_before tid) tid)
-    (range_with_len 1 (length sheet.reads))
+verdicts_on rule sheet = map (verdict_of rule sheet) (range_with_len 1 (length sheet.reads))
 
 -- the request number of a TID
 abbrev pub number_in : List ℕ → ℕ → ℕ

@@ -59,7 +59,8 @@ pub(crate) fn commit<P: Pace + Sync, R: Threads + Sync>(
     let runs = take_apart(alloc, outcomes)?;
     let last = mark(rt, alloc, last, &runs.sets, workers, pace)?;
     let Marked { numbered, closed } = &last.marked;
-    let verdicts = decide_all(alloc, numbered, closed.words(), closed.tag(), config.rule)?;
+    let (words, tag) = (closed.words(), closed.tag());
+    let verdicts = decide_all(rt, alloc, numbered, words, tag, config.rule, workers)?;
     let tables = install_changes(rt, alloc, tables, runs.changes, &verdicts, workers, pace)?;
     let committed = Committed {
         tables,
