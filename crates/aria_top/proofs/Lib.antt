@@ -1,4 +1,2 @@
-mod Counts
-mod Judging
-mod Refused
-mod Shapes
+pub mod Ranges
+pub mod Stopped
