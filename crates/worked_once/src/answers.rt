@@ -1,9 +1,9 @@
-// Whole scripts with what they print, worked out by hand.
-use crate::runs::{Case, ends};
+// Scripts that are answered to their end.
+use crate::runs::{Case, RING, RING_ANSWER, Row, all_end, ends};
 use std::test::Fail;
 
-/// The words, the script, the status, and what is printed.
-const CASES: [(&str, &str, u8, &str); 32] = [
+/// Scripts on the bank and on catalogues of their own: words, script, status and output.
+const ANSWERED: [Row; 23] = [
     ("once", "", 0, "state 0\nend state\n"),
     (
         "once",
@@ -26,6 +26,12 @@ const CASES: [(&str, &str, u8, &str); 32] = [
     (
         "once --rule plain",
         "catalog bank\nrow acct 1 = 10\nrow acct 2 = 20\nrow acct 3 = 30\ntx copy 1 2\ntx copy 2 3\ntx copy 3 1\nend 1\n",
+        0,
+        "batch 1\n1 ok 10\n2 wait raw 1\n3 wait raw 2\norder 1\nend 1\nstate 1\nrow acct 1 = 10\nrow acct 2 = 10\nrow acct 3 = 30\nend state\n",
+    ),
+    (
+        "once --rule=plain",
+        "catalog bank\nrow acct 1 = 10\nrow acct 2 = 20\nrow acct 3 = 30\ntx copy 1 2\ntx copy 2 3\ntx copy 3 1\nend 1",
         0,
         "batch 1\n1 ok 10\n2 wait raw 1\n3 wait raw 2\norder 1\nend 1\nstate 1\nrow acct 1 = 10\nrow acct 2 = 10\nrow acct 3 = 30\nend state\n",
     ),
@@ -85,52 +91,21 @@ const CASES: [(&str, &str, u8, &str); 32] = [
     ),
     (
         "once",
+        "catalog ycsb\nrow ycsb 1 = 0 0 0 0 0 0 0 0 0 0\ntx txn [1,2;1,2] 5\nend 1\n",
+        0,
+        "batch 1\n1 ok 5 10\norder 1\nend 1\nstate 1\nrow ycsb 1 = 10 0 0 0 0 0 0 0 0 0\nend state\n",
+    ),
+    (
+        "once",
         "catalog text\n:{\"tables\":[],\"procs\":[]}\n",
         0,
         "state 0\nend state\n",
     ),
     (
-        "once",
-        "catalog text\n:{\"tables\":[],\"procs\":[]}\ntx add 1 5\n",
-        1,
-        "refused 3 name\n",
-    ),
-    ("once", "catalog text\n:{\n", 1, "refused 3 catalog json\n"),
-    (
-        "once",
-        "catalog bank\nrow acct 1 = 10\nrow acct 2 = 20\nrow acct 3 = 30\ntx add 1 5\nend 3\n",
-        1,
-        "refused 6 gap 3 1\n",
-    ),
-    (
-        "once",
-        "catalog bank\nrow acct 1 = 10\nrow acct 2 = 20\nrow acct 3 = 30\ntx add 1 5\nend 1\ntx add 1 7\n",
-        1,
-        "batch 1\n1 ok 15\norder 1\nend 1\nrefused 8 unfinished\n",
-    ),
-    (
-        "once",
-        "catalog bank\nrow acct 1 = 10\nrow acct 2 = 20\nrow acct 3 = 30\na\tb\n",
-        1,
-        "refused 5 byte\n",
-    ),
-    (
-        "once",
-        "catalog bank\nrow acct 1 = 10\nrow acct 2 = 20\nrow acct 3 = 30\nrow acct 1\n",
-        1,
-        "refused 5 word\n",
-    ),
-    (
-        "once",
-        "catalog bank\nrow acct 1 = 10\nrow acct 2 = 20\nrow acct 3 = 30\ntx add 1\n",
-        1,
-        "refused 5 argument\n",
-    ),
-    (
-        "once",
-        "catalog bank\nrow acct 1 = 10\nrow acct 2 = 20\nrow acct 3 = 30\ncatalog bank\n",
-        1,
-        "refused 5 place\n",
+        "once --rule plain --fallback 0",
+        "catalog bank\nrow acct 1 = 10\nrow acct 2 = 20\nrow acct 3 = 30\ntx copy 1 2\ntx copy 2 3\ntx copy 3 1\nend 1\n",
+        0,
+        "batch 1\n1 ok 10\n2 ok 10\n3 ok 10\norder 1 2 3\nend 1\nstate 1\nrow acct 1 = 10\nrow acct 2 = 10\nrow acct 3 = 10\nend state\n",
     ),
     (
         "once",
@@ -140,21 +115,9 @@ const CASES: [(&str, &str, u8, &str); 32] = [
     ),
     (
         "once",
-        "catalog bank\nrow acct 1 = 10\nrow acct 2 = 20\nrow acct 3 = 30\nsettings plain 102\n",
-        1,
-        "refused 5 argument\n",
-    ),
-    (
-        "once",
-        "catalog bank\nrow acct 1 = 10\nrow acct 2 = 20\nrow acct 3 = 30\nsettings slow 1\n",
-        1,
-        "refused 5 name\n",
-    ),
-    (
-        "once",
-        "catalog bank\nrow acct 1 = 10\nrow acct 2 = 20\nrow acct 3 = 30\ntx add 1 5\nsettings plain 1\n",
-        1,
-        "refused 6 place\n",
+        "catalog text\n:{\"tables\":[{\"name\":\"who\",\"key\":[\"text\"],\"cols\":[\"int\"]}],\n:\"procs\":[{\"name\":\"say\",\"args\":[\"text\",\"int\"],\"regs\":[],\"body\":[[\"put\",\"who\",[[\"arg\",0]],[[\"arg\",1]]],[\"give\",[\"arg\",1]]]}]}\nrow who \"b\" = 1\ntx say \"a\" 2\nend 1\n",
+        0,
+        "batch 1\n1 ok 2\norder 1\nend 1\nstate 1\nrow who \"a\" = 2\nrow who \"b\" = 1\nend state\n",
     ),
     (
         "once",
@@ -168,46 +131,54 @@ const CASES: [(&str, &str, u8, &str); 32] = [
         0,
         "batch 1\n1 ok 15\n2 wait waw 1\norder 1\nend 1\nstate 1\nrow acct 1 = 15\nrow acct 2 = 20\nrow acct 3 = 30\nend state\nbatch 2\n2 ok 22\norder 2\nend 2\nstate 2\nrow acct 1 = 22\nrow acct 2 = 20\nrow acct 3 = 30\nend state\n",
     ),
-    ("once --workers 65", "", 2, "refused usage\n"),
-    ("once --fallback 102", "", 2, "refused usage\n"),
-    ("walk", "", 2, "refused usage\n"),
+    (
+        "once --state=each",
+        "catalog bank\nrow acct 1 = 10\nrow acct 2 = 20\nrow acct 3 = 30\ntx add 1 5\nend 1\ntx add 1 9\nend 1\n",
+        0,
+        "batch 1\n1 ok 15\norder 1\nend 1\nstate 1\nrow acct 1 = 15\nrow acct 2 = 20\nrow acct 3 = 30\nend state\nbatch 1 kept\n",
+    ),
+];
+
+/// Orders and payments.
+const ORDERS: [Row; 2] = [
+    (
+        "once",
+        "catalog tpcc\nrow warehouse 1 = 500 30000\nrow district 1 1 = 700 30000 2\nrow customer 1 1 1 = 7 1 1 1000 -1000 1000 1 \"\"\nrow item 1 = 1000 1\nrow stock 1 1 = 14 0 0 0 1\ntx neworder 1 1 1 0 [1,1,5]\nend 1\ntx payment 1 1 1 1 0 1 2500 0\nend 2\n",
+        0,
+        "batch 1\n1 ok 2 100 \"B\" 5000 5040\norder 1\nend 1\nbatch 2\n2 ok 1 -3500\norder 2\nend 2\nstate 2\nrow warehouse 1 = 500 32500\nrow district 1 1 = 700 32500 3\nrow customer 1 1 1 = 7 1 1 1000 -3500 3500 2 \"1 1 1 1 1 2500 \"\nrow history 2 = 1 1 1 1 1 0 2500\nrow new_order 1 1 2 =\nrow orders 1 1 2 = 1 0 0 1 1\nrow order_line 1 1 2 1 = 1 1 0 5 5000\nrow item 1 = 1000 1\nrow stock 1 1 = 100 5 1 0 1\nend state\n",
+    ),
+    (
+        "once",
+        "catalog tpcc\nrow warehouse 1 = 500 30000\nrow district 1 1 = 700 30000 2\nrow customer 1 1 1 = 7 1 1 1000 -1000 1000 1 \"\"\nrow item 1 = 1000 1\nrow stock 1 1 = 14 0 0 0 1\ntx neworder 1 1 1 0 [1,1,5;999,1,1]\nend 1\n",
+        0,
+        "batch 1\n1 back 1\norder 1\nend 1\nstate 1\nrow warehouse 1 = 500 30000\nrow district 1 1 = 700 30000 2\nrow customer 1 1 1 = 7 1 1 1000 -1000 1000 1 \"\"\nrow item 1 = 1000 1\nrow stock 1 1 = 14 0 0 0 1\nend state\n",
+    ),
 ];
 
 #[test]
 fn scripts_are_answered(rt: HostRuntime) -> Result<(), Fail> {
-    for (words, script, status, output) in CASES {
-        for piece in [1, 7, 4096] {
-            let case = Case {
-                words,
-                script,
-                piece,
-                failing_take: 0,
-                failing_give: 0,
-            };
-            let right = ends(&rt, &case, status, output)?;
-            assert!(rt; right, "{words} at {script:?}");
-        }
-    }
-    Ok(())
+    all_end(&rt, &ANSWERED)
 }
 
-/// The ring of three copies, and its answer.
-pub const RING: &str =
-    "catalog bank\nrow acct 1 = 10\nrow acct 2 = 20\nrow acct 3 = 30\ntx copy 1 2\ntx copy 2 3\ntx copy 3 1\nend 1\n";
+#[test]
+fn orders_and_payments_are_answered(rt: HostRuntime) -> Result<(), Fail> {
+    all_end(&rt, &ORDERS)
+}
 
-pub const RING_ANSWER: &str =
-    "batch 1\n1 ok 10\n2 ok 20\n3 wait both 2 1\norder 2 1\nend 1\nstate 1\nrow acct 1 = 10\nrow acct 2 = 10\nrow acct 3 = 20\nend state\n";
+/// Words that ask for more than one worker or replica.
+const CREWS: [&str; 7] = [
+    "once --workers 1",
+    "once --workers 2",
+    "once --workers 7",
+    "once --workers 64",
+    "once --replicas 3",
+    "once --replicas=3 --workers=7",
+    "once --batons --workers 2",
+];
 
 #[test]
 fn workers_and_replicas_have_no_say(rt: HostRuntime) -> Result<(), Fail> {
-    for words in [
-        "once --workers 1",
-        "once --workers 2",
-        "once --workers 7",
-        "once --workers 64",
-        "once --replicas 3",
-        "once --workers 2 --replicas 3",
-    ] {
+    for words in CREWS {
         let case = Case {
             words,
             script: RING,
@@ -215,8 +186,7 @@ fn workers_and_replicas_have_no_say(rt: HostRuntime) -> Result<(), Fail> {
             failing_take: 0,
             failing_give: 0,
         };
-        let right = ends(&rt, &case, 0, RING_ANSWER)?;
-        assert!(rt; right, "{words}");
+        ends(&rt, &case, 0, RING_ANSWER)?;
     }
     Ok(())
 }
