@@ -9,13 +9,13 @@ ghost use Rattle.aria_top.specs.Out.{out_for, once_in, IsToldFor};
 ghost use Rattle.aria_top.specs.Statuses.{IsAnswered};
 ghost use Rattle.answer_text.specs.Notices.{refused_text};
 ghost use Rattle.answer_text.specs.declared.notices.Refused.TheVariants.{Usage};
-ghost use Rattle.run_commands.specs.Outs.{IsInRange, out_of, told_of};
+ghost use Rattle.run_commands.specs.Outs.{AreOne, IsAlike, IsInRange, out_of, told_of};
 ghost use Rattle.run_commands.specs.Serial.{EachIsSerial};
 
 use answer_text::{Refused, refused_line};
 use aria_base::{Memory, Pace, Sink, Source};
 use command_words::{Command, Once, commands, read_settings};
-use run_commands::{each_is_serial, once};
+use run_commands::{each_is_serial, once, one_output};
 use std::alloc::Global;
 use std::thread::Threads;
 
@@ -73,8 +73,12 @@ pub fn aria<S: Source, K: Sink, P: Pace + Sync, R: Threads + Sync>(
 
     // Each batch of a script, and each that drains it, is serialised by the order that its answer prints.
     ensures serial { (settings : Once) (text : List ℕ) → EachIsSerial settings text }
+
+    // Workers, replicas and batons have no say in what is printed.
+    ensures alike { (first second : Once) (text : List ℕ) → IsAlike first second → AreOne first second text }
 {
     each_is_serial();
+    one_output();
     match read_settings(alloc, &commands(), words) {
         Ok(Some(Command::Once(settings))) => { run_once(rt, alloc, &settings, input, out, pace) }
         Ok(_) => refuse_usage(out),

@@ -7,7 +7,7 @@ use Rattle.batch_core.specs.Steps.{Handed}
 use Rattle.command_words.specs.declared.settings.Listing.{Listing}
 use Rattle.command_words.specs.declared.settings.Once.{Once}
 use Rattle.proc_lang.specs.Catalogs.{run_of}
-use Rattle.script_course.specs.Courses.{Course, Goes, Stops, behind, with_fault, with_line, with_lines, whole}
+use Rattle.script_course.specs.Courses.{Course, Goes, Stops, behind, told, with_fault, with_line, with_lines, whole}
 use Rattle.script_places.specs.Places.{Asked, asked}
 use Rattle.script_places.specs.declared.deeds.Deed.{Deed}
 use Rattle.script_places.specs.declared.deeds.Deed.TheVariants as deed
@@ -15,7 +15,7 @@ use Rattle.script_text.specs.Lines.{scan}
 use Rattle.script_text.specs.declared.refusals.Refusal.{Refusal}
 use Rattle.run_commands.specs.Bases.{counts_of, plan_in}
 use Rattle.run_commands.specs.Onces.{Doing, done, done_by, handed_in, on_end, on_line}
-use Rattle.run_commands.specs.Outs.{is_each, no_line, out_of, start_by, start_of, told_of}
+use Rattle.run_commands.specs.Outs.{AreOne, IsAlike, is_each, no_line, start_by, start_of, told_of}
 use Rattle.run_commands.specs.Serial.{EachIsSerial, GoesSerially}
 use Rattle.script_places.specs.declared.places.Place.{Place}
 
@@ -63,8 +63,7 @@ each_is_serial settings text =
     let begun : Counted (Goes [] (start_of settings)) = omega arith in
     serially (told_of settings text) (fault_counted (with_lines on_line (Goes [] (start_of settings)) s.lines) s.fault (lines_counted (Goes [] (start_of settings)) s.lines begun))
 
-pub one_output : (first second : Once) (text : List ℕ) → first.rule ≡ second.rule → first.fallback ≡ second.fallback → first.listing ≡ second.listing → first.drain ≡ second.drain
-    → out_of first text ≡ out_of second text
-one_output first second text rule percent listing drain =
-    let start : start_of first ≡ start_of second = λ i. start_by (rule i) (percent i) (is_each (listing i)) in
-    λ i. whole on_line (on_end (drain i)) no_line (start i) text
+pub one_output : (first second : Once) (text : List ℕ) → IsAlike first second → AreOne first second text
+one_output first second text alike =
+    let start : start_of first ≡ start_of second = λ i. start_by (alike.rules i) (alike.fallbacks i) (is_each (alike.listings i)) in
+    (ap (λ (d : Doing). told on_line no_line d text) start, λ i. whole on_line (on_end (alike.drains i)) no_line (start i) text)

@@ -45,3 +45,14 @@ pub record IsInRange (settings : Once) : Type 0 where
   pub workers : (1 ≤ settings.workers) × (settings.workers ≤ 64)
   pub replicas : (1 ≤ settings.replicas) × (settings.replicas ≤ 8)
   pub fallback : settings.fallback ≤ 101
+
+-- settings that differ in workers, replicas and batons alone
+pub record IsAlike (first second : Once) : Type 0 where
+  pub rules : first.rule ≡ second.rule
+  pub fallbacks : first.fallback ≡ second.fallback
+  pub listings : first.listing ≡ second.listing
+  pub drains : first.drain ≡ second.drain
+
+-- they tell the same and print the same
+abbrev pub AreOne : Once → Once → List ℕ → Type 0
+AreOne first second text = (told_of first text ≡ told_of second text) × (out_of first text ≡ out_of second text)
