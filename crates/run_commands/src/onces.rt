@@ -91,16 +91,37 @@ impl<'a, P: Pace + Sync, R: Threads + Sync> Reads<()> for Once<'a, P, R> {
         _disk: &mut (),
     ) -> Result<Self, Stop> {
         let Once { rt, pace, script } = self;
-        match script.next(rt, alloc, line, pace) {
-            Ok((script, text)) => return tell(Once { rt, pace, script }, &text, out),
-            Err(LinesRefused::Memory) => return Err(Stop::NoMemory),
-            Err(LinesRefused::Line(refusal)) => return refuse(alloc, &refusal, out),
+        match serve(rt, alloc, script, line, out, pace) {
+            Ok(script) => Ok(Once { rt, pace, script }),
+            Err(stop) => Err(stop),
         }
     }
 }
 
+/// Takes the next line, and gives what it prints.
+#[tactic(auto, using(crate::proofs::Moved::moved_to, crate::proofs::Moved::not_moved))]
+fn serve<K: Sink, P: Pace + Sync, R: Threads + Sync>(
+    rt: &R,
+    alloc: Global,
+    script: Script,
+    line: &[u8],
+    out: &mut K,
+    pace: &P,
+) -> Result<Script, Stop>
+    ensures serves { Serves (on_line script line.now) (K.given out.old) (K.given out.new) result }
+    ensures sink { K.faults out.old ≤ K.faults out.new }
+    ensures cause { IfErr result (λ stop. IsCause stop (Rose (K.faults out.old) (K.faults out.new)) ⊥) }
+{
+    match script.next(rt, alloc, line, pace) {
+        Ok((script, text)) => return tell(script, &text, out),
+        Err(LinesRefused::Memory) => return Err(Stop::NoMemory),
+        Err(LinesRefused::Line(refusal)) => return refuse(alloc, &refusal, out),
+    }
+}
+
 /// Gives what a line prints, if anything, and goes on. No memory.
-fn tell<K: Sink, C: Drop>(next: C, text: &[u8], out: &mut K) -> Result<C, Stop>
+#[tactic(auto, using(crate::proofs::Moved::moved_quiet))]
+fn tell<K: Sink>(next: Script, text: &[u8], out: &mut K) -> Result<Script, Stop>
     ensures serves { Serves (Goes text.now next) (K.given out.old) (K.given out.new) result }
     ensures sink { K.faults out.old ≤ K.faults out.new }
     ensures cause { IfErr result (λ stop. IsCause stop (Rose (K.faults out.old) (K.faults out.new)) ⊥) }
