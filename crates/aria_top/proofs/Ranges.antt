@@ -2,6 +2,7 @@
 use Rattle.std.proofs.Common.{◌≡◌, ◌∙◌, sym, ap, subst, refl, ℕ, ◌≤◌, Bool, true, false, cond, ◌&&◌, nat_le, List, [], ◌∷◌, Option, Some, None, arith}
 use Rattle.std.proofs.lemmas.Bool.{leb-true}
 use Rattle.std.specs.Prelude.{find, option_and_then, option_map, codes, bytes_eq}
+use Rattle.std.specs.Option.{IfSome}
 use Rattle.command_words.specs.Lines.{Line, line_of, text_in}
 use Rattle.command_words.specs.Options as option
 use Rattle.command_words.specs.Settings.{bench_of, command_of, init_of, mix_of, nodes_of, once_of, readers, replay_of, run_of, settings_named, with_some, workload_of}
@@ -122,7 +123,24 @@ module _ (name : List ℕ) (l : Line) (settings : Once) where
       (other (codes "nodes") nodes_of command.Nodes [] (λ x. refl)
       (λ e. absurd cc))))))))))
 
-pub in_bounds : (words : List (List ℕ)) (settings : Once) → command_in words ≡ Some (command.Once settings) → IsInRange settings
-in_bounds words settings e = elim (step Line Command (line_of commands words) command_of (command.Once settings) e) [
+named_range : (words : List (List ℕ)) (settings : Once) → command_in words ≡ Some (command.Once settings) → IsInRange settings
+named_range words settings e = elim (step Line Command (line_of commands words) command_of (command.Once settings) e) [
   | stepped l is found ↦ named l.cmd.name l settings found
 ]
+
+by_command : (words : List (List ℕ)) (asked : Option Command) → command_in words ≡ asked → IfSome (option_and_then once_by asked) IsInRange
+by_command words None is = tt
+by_command words (Some (command.Once settings)) is = named_range words settings is
+by_command words (Some (command.Init settings)) is = tt
+by_command words (Some (command.Run settings)) is = tt
+by_command words (Some (command.Replay settings)) is = tt
+by_command words (Some command.Check) is = tt
+by_command words (Some (command.Gen settings)) is = tt
+by_command words (Some (command.Bench settings)) is = tt
+by_command words (Some command.Audit) is = tt
+by_command words (Some (command.Mix settings)) is = tt
+by_command words (Some (command.Nodes settings)) is = tt
+
+-- the settings that words ask for
+pub in_bounds : (words : List (List ℕ)) (found : Option Once) → found ≡ once_in words → IfSome found IsInRange
+in_bounds words found is = subst (λ (f : Option Once). IfSome f IsInRange) (sym is) (by_command words (command_in words) refl)

@@ -1,11 +1,11 @@
 // The top call.
-ghost use Rattle.std.specs.Prelude.{◌≡◌, ◌⊎◌, map, string_bytes, None, IfSome, ℕ, List};
+ghost use Rattle.std.specs.Prelude.{◌≡◌, ◌⊎◌, map, string_bytes, None, IfOk, IfSome, ℕ, List};
 ghost use Rattle.std.specs.Io.KnownBytes.{Appends, IsAtEnd};
 ghost use Rattle.aria_base.specs.Faults.{Rose};
 ghost use Rattle.aria_base.specs.Streams.{AppendsFront};
 ghost use Rattle.script_course.specs.Served.{IsToldOf};
 ghost use Rattle.command_words.specs.declared.settings.Once.{Once};
-ghost use Rattle.aria_top.specs.Out.{out_for, once_in, IsToldFor};
+ghost use Rattle.aria_top.specs.Out.{out_for, once_by, once_in, IsToldFor};
 ghost use Rattle.aria_top.specs.Statuses.{IsAnswered};
 ghost use Rattle.answer_text.specs.Notices.{refused_text};
 ghost use Rattle.answer_text.specs.declared.notices.Refused.TheVariants.{Usage};
@@ -79,14 +79,45 @@ pub fn aria<S: Source, K: Sink, P: Pace + Sync, R: Threads + Sync>(
 {
     each_is_serial();
     one_output();
-    match read_settings(alloc, &commands(), words) {
-        Ok(Some(Command::Once(settings))) => { run_once(rt, alloc, &settings, input, out, pace) }
-        Ok(_) => refuse_usage(out),
-        Err(Memory) => NO_MEMORY,
+    match once_asked(alloc, words) {
+        Ok(Some(settings)) => return run_once(rt, alloc, &settings, input, out, pace),
+        Ok(None) => return refuse_usage(out),
+        Err(Memory) => return NO_MEMORY,
+    }
+}
+
+/// The settings of `once`, where the words are a line of it.
+#[tactic(auto, using(crate::proofs::Ranges::in_bounds))]
+fn once_asked(alloc: Global, words: &[String]) -> Result<Option<Once>, Memory>
+    ensures asked { IfOk result (λ found. found ≡ once_in (map string_bytes words.now)) }
+    ensures range { IfOk result (λ found. IfSome found IsInRange) }
+{
+    match read_settings(alloc, &commands(), words)? {
+        Some(command) => Ok(once_by(command)),
+        None => Ok(None),
+    }
+}
+
+/// The settings of the command, where it is `once`.
+fn once_by(command: Command) -> Option<Once>
+    ensures { result ≡ once_by command }
+{
+    match command {
+        Command::Once(settings) => Some(settings),
+        Command::Init(_)
+        | Command::Run(_)
+        | Command::Replay(_)
+        | Command::Check
+        | Command::Gen(_)
+        | Command::Bench(_)
+        | Command::Audit
+        | Command::Mix(_)
+        | Command::Nodes(_) => None,
     }
 }
 
 /// Runs `once`, and answers its status.
+#[tactic(auto, using(crate::proofs::Stopped::answered_end, crate::proofs::Stopped::front_end, crate::proofs::Stopped::front_cut, crate::proofs::Stopped::answered_cut, crate::proofs::Stopped::others_cut, crate::proofs::Stopped::read_cut, crate::proofs::Stopped::write_cut, crate::proofs::Stopped::never_done, crate::proofs::Stopped::told_cut))]
 fn run_once<S: Source, K: Sink, P: Pace + Sync, R: Threads + Sync>(
     rt: &R,
     alloc: Global,
