@@ -11,7 +11,7 @@ use Rattle.script_places.specs.Places.{start}
 use Rattle.script_places.specs.declared.places.Mode.TheVariants as mode
 use Rattle.script_text.specs.Lines.{Feed, blank}
 use Rattle.run_commands.specs.Onces.{Doing, on_line, on_end}
-use Rattle.run_commands.specs.declared.runs.TheConstants.{MOST_BYTES, LONGEST_LINE}
+use Rattle.run_commands.specs.declared.loops.TheConstants.{MOST_BYTES, LONGEST_LINE}
 
 abbrev pub is_each : Listing → Bool
 is_each Each = true

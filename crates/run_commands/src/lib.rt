@@ -1,11 +1,11 @@
 //! Commands that run the batches of a script: today `once`, in memory.
 //!
-//! A [`Once`] is a script that is run while it is read: each line asks for something at its place, and the
-//! answer of a batch is given as soon as its end is read. At the end of the input what waits may be
-//! drained, and the rows are listed.
+//! A script is run while it is read: each line asks for something at its place, and the answer of a batch is
+//! given as soon as its end is read. At the end of the input what waits may be drained, and the rows are
+//! listed.
 //!
 //! ```text
-//! line ──> Place (script_places) ──> Deed ──> Once ──> Live (serving) ──> text ──> Sink
+//! Source ──> loops ──line──> Place (script_places) ──> Deed ──> Script ──> Live (serving) ──> text ──> Sink
 //! ```
 //!
 //! In `specs/`: `Once` says what each line prints and which state follows, what the end prints, and with
@@ -15,11 +15,11 @@
 mod bases;
 mod ends;
 mod laws;
-mod onces;
+mod loops;
 mod runs;
 mod scripts;
 mod works;
 
 pub use laws::{each_is_serial, one_output};
-pub use onces::Once;
-pub use runs::{LONGEST_LINE, MOST_BYTES, once};
+pub use loops::{LONGEST_LINE, MOST_BYTES};
+pub use runs::once;

@@ -6,19 +6,15 @@ ghost use Rattle.script_course.specs.Causes.{IsReadCause};
 ghost use Rattle.script_course.specs.Served.{Completes};
 ghost use Rattle.run_commands.specs.Outs.{IsInRange, is_each, out_of, told_of};
 
-use crate::onces::Once;
-use aria_base::{Memory, Pace, Sink, Source};
-use command_words::{Listing, Once as Settings};
+use crate::ends::end_of;
+use crate::loops::read_script;
+use crate::scripts::Script;
+use aria_base::{Pace, Sink, Source};
+use command_words::{Listing, Once};
 use dep_rules::Config;
-use script_course::{Stop, ends_of, read_through};
+use script_course::{Stop, ends_of};
 use std::alloc::Global;
 use std::thread::Threads;
-
-/// The most bytes of an input.
-pub const MOST_BYTES: u64 = 2_147_483_648;
-
-/// The most bytes of a line.
-pub const LONGEST_LINE: u32 = 4_096;
 
 /// Runs the script that the source gives, and answers each batch as soon as its end is read. Where the
 /// source tells its bytes, what is printed is the output that they have, and the status is its status; where
@@ -27,7 +23,7 @@ pub const LONGEST_LINE: u32 = 4_096;
 pub fn once<S: Source, K: Sink, P: Pace + Sync, R: Threads + Sync>(
     rt: &R,
     alloc: Global,
-    settings: &Settings,
+    settings: &Once,
     input: &mut S,
     out: &mut K,
     pace: &P,
@@ -44,27 +40,18 @@ pub fn once<S: Source, K: Sink, P: Pace + Sync, R: Threads + Sync>(
     ensures sink { K.faults out.old ≤ K.faults out.new }
     ensures cause { IfErr result (λ stop. IsReadCause stop (Rose (S.faults input.old) (S.faults input.new)) (Rose (K.faults out.old) (K.faults out.new)) ⊥) }
 {
-    ends_of::<Once<'_, P, R>>();
+    ends_of::<Script>();
     let config = Config {
         rule: settings.rule,
         fallback: settings.fallback,
         workers: settings.workers,
     };
     let each = is_each(settings.listing);
-    let Ok(start) = Once::start(rt, alloc, config, settings.replicas, each, pace) else {
+    let Ok(start) = Script::start(alloc, config, settings.replicas, each) else {
         return Err(Stop::NoMemory);
     };
-    let mut disk = ();
-    match read_through(
-        alloc,
-        MOST_BYTES,
-        LONGEST_LINE,
-        start,
-        input,
-        out,
-        &mut disk,
-    ) {
-        Ok(last) => last.end(alloc, settings.drain, out),
+    match read_script(rt, alloc, start, input, out, pace) {
+        Ok(last) => end_of(rt, alloc, last, settings.drain, out, pace),
         Err(stop) => Err(stop),
     }
 }
