@@ -4,3 +4,4 @@ pub mod Serial
 pub mod Ending
 pub mod Moved
 pub mod Asked
+pub mod Whole

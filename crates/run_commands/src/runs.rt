@@ -12,7 +12,7 @@ use crate::scripts::Script;
 use aria_base::{Pace, Sink, Source};
 use command_words::{Listing, Once};
 use dep_rules::Config;
-use script_course::{Stop, ends_of};
+use script_course::Stop;
 use std::alloc::Global;
 use std::thread::Threads;
 
@@ -40,7 +40,6 @@ pub fn once<S: Source, K: Sink, P: Pace + Sync, R: Threads + Sync>(
     ensures sink { K.faults out.old ≤ K.faults out.new }
     ensures cause { IfErr result (λ stop. IsReadCause stop (Rose (S.faults input.old) (S.faults input.new)) (Rose (K.faults out.old) (K.faults out.new)) ⊥) }
 {
-    ends_of::<Script>();
     let config = Config {
         rule: settings.rule,
         fallback: settings.fallback,
