@@ -24,6 +24,8 @@ mod refusals;
 mod states;
 
 pub use answers::{append_answer, print_answer};
-pub use notices::{Refused, append_at, append_damaged, append_kept, ready_line, refused_line};
+pub use notices::{
+    Refused, append_at, append_counted, append_damaged, append_kept, ready_line, refused_line,
+};
 pub use refusals::{append_refusal, print_refusal};
-pub use states::{append_state, print_state};
+pub use states::{append_rows, append_state, print_state};

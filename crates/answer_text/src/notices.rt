@@ -64,7 +64,8 @@ pub fn append_kept(out: &mut Vec<u8>, number: u64) -> Result<(), Memory>
     Ok(())
 }
 
-/// Appends a line that is a word, with the space behind it, and a number.
+/// Appends a line that is a word, with the space behind it, and a number. After want of memory a part of
+/// it may stand in `out`.
 pub fn append_counted(out: &mut Vec<u8>, word: &[u8], number: u64) -> Result<(), Memory>
     ensures { OnOk result (out.new.items ≡ out.old.items ++ counted word.now number) }
 {

@@ -42,8 +42,9 @@ pub fn append_state(
     Ok(())
 }
 
-/// Appends the lines of these rows.
-fn append_rows(out: &mut Vec<u8>, tables: &Schema, rows: &[(&Key, &Row)]) -> Result<(), Memory>
+/// Appends the lines of these rows, in this order, each with its line feed. After want of memory a part
+/// of them may stand in `out`.
+pub fn append_rows(out: &mut Vec<u8>, tables: &Schema, rows: &[(&Key, &Row)]) -> Result<(), Memory>
     ensures { OnOk result (out.new.items ≡ out.old.items ++ flat_map (row_text tables.now) (map deref_pair rows.now)) }
 {
     for (key, row) in rows {
