@@ -9,7 +9,9 @@ use Rattle.rand_pcg.specs.Lcg.{Lcg}
 use Rattle.aria_base.specs.Streams.{AppendsFront, Gives}
 use Rattle.script_course.proofs.Turns.{front_longer, front_behind}
 use Rattle.gen_command.specs.Pieces.{LeadsTo}
-use Rattle.gen_command.specs.Scripts.{batch_of, batches_from}
+use Rattle.gen_command.specs.Scripts.{batch_text, batches_text, calls_from}
+use Rattle.load_gen.specs.Draws.{times}
+use Rattle.workloads.specs.Generators.{plan_of, request_of}
 use Rattle.gen_command.specs.declared.cuts.Cut.{Cut}
 use Rattle.workloads.specs.declared.generators.Generator.{Generator}
 
@@ -43,19 +45,24 @@ rows_cut text f n rows =
 
 -- ---- batches
 
-pub batches_none : (g : Generator) (size number : ℕ) (d : Lcg) → batches_from g size number 0 d ≡ ([], d)
-unfolding batches_from
-batches_none g size number d = refl
+-- what is given of the batches from this number on
+abbrev pub from : Generator → ℕ → ℕ → ℕ → Lcg → List ℕ
+from g size number n d = batches_text (plan_of g).procs number (calls_from g size number n d).0
 
-batches_next : (g : Generator) (size number n : ℕ) (d : Lcg)
-    → (batches_from g size number (suc n) d).0 ≡ (batch_of g size number d).0 ++ (batches_from g size (number + 1) n (batch_of g size number d).1).0
-unfolding batches_from
-batches_next g size number n d = refl
+pub from_none : (g : Generator) (size number : ℕ) (d : Lcg) → from g size number 0 d ≡ []
+unfolding calls_from
+from_none g size number d = refl
+
+from_next : (g : Generator) (size number n : ℕ) (d : Lcg)
+    → from g size number (suc n) d ≡ batch_text (plan_of g).procs number (times size (request_of g number) d).0
+    ++ from g size (number + 1) n (times size (request_of g number) d).1
+unfolding calls_from
+from_next g size number n d = refl
 
 -- the batch behind so many, and those behind it
-pub batches_cut : (g : Generator) (size count past : ℕ) (d : Lcg) → past < count
-    → (batches_from g size (past + 1) (count - past) d).0
-      ≡ (batch_of g size (past + 1) d).0 ++ (batches_from g size (past + 1 + 1) (count - (past + 1)) (batch_of g size (past + 1) d).1).0
-batches_cut g size count past d within =
+pub from_cut : (g : Generator) (size count past : ℕ) (d : Lcg) → past < count
+    → from g size (past + 1) (count - past) d ≡ batch_text (plan_of g).procs (past + 1) (times size (request_of g (past + 1)) d).0
+    ++ from g size (past + 1 + 1) (count - (past + 1)) (times size (request_of g (past + 1)) d).1
+from_cut g size count past d within =
     let one : count - past ≡ suc (count - (past + 1)) = omega (arith, within) in
-    ap (λ n. (batches_from g size (past + 1) n d).0) one ∙ batches_next g size (past + 1) (count - (past + 1)) d
+    ap (λ n. from g size (past + 1) n d) one ∙ from_next g size (past + 1) (count - (past + 1)) d

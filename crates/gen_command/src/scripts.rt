@@ -4,9 +4,10 @@ ghost use Rattle.std.specs.Map.Iter.{deref_pair};
 ghost use Rattle.aria_base.specs.Faults.{Rose};
 ghost use Rattle.aria_base.specs.Streams.{Gives};
 ghost use Rattle.answer_text.specs.States.{row_text};
-ghost use Rattle.workloads.specs.Generators.{IsWithin, generator_of, plan_of};
+ghost use Rattle.load_gen.specs.Draws.{times};
+ghost use Rattle.workloads.specs.Generators.{IsWithin, generator_of, plan_of, request_of};
 ghost use Rattle.gen_command.specs.Pieces.{IsCutBy};
-ghost use Rattle.gen_command.specs.Scripts.{catalog_text, head_text, batch_of, batches_text, script_of};
+ghost use Rattle.gen_command.specs.Scripts.{catalog_text, head_text, batch_text, batches_text, calls_of, script_of};
 
 use crate::cuts::Cut;
 use answer_text::{append_counted, append_rows};
@@ -120,7 +121,7 @@ fn give_batches<K: Sink>(
 ) -> Result<(), Cut>
     requires within { IsWithin generator.now }
     requires plan { catalog.now ≡ plan_of generator.now }
-    ensures gives { Gives (K.given out.old) (K.given out.new) result (batches_text generator.now amount.size amount.batches) }
+    ensures gives { Gives (K.given out.old) (K.given out.new) result (batches_text (plan_of generator.now).procs 1 (calls_of generator.now amount.size amount.batches)) }
     ensures sink { K.faults out.old ≤ K.faults out.new }
     ensures cause { IfErr result (λ cut. IsCutBy cut (Rose (K.faults out.old) (K.faults out.new))) }
 {
@@ -146,8 +147,8 @@ fn batch_lines(
     requires within { IsWithin generator.now }
     requires plan { catalog.now ≡ plan_of generator.now }
     requires number { number ≤ 2 ^ 62 }
-    ensures text { IfOk result (λ text. text.items ≡ (batch_of generator.now size number draws.old).0) }
-    ensures past { OnOk result (draws.new ≡ (batch_of generator.now size number draws.old).1) }
+    ensures text { IfOk result (λ text. text.items ≡ batch_text (plan_of generator.now).procs number (times size (request_of generator.now number) draws.old).0) }
+    ensures past { OnOk result (draws.new ≡ (times size (request_of generator.now number) draws.old).1) }
 {
     let mut text = Vec::new(alloc);
     for call in &generator.batch(alloc, draws, number, size)? {

@@ -1,10 +1,11 @@
 -- The rows that a workload begins with fit its catalogue.
 use Rattle.std.proofs.Common.{◌≡◌, true, false, cond, ℕ, zero, suc, ◌+◌, ◌-◌, nat_le, slice_index_or, Bool, Option, Some, None, List, [], ◌∷◌, ◌++◌, map, refl, sym, ap, ◌∙◌, subst}
-use Rattle.std.specs.Prelude.{⊤}
+use Rattle.std.specs.Prelude.{⊤, Result, Ok, Err, IfOk}
 use Rattle.std.specs.List.{range_with_len}
 use Rattle.std.specs.Ordering.{eq_by_cmp}
 use Rattle.std.specs.FinMap as fin
 use Rattle.std.specs.FinMap.Entries.{find}
+use Rattle.proc_lang.specs.Catalogs.{Plan}
 use Rattle.rand_pcg.specs.Lcg.{Lcg}
 use Rattle.aria_base.specs.Draws.{standing}
 use Rattle.aria_base.specs.Orders.{Cells, Database, key_cmp}
@@ -22,7 +23,6 @@ use Rattle.load_gen.specs.declared.settings.Ycsb.{Ycsb}
 use Rattle.tpcc_load.specs.Draws.{over}
 use Rattle.tpcc_load.specs.Heads as heads
 use Rattle.tpcc_load.specs.Rows.{Row, row_of, laid}
-use Rattle.tpcc_load.specs.declared.names.Rank.{Rank}
 use Rattle.tpcc_load.specs.declared.settings.Tpcc.{Tpcc}
 use Rattle.workloads.specs.Generators.{plan_of, rows_of}
 use Rattle.workloads.specs.declared.generators.Generator.{Generator}
@@ -105,15 +105,17 @@ order_fits s w d customer o g =
           (over_fit count.0 (heads.order_line s w d o) (line_fits s w d o) count.1) (open_fits w d o (nat_le o (heads.delivered s))),
     )
 
-sharing_fit : (w d last : ℕ) (ranks : List Rank) → AreFit tpcc.tables (heads.sharing_rows w d last ranks)
-sharing_fit w d last [] = tt
-sharing_fit w d last (r ∷ rs) = ((refl, refl), mapped_fit tpcc.tables (heads.place_row w d (r ∷ rs)) (r ∷ rs) (λ x. (refl, refl)))
-
-names_fit : (w d : ℕ) (ranks : List Rank) (n : ℕ) → AreFit tpcc.tables (heads.name_rows w d ranks n)
+-- of the names of a district's customers
+names_fit : (s : Tpcc) (w d : ℕ) (g : Lcg) (n : ℕ) → AreFit tpcc.tables (heads.name_rows w d (map heads.rank_of (over s.customers (heads.person s) g).0) n)
 unfolding heads.name_rows
-names_fit w d ranks zero = tt
-names_fit w d ranks (suc n) =
-    both_fit tpcc.tables (heads.name_rows w d ranks n) (heads.sharing_rows w d n (heads.sharing n ranks)) (names_fit w d ranks n) (sharing_fit w d n (heads.sharing n ranks))
+names_fit s w d g zero = tt
+names_fit s w d g (suc n) =
+    let ranks = map heads.rank_of (over s.customers (heads.person s) g).0 in
+    both_fit tpcc.tables (heads.name_rows w d ranks n) (heads.sharing_rows w d n (heads.sharing n ranks)) (names_fit s w d g n)
+    (elim (heads.sharing n ranks) as (λ rs. AreFit tpcc.tables (heads.sharing_rows w d n rs)) [
+      | [] ↦ tt
+      | r ∷ rs ↦ ((refl, refl), mapped_fit tpcc.tables (heads.place_row w d (r ∷ rs)) (r ∷ rs) (λ x. (refl, refl)))
+    ])
 
 district_fits : (s : Tpcc) (w d : ℕ) → DrawsFit (heads.district s w d)
 district_fits s w d g =
@@ -126,7 +128,7 @@ district_fits s w d g =
       both_fit tpcc.tables (map (heads.customer_row w d) people.0) (orders.0 ++ names)
           (mapped_fit tpcc.tables (heads.customer_row w d) people.0 (λ p. (refl, refl)))
           (both_fit tpcc.tables orders.0 names (over_fit s.customers (heads.order s w d places.0) (λ o. order_fits s w d (slice_index_or places.0 (o - 1) 0) o) places.1)
-          (names_fit w d (map heads.rank_of people.0) (heads.names s))),
+          (names_fit s w d tax.1 (heads.names s))),
     )
 
 warehouse_fits : (s : Tpcc) (w : ℕ) → DrawsFit (heads.warehouse s w)
@@ -146,6 +148,13 @@ head_fits s g =
 
 -- ---- both
 
-pub generator_fits : (g : Generator) → IsConsistent (plan_of g).tables (rows_of g)
+generator_fits : (g : Generator) → IsConsistent (plan_of g).tables (rows_of g)
 generator_fits (load.Ycsb s) = ycsb_fit s.keys
 generator_fits (load.Tpcc s) = laid_fit tpcc.tables fin.empty (heads.head s (standing s.number 1 0)).0 none_fits (head_fits s (standing s.number 1 0))
+
+-- a catalogue and rows that were made, if there was memory
+pub head_fits_by : {E : Type 0} (g : Generator) (result : Result (Plan × Database) E) → IfOk result (λ head. head.0 ≡ plan_of g)
+    → IfOk result (λ head. head.1 ≡ rows_of g) → IfOk result (λ head. IsConsistent head.0.tables head.1)
+head_fits_by g (Ok head) plan rows =
+    subst (λ (p : Plan). IsConsistent p.tables head.1) (sym plan) (subst (IsConsistent (plan_of g).tables) (sym rows) (generator_fits g))
+head_fits_by g (Err e) plan rows = tt

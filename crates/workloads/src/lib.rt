@@ -13,5 +13,7 @@
 #![tactic(auto)]
 
 mod generators;
+mod laws;
 
 pub use generators::Generator;
+pub use laws::words_are_within;
