@@ -123,12 +123,13 @@ district_fits s w d g =
     let people = over s.customers (heads.person s) tax.1 in
     let places = heads.shuffled s.customers (range_with_len 1 s.customers) people.1 in
     let orders = over s.customers (heads.order s w d places.0) places.1 in
-    let names = heads.name_rows w d (map heads.rank_of people.0) (heads.names s) in (
+    let names = heads.name_rows w d (map heads.rank_of people.0) (heads.names s) in
+    let customers = map (heads.customer_row w d) people.0 in
+    let each_order = over_fit s.customers (heads.order s w d places.0) (λ o. order_fits s w d (slice_index_or places.0 (o - 1) 0) o) places.1 in (
       (refl, refl),
-      both_fit tpcc.tables (map (heads.customer_row w d) people.0) (orders.0 ++ names)
-          (mapped_fit tpcc.tables (heads.customer_row w d) people.0 (λ p. (refl, refl)))
-          (both_fit tpcc.tables orders.0 names (over_fit s.customers (heads.order s w d places.0) (λ o. order_fits s w d (slice_index_or places.0 (o - 1) 0) o) places.1)
-          (names_fit s w d tax.1 (heads.names s))),
+      both_fit tpcc.tables (customers ++ orders.0) names
+          (both_fit tpcc.tables customers orders.0 (mapped_fit tpcc.tables (heads.customer_row w d) people.0 (λ p. (refl, refl))) each_order)
+          (names_fit s w d tax.1 (heads.names s)),
     )
 
 warehouse_fits : (s : Tpcc) (w : ℕ) → DrawsFit (heads.warehouse s w)
