@@ -1,0 +1,66 @@
+-- The requests that wait keep their numbers in order, so that each batch is serial.
+use Rattle.std.proofs.Common.{◌≡◌, ap, ℕ, List, [], ◌∷◌, Option, Some, None, arith}
+use Rattle.std.specs.Prelude.{Ok, Err}
+use Rattle.batch_core.proofs.Serial.{all_serial, keeps_numbers}
+use Rattle.batch_core.specs.Serial.{IsNumbered}
+use Rattle.command_words.specs.declared.settings.Once.{Once}
+use Rattle.proc_lang.specs.Catalogs.{run_of}
+use Rattle.script_course.specs.Courses.{Course, Goes, Stops, behind, told, with_fault, with_line, with_lines, whole}
+use Rattle.script_places.specs.Places.{Asked, asked}
+use Rattle.script_places.specs.declared.deeds.Deed.{Deed}
+use Rattle.script_places.specs.declared.deeds.Deed.TheVariants as deed
+use Rattle.script_text.specs.Lines.{scan}
+use Rattle.script_text.specs.declared.refusals.Refusal.{Refusal}
+use Rattle.run_commands.specs.Bases.{counts_of, plan_in}
+use Rattle.run_commands.specs.Onces.{Doing, done, done_by, handed_in, on_end, on_line}
+use Rattle.run_commands.specs.Outs.{AreOne, IsAlike, is_each, no_line, start_by, start_of, told_of}
+use Rattle.run_commands.specs.Serial.{EachIsSerial, GoesSerially}
+
+abbrev Counted : Course Doing → Type 0
+Counted (Goes bytes d) = IsNumbered d.state
+Counted (Stops bytes) = Unit {0}
+
+done_counted : (d : Doing) (asks : Deed) → IsNumbered d.state → Counted (done d asks)
+done_counted d deed.Nothing h = h
+done_counted d (deed.Put key row) h = h
+done_counted d (deed.Call call) h = h
+done_counted d (deed.Set rule percent) h = h
+done_counted d (deed.Keep number) h = h
+done_counted d deed.Run h = keeps_numbers (run_of (plan_in d.place.head)) d.state (handed_in d) h
+done_counted d deed.Tell h = h
+
+by_counted : (d : Doing) (a : Asked) → IsNumbered d.state → Counted (done_by d a)
+by_counted d (Ok r) h = done_counted (record d { place = r.0 }) r.1 h
+by_counted d (Err kind) h = tt
+
+behind_counted : (bytes : List ℕ) (c : Course Doing) → Counted c → Counted (behind bytes c)
+behind_counted bytes (Goes more d) h = h
+behind_counted bytes (Stops more) h = tt
+
+line_counted : (c : Course Doing) (line : List ℕ) → Counted c → Counted (with_line on_line c line)
+line_counted (Goes bytes d) line h = behind_counted bytes (on_line d line) (by_counted d (asked d.place (counts_of d.state) line) h)
+line_counted (Stops bytes) line h = tt
+
+lines_counted : (c : Course Doing) (lines : List (List ℕ)) → Counted c → Counted (with_lines on_line c lines)
+lines_counted c [] h = h
+lines_counted c (line ∷ lines) h = lines_counted (with_line on_line c line) lines (line_counted c line h)
+
+fault_counted : (c : Course Doing) (fault : Option Refusal) → Counted c → Counted (with_fault c fault)
+fault_counted c None h = h
+fault_counted (Goes bytes d) (Some refusal) h = tt
+fault_counted (Stops bytes) (Some refusal) h = tt
+
+serially : (c : Course Doing) → Counted c → GoesSerially c
+serially (Goes bytes d) h = λ batches. all_serial (run_of (plan_in d.place.head)) d.state batches h
+serially (Stops bytes) h = tt
+
+pub each_is_serial : (settings : Once) (text : List ℕ) → EachIsSerial settings text
+each_is_serial settings text =
+    let s = scan no_line text in
+    let begun : Counted (Goes [] (start_of settings)) = omega arith in
+    serially (told_of settings text) (fault_counted (with_lines on_line (Goes [] (start_of settings)) s.lines) s.fault (lines_counted (Goes [] (start_of settings)) s.lines begun))
+
+pub one_output : (first second : Once) (text : List ℕ) → IsAlike first second → AreOne first second text
+one_output first second text alike =
+    let start : start_of first ≡ start_of second = λ i. start_by (alike.rules i) (alike.fallbacks i) (is_each (alike.listings i)) in
+    (ap (λ (d : Doing). told on_line no_line d text) start, λ i. whole on_line (on_end (alike.drains i)) no_line (start i) text)

@@ -1,0 +1,15 @@
+use Rattle.std.proofs.Common.{◌≡◌, true, arith}
+use Rattle.run_commands.specs.Bases.{plan_in, state_in}
+use Rattle.run_commands.proofs.Ending.{drained_by, drained_cut}
+use Rattle.run_commands.proofs.ends.close.Goals as goal
+
+pub returns-in-Ok-clause-finishes : goal.returns-in-Ok-clause-finishes
+returns-in-Ok-clause-finishes g c =
+    let on : c.args.drains ≡ true = grind (arith, c.if-not-drains.false) in
+    drained_by c.args.drains (plan_in c.args.head.now) c.args.work.each c.args.line (state_in c.args.work.base) on (state_in c.in-Ok.base) (g.K.Sink.given c.args.out.now) (g.K.Sink.given c.drained.new.out)
+    (g.K.Sink.given c.list-in-Ok.new.out) c.list-in-Ok.result c.in-Ok.ensures.serves c.list-in-Ok.ensures.read c.list-in-Ok.ensures.finishes
+
+pub returns-clause-finishes : goal.returns-clause-finishes
+returns-clause-finishes g c =
+    let on : c.args.drains ≡ true = grind (arith, c.if-not-drains.false) in
+    drained_cut c.args.drains (plan_in c.args.head.now) c.args.work.each c.args.line (state_in c.args.work.base) on (g.K.Sink.given c.args.out.now) (g.K.Sink.given c.drained.new.out) c.in-Err.stop c.in-Err.ensures.serves

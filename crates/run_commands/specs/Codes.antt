@@ -1,0 +1,17 @@
+-- How a script is kept as a ghost value.
+use Rattle.std.specs.Prelude.{Bool, List, refl}
+use Rattle.std.specs.Coded.{Coded, code_by, coded×, coded_list, coded_bool}
+use Rattle.aria_base.specs.contracts.calls.Call as call
+use Rattle.aria_base.specs.declared.calls.Call.{Call}
+use Rattle.batch_core.specs.Codes.{state_code}
+use Rattle.batch_core.specs.Steps.{State}
+use Rattle.script_places.specs.contracts.places.Place as place
+use Rattle.script_places.specs.declared.places.Place.{Place}
+use Rattle.run_commands.specs.Onces.{Doing}
+
+abbrev pub doing_code : Coded Doing
+doing_code = code_by ((Place × List Call) × (State × Bool))
+    (coded× (coded× (place.the_row).coded (coded_list (call.the_row).coded)) (coded× state_code coded_bool))
+    (λ d. ((d.place, d.calls), (d.state, d.each)))
+    (λ p. record { place = p.0.0; calls = p.0.1; state = p.1.0; each = p.1.1 })
+    (λ _. refl)

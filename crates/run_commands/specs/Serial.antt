@@ -1,0 +1,21 @@
+-- The promise of the printed order.
+use Rattle.std.specs.Prelude.{ℕ, List}
+use Rattle.batch_core.specs.Serial.{AllSerial}
+use Rattle.batch_core.specs.Steps.{Handed}
+use Rattle.command_words.specs.declared.settings.Once.{Once}
+use Rattle.proc_lang.specs.Catalogs.{run_of}
+use Rattle.script_course.specs.Courses.{Course, Goes, Stops}
+use Rattle.run_commands.specs.Bases.{plan_in}
+use Rattle.run_commands.specs.Onces.{Doing}
+use Rattle.run_commands.specs.Outs.{told_of}
+
+-- the batches that follow on a script, as many as come and whatever they are handed, are each serialised by the order that its answer
+-- prints: one after the other from the batch's start, the requests that it names end as printed and leave the next state's rows, and
+-- all others wait
+abbrev pub GoesSerially : Course Doing → Type 0
+GoesSerially (Goes bytes d) = (batches : List Handed) → AllSerial (run_of (plan_in d.place.head)) d.state batches
+GoesSerially (Stops bytes) = Unit {0}
+
+-- so it is behind the whole lines of every text: its next batch is serial, and so are those that drain it
+abbrev pub EachIsSerial : Once → List ℕ → Type 0
+EachIsSerial settings text = GoesSerially (told_of settings text)

@@ -1,0 +1,178 @@
+// A database before its first batch, and from then on.
+ghost use Rattle.std.specs.Prelude.{◌≡◌, ◌≤◌, IfOk};
+ghost use Rattle.script_places.specs.Follows.{IsReadyWith};
+ghost use Rattle.answer_text.specs.States.{state_text};
+ghost use Rattle.aria_base.specs.Schemas.{IsConsistent};
+ghost use Rattle.serving.specs.Lives.{listing, no_plan, plan_of, state_of};
+ghost use Rattle.run_commands.specs.declared.bases.Base.TheVariants as base;
+ghost use Rattle.run_commands.specs.Bases.{IsSettled, IsBegun, IsBounded, IsHead, IsListed, IsNamed, IsUnder, counts_of, plan_in, put_in, set_in, settings_with, state_in};
+
+use answer_text::print_state;
+use aria_base::{Key, Memory, Row, Schema};
+use batch_engine::Engine;
+use batch_rules::verdicts::Rule;
+use dep_rules::Config;
+use proc_lang::Catalog;
+use replica_run::Replicas;
+use script_places::{Counts, Head};
+use serving::Live;
+use std::alloc::Global;
+use tbl_rows::Tables;
+
+/// A database before its first batch, and from then on.
+#[derive(Drop)]
+pub(crate) enum Base {
+    /// The rows of the head so far, and the settings of the first batch.
+    Rows(Tables, Config),
+    /// A batch was run.
+    Runs(Live),
+}
+
+impl Base {
+    /// What decides about the end of a batch.
+    pub fn counts(&self) -> Counts
+        ensures { result ≡ counts_of (state_in self.now) }
+    {
+        match self {
+            Base::Rows(_, _) => Counts {
+                batches: 0,
+                requests: 0,
+                waiting: 0,
+            },
+            Base::Runs(live) => Counts {
+                batches: live.batches(),
+                requests: live.requests(),
+                waiting: live.waiting(),
+            },
+        }
+    }
+
+    /// With the row at the key, before the first batch.
+    pub fn put(self, key: Key, row: Row) -> Result<Base, Memory>
+        requires { IsHead self }
+        ensures { IfOk result (λ next. next ≡ put_in self key row) }
+    {
+        match self {
+            Base::Rows(mut tables, config) => {
+                tables.put(key, row)?;
+                Ok(Base::Rows(tables, config))
+            }
+            Base::Runs(_) => unreachable!(),
+        }
+    }
+
+    /// With these settings of the next batch.
+    pub fn set(self, rule: Rule, percent: u32) -> Base
+        ensures { result ≡ set_in self rule percent }
+    {
+        match self {
+            Base::Rows(tables, config) => Base::Rows(tables, with_settings(config, rule, percent)),
+            Base::Runs(live) => {
+                let config = with_settings(live.config, rule, percent);
+                Base::Runs(Live { config, ..live })
+            }
+        }
+    }
+
+    /// As a database that runs batches, under the catalogue of the head.
+    pub fn begun(
+        self,
+        alloc: Global,
+        head: &Head,
+        replicas: u32,
+        each: bool,
+    ) -> Result<Live, Memory>
+        requires engines { (1 ≤ replicas) × (replicas ≤ 8) }
+        requires under { IsReadyWith head.now (λ plan. IsUnder plan self) }
+        requires bounded { IsBounded self }
+        requires listed { IsListed each self }
+        ensures { IfOk result (IsBegun head.now self each) }
+    {
+        match self {
+            Base::Rows(tables, config) => {
+                let catalog = catalog_in(alloc, head)?;
+                begin(alloc, catalog, tables, config, replicas, each)
+            }
+            Base::Runs(live) => Ok(live),
+        }
+    }
+
+    /// The listing of its rows, under the catalogue of the head.
+    pub fn list(&self, alloc: Global, head: &Head) -> Result<Vec<u8>, Memory>
+        requires { IsNamed head.now self.now }
+        ensures { IfOk result (λ text. text.items ≡ listing (plan_in head.now) (state_in self.now)) }
+    {
+        match self {
+            Base::Rows(tables, _) => list_rows(alloc, tables, head),
+            Base::Runs(live) => live.list(alloc),
+        }
+    }
+}
+
+/// The listing of rows before the first batch.
+fn list_rows(alloc: Global, tables: &Tables, head: &Head) -> Result<Vec<u8>, Memory>
+    ensures { IfOk result (λ text. text.items ≡ state_text (plan_in head.now).tables tables.now 0) }
+{
+    match head {
+        Head::Ready(catalog) => print_state(alloc, catalog, tables, 0),
+        Head::Unnamed | Head::Text(_) => {
+            let catalog = no_catalog(alloc);
+            print_state(alloc, &catalog, tables, 0)
+        }
+    }
+}
+
+/// The database of these rows, in so many replicas.
+fn begin(
+    alloc: Global,
+    catalog: Catalog,
+    tables: Tables,
+    config: Config,
+    replicas: u32,
+    each: bool,
+) -> Result<Live, Memory>
+    requires engines { (1 ≤ replicas) × (replicas ≤ 8) }
+    requires consistent { IsConsistent catalog.tables tables }
+    requires settled { IsSettled config }
+    ensures plan { IfOk result (λ live. plan_of live ≡ catalog) }
+    ensures state { IfOk result (λ live. state_of live ≡ state_in (base.Rows tables config)) }
+    ensures config { IfOk result (λ live. live.config ≡ config) }
+    ensures each { IfOk result (λ live. live.each ≡ each) }
+{
+    let engine = Engine::begin(catalog, tables, Vec::new(alloc), 0, 0);
+    let replicas = Replicas::begin(alloc, engine, replicas)?;
+    Ok(Live {
+        replicas,
+        config,
+        each,
+        checkpoint: 0,
+    })
+}
+
+/// The settings with this rule and this percentage.
+fn with_settings(config: Config, rule: Rule, fallback: u32) -> Config
+    ensures { result ≡ settings_with config rule fallback }
+{
+    Config {
+        rule,
+        fallback,
+        workers: config.workers,
+    }
+}
+
+/// A copy of the head's catalogue.
+fn catalog_in(alloc: Global, head: &Head) -> Result<Catalog, Memory>
+    ensures { IfOk result (λ catalog. catalog ≡ plan_in head.now) }
+{
+    match head {
+        Head::Ready(catalog) => catalog.copy(alloc),
+        Head::Unnamed | Head::Text(_) => Ok(no_catalog(alloc)),
+    }
+}
+
+/// The catalogue without tables and procedures.
+fn no_catalog(alloc: Global) -> Catalog
+    ensures { result ≡ no_plan }
+{
+    Catalog::of(Schema::from_vec(Vec::new(alloc)), Vec::new(alloc))
+}

@@ -1,0 +1,66 @@
+// The command `once`.
+ghost use Rattle.std.specs.Prelude.{◌≡◌, ◌≢◌, ◌≤◌, Ok, IfOk, IfErr};
+ghost use Rattle.std.specs.Io.KnownBytes.{IsAtEnd};
+ghost use Rattle.aria_base.specs.Faults.{Rose};
+ghost use Rattle.script_course.specs.Causes.{IsReadCause};
+ghost use Rattle.script_course.specs.Served.{Completes};
+ghost use Rattle.run_commands.specs.Outs.{IsInRange, is_each, out_of, told_of};
+
+use crate::ends::end_of;
+use crate::loops::read_script;
+use crate::scripts::Script;
+use aria_base::{Pace, Sink, Source};
+use command_words::{Listing, Once};
+use dep_rules::Config;
+use script_course::Stop;
+use std::alloc::Global;
+use std::thread::Threads;
+
+/// Runs the script that the source gives, and answers each batch as soon as its end is read. Where the
+/// source tells its bytes, what is printed is the output that they have, and the status is its status; where
+/// it was cut off, a front of it was printed, and where the source failed, all that the bytes so far tell.
+/// Neither workers nor replicas have a say in it.
+pub fn once<S: Source, K: Sink, P: Pace + Sync, R: Threads + Sync>(
+    rt: &R,
+    alloc: Global,
+    settings: &Once,
+    input: &mut S,
+    out: &mut K,
+    pace: &P,
+) -> Result<u8, Stop>
+    requires { IsInRange settings.now }
+    ensures completes { Completes (told_of settings.now) (out_of settings.now) (S.left input.old) (S.left input.new) (K.given out.old) (K.given out.new) result }
+
+    // Where nothing was in the way, the answer is 0, and the input was read to its end.
+    ensures zero { IfOk result (λ status. status ≡ 0) }
+    ensures end { IfOk result (λ _. IsAtEnd (S.left input.new)) }
+
+    // Each stop for a fault has its cause.
+    ensures source { S.faults input.old ≤ S.faults input.new }
+    ensures sink { K.faults out.old ≤ K.faults out.new }
+    ensures cause { IfErr result (λ stop. IsReadCause stop (Rose (S.faults input.old) (S.faults input.new)) (Rose (K.faults out.old) (K.faults out.new)) ⊥) }
+{
+    let config = Config {
+        rule: settings.rule,
+        fallback: settings.fallback,
+        workers: settings.workers,
+    };
+    let each = is_each(settings.listing);
+    let Ok(start) = Script::start(alloc, config, settings.replicas, each) else {
+        return Err(Stop::NoMemory);
+    };
+    match read_script(rt, alloc, start, input, out, pace) {
+        Ok(last) => end_of(rt, alloc, last, settings.drain, out, pace),
+        Err(stop) => Err(stop),
+    }
+}
+
+/// Whether each answer has a listing behind it.
+fn is_each(listing: Listing) -> bool
+    ensures { result ≡ is_each listing }
+{
+    match listing {
+        Listing::Each => true,
+        Listing::Last => false,
+    }
+}
