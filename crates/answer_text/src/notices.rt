@@ -10,8 +10,6 @@ use script_text::append_number;
 pub enum Refused {
     /// The words are no command.
     Usage,
-    /// The input does not have the form that is read today.
-    Form,
     /// The disk holds no store.
     NoStore,
     /// The disk holds a store already.
@@ -24,7 +22,6 @@ pub fn refused_line(refused: Refused) -> &'static [u8]
 {
     match refused {
         Refused::Usage => b"refused usage\n",
-        Refused::Form => b"refused form\n",
         Refused::NoStore => b"refused store none\n",
         Refused::StoreExists => b"refused store exists\n",
     }

@@ -1,11 +1,12 @@
 //! The program `aria`: the standard streams, and the top call.
 #![tactic(auto)]
 
-use aria_base::{FileSink, FileSource};
-use aria_top::{NO_MEMORY, READ_FAULT, WRITE_FAULT, aria};
+use aria_base::{FileSink, FileSource, Free};
+use aria_top::{DISK_FAULT, NO_MEMORY, READ_FAULT, WRITE_FAULT, aria};
 use std::env::Env;
 use std::io::{ErrorKind, Input, Print};
 use std::process::ExitCode;
+use std::thread::Threads;
 use std::{env, io};
 
 fn main(rt: HostRuntime) -> ExitCode {
@@ -18,14 +19,14 @@ fn main(rt: HostRuntime) -> ExitCode {
 }
 
 /// Runs the command that the program's arguments are, and answers its status.
-fn run<R: Env + AllocGlobal + Input + Print>(rt: &R) -> u8 {
+fn run<R: Env + AllocGlobal + Input + Print + Threads + Sync>(rt: &R) -> u8 {
     let mut input = FileSource::new(rt.reader());
     let mut output = FileSink::new(io::writer(rt));
     match words(rt) {
-        Ok(words) => aria(rt.alloc(), &words, &mut input, &mut output),
+        Ok(words) => aria(rt, rt.alloc(), &words, &mut input, &mut output, &Free),
         Err(error) if error.kind() == ErrorKind::OutOfMemory => NO_MEMORY,
         // An argument that is no text is no word of a command.
-        Err(_) => aria(rt.alloc(), &[], &mut input, &mut output),
+        Err(_) => aria(rt, rt.alloc(), &[], &mut input, &mut output, &Free),
     }
 }
 
@@ -43,6 +44,7 @@ fn fault_of(status: u8) -> Option<&'static str> {
     match status {
         READ_FAULT => Some("read fault"),
         WRITE_FAULT => Some("write fault"),
+        DISK_FAULT => Some("disk fault"),
         NO_MEMORY => Some("no memory"),
         _ => None,
     }

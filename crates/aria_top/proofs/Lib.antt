@@ -1,4 +1,3 @@
-mod Counts
-mod Judging
-mod Refused
-mod Shapes
+pub mod Asked
+pub mod Ranges
+pub mod Stopped

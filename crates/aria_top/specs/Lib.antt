@@ -1,11 +1,2 @@
-pub mod Answered
-pub mod Bank
-pub mod Engines
-pub mod Inputs
-pub mod Lines
-pub mod Numbers
 pub mod Out
-pub mod Scripts
-pub mod Serial
 pub mod Statuses
-pub mod Words

@@ -5,30 +5,13 @@
 //! where the source or the sink did, or where there was no memory.
 //!
 //! ```text
-//! words ─> usages        tops (aria)
-//! bytes ─> inputs ─> scripts ─> runs ─> answer_text ─> bytes
-//!                 (lines, numbers)│
-//!                              engines (one batch)
-//!                         /       |       |       \
-//!                    exec_phase batches reorder tbl_rows
-//!                  (one request) (decisions,
-//!                                 the answer)
+//! words ──> command_words ──> tops (aria) ──> run_commands (once)
 //! ```
 //!
-//! The reader of scripts (`scripts`, `lines`, `numbers`) takes the simple form alone and is temporary.
+//! In `specs/`: `Out` says what words print on an input, `Statuses` what a status says.
 #![tactic(auto)]
 
-mod batches;
-mod engines;
-mod inputs;
-mod laws;
-mod lines;
-mod numbers;
-mod runs;
-mod scripts;
-#[cfg(test)]
-mod tests;
 mod tops;
-mod usages;
 
-pub use tops::{DONE, NO_MEMORY, READ_FAULT, REFUSED, USAGE, WRITE_FAULT, aria};
+pub use serving::{Given, Live, serve_batch};
+pub use tops::{DISK_FAULT, DONE, NO_MEMORY, READ_FAULT, REFUSED, USAGE, WRITE_FAULT, aria};

@@ -77,7 +77,6 @@ fn faults_of_catalogues_have_their_places(rt: HostRuntime) -> Result<(), Fail> {
 /// Lines of commands.
 const NOTICES: &str = "ready
 refused usage
-refused form
 refused store none
 refused store exists
 refused store 3 18
@@ -87,12 +86,7 @@ batch 4611686018427387904 kept
 
 fn notices(alloc: Global) -> Result<Vec<u8>, Memory> {
     let mut out = Vec::from_slice(alloc, ready_line())?;
-    for refused in [
-        Refused::Usage,
-        Refused::Form,
-        Refused::NoStore,
-        Refused::StoreExists,
-    ] {
+    for refused in [Refused::Usage, Refused::NoStore, Refused::StoreExists] {
         out.extend_from_slice(refused_line(refused))?;
     }
     append_damaged(&mut out, 3, 18)?;

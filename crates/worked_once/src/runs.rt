@@ -1,0 +1,87 @@
+// A run of the top call over bytes in memory.
+use aria_base::{Free, MemSink, MemSource, Memory, Pace};
+use aria_top::{NO_MEMORY, aria};
+use std::process::Abort;
+use std::test::Fail;
+use std::thread::Threads;
+
+/// How many bytes a sink takes, more than any of these runs writes.
+const ROOM: usize = 1_000_000;
+
+/// The ring of three copies, and its answer.
+pub const RING: &str =
+    "catalog bank\nrow acct 1 = 10\nrow acct 2 = 20\nrow acct 3 = 30\ntx copy 1 2\ntx copy 2 3\ntx copy 3 1\nend 1\n";
+
+pub const RING_ANSWER: &str =
+    "batch 1\n1 ok 10\n2 ok 20\n3 wait both 2 1\norder 2 1\nend 1\nstate 1\nrow acct 1 = 10\nrow acct 2 = 10\nrow acct 3 = 20\nend state\n";
+
+/// Words, a script, and the status and the output that they have.
+pub type Row = (&'static str, &'static str, u8, &'static str);
+
+/// A run: its words, its script, how many bytes the source gives at a time, and which call of the source
+/// and of the sink fails, 0 for none.
+#[derive(Clone, Copy)]
+pub struct Case<'a> {
+    pub words: &'a str,
+    pub script: &'a str,
+    pub piece: usize,
+    pub failing_take: u64,
+    pub failing_give: u64,
+}
+
+/// The status of a run, and what it wrote. Want of memory is no answer.
+pub fn run<P: Pace + Sync, R: AllocGlobal + Threads + Sync>(
+    rt: &R,
+    case: &Case<'_>,
+    pace: &P,
+) -> Result<(u8, Vec<u8>), Memory> {
+    let alloc = rt.alloc();
+    let mut words = Vec::new(alloc);
+    for word in case.words.split(' ') {
+        words.push(String::from_str(alloc, word)?)?;
+    }
+    let script = Vec::from_slice(alloc, case.script.as_bytes())?;
+    let fails = Vec::from_array(alloc, [case.failing_take])?;
+    let mut input = MemSource::new(script, case.piece.max(1), fails);
+    let fails = Vec::from_array(alloc, [case.failing_give])?;
+    let mut out = MemSink::new(alloc, ROOM, fails)?;
+    let status = aria(rt, alloc, &words, &mut input, &mut out, pace);
+    if status == NO_MEMORY {
+        return Err(Memory);
+    }
+    Ok((status, Vec::from_slice(alloc, out.bytes())?))
+}
+
+/// Asserts that the run ends in this status and has written these bytes.
+pub fn ends<R: AllocGlobal + Threads + Abort + Sync>(
+    rt: &R,
+    case: &Case<'_>,
+    status: u8,
+    output: &str,
+) -> Result<(), Fail> {
+    let (ending, bytes) = run(rt, case, &Free)?;
+    let right = ending == status && bytes.as_slice() == output.as_bytes();
+    assert!(rt;
+        right,
+        "{} at {:?} with pieces of {}",
+        case.words, case.script, case.piece
+    );
+    Ok(())
+}
+
+/// Asserts that each row ends so, with its script in pieces of 1, 7 and 4,096 bytes.
+pub fn all_end<R: AllocGlobal + Threads + Abort + Sync>(rt: &R, rows: &[Row]) -> Result<(), Fail> {
+    for (words, script, status, output) in rows {
+        for piece in [1, 7, 4096] {
+            let case = Case {
+                words,
+                script,
+                piece,
+                failing_take: 0,
+                failing_give: 0,
+            };
+            ends(rt, &case, *status, output)?;
+        }
+    }
+    Ok(())
+}
