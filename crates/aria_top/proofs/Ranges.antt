@@ -1,11 +1,11 @@
 -- The settings of `once` that words give are within their bounds.
 use Rattle.std.proofs.Common.{◌≡◌, ◌∙◌, sym, ap, subst, refl, ℕ, ◌≤◌, Bool, true, false, cond, ◌&&◌, nat_le, List, [], ◌∷◌, Option, Some, None, arith}
 use Rattle.std.proofs.lemmas.Bool.{leb-true}
-use Rattle.std.specs.Prelude.{find, option_and_then, option_map, codes, bytes_eq}
+use Rattle.std.specs.Prelude.{find, option_and_then, option_map, codes, bytes_eq, drop}
 use Rattle.std.specs.Option.{IfSome}
 use Rattle.command_words.specs.Lines.{Line, line_of, text_in}
 use Rattle.command_words.specs.Options as option
-use Rattle.command_words.specs.Settings.{bench_of, command_of, init_of, mix_of, nodes_of, once_of, readers, replay_of, run_of, settings_named, with_some, workload_of}
+use Rattle.command_words.specs.Settings.{bench_of, command_of, init_of, mix_of, nodes_of, once_of, readers, replay_of, run_of, with_some, workload_of}
 use Rattle.command_words.specs.Tables.{commands}
 use Rattle.command_words.specs.Values.{Range, choice_in, flag_in, number_in, number_of, number_or, within}
 use Rattle.batch_rules.specs.declared.verdicts.Rule.{Rule}
@@ -97,11 +97,11 @@ module _ (name : List ℕ) (l : Line) (settings : Once) where
   one own read rs first rest e = by_name (bytes_eq name own) l read (find (λ r. bytes_eq name r.0) rs) own settings first rest e
 
   other : {X : Type 0} (own : List ℕ) (o : Line → Option X) (form : X → Command) (rs : List Entry) → ((x : X) → once_by (form x) ≡ None) → Reads rs → Reads ((own, λ k. option_map form (o k)) ∷ rs)
-  other own o form rs no rest = one own (λ k. option_map form (o k)) rs (λ e. absurd (no_once (o l) form settings no e)) rest
+  other own o form rs never rest = one own (λ k. option_map form (o k)) rs (λ e. absurd (no_once (o l) form settings never e)) rest
 
   plain : (own : List ℕ) (c : Command) (rs : List Entry) → once_by c ≡ None → Reads rs → Reads ((own, λ k. Some c) ∷ rs)
-  plain own c rs no rest = one own (λ k. Some c) rs
-      (λ e. let same : c ≡ command.Once settings = cc in let both : Some settings ≡ None = sym (ap once_by same) ∙ no in absurd cc) rest
+  plain own c rs never rest = one own (λ k. Some c) rs
+      (λ e. let same : c ≡ command.Once settings = cc in let both : Some settings ≡ None = sym (ap once_by same) ∙ never in absurd cc) rest
 
   by_line : (o : Option Once) → once_of l ≡ o → option_map command.Once o ≡ Some (command.Once settings) → IsInRange settings
   by_line None is e = absurd cc
@@ -111,15 +111,15 @@ module _ (name : List ℕ) (l : Line) (settings : Once) where
 
   named : Reads readers
   named =
-      one (codes "once") (λ k. option_map command.Once (once_of k)) _ (λ e. by_line (once_of l) refl e)
-      (other (codes "init") init_of command.Init _ (λ x. refl)
-      (other (codes "run") run_of command.Run _ (λ x. refl)
-      (other (codes "replay") replay_of command.Replay _ (λ x. refl)
-      (plain (codes "check") command.Check _ refl
-      (other (codes "gen") workload_of command.Gen _ (λ x. refl)
-      (other (codes "bench") bench_of command.Bench _ (λ x. refl)
-      (plain (codes "audit") command.Audit _ refl
-      (other (codes "mix") mix_of command.Mix _ (λ x. refl)
+      one (codes "once") (λ k. option_map command.Once (once_of k)) (drop 1 readers) (λ e. by_line (once_of l) refl e)
+      (other (codes "init") init_of command.Init (drop 2 readers) (λ x. refl)
+      (other (codes "run") run_of command.Run (drop 3 readers) (λ x. refl)
+      (other (codes "replay") replay_of command.Replay (drop 4 readers) (λ x. refl)
+      (plain (codes "check") command.Check (drop 5 readers) refl
+      (other (codes "gen") workload_of command.Gen (drop 6 readers) (λ x. refl)
+      (other (codes "bench") bench_of command.Bench (drop 7 readers) (λ x. refl)
+      (plain (codes "audit") command.Audit (drop 8 readers) refl
+      (other (codes "mix") mix_of command.Mix (drop 9 readers) (λ x. refl)
       (other (codes "nodes") nodes_of command.Nodes [] (λ x. refl)
       (λ e. absurd cc))))))))))
 

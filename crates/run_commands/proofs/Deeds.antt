@@ -3,13 +3,13 @@ use Rattle.std.proofs.Common.{◌≡◌, ◌∙◌, sym, ap, subst, refl, ℕ, �
 use Rattle.std.specs.List.{All}
 use Rattle.std.specs.FinMap as fin
 use Rattle.std.proofs.lemmas.List.Elements.{All-nil, All-append, All-cons}
-use Rattle.aria_base.specs.Orders.{Cells, Database}
-use Rattle.aria_base.specs.Schemas.{Fits, IsConsistent}
+use Rattle.aria_base.specs.Orders.{Cells}
+use Rattle.aria_base.specs.Schemas.{Fits}
 use Rattle.aria_base.specs.declared.calls.Call.{Call}
 use Rattle.aria_base.specs.declared.keys.Key.{Key}
-use Rattle.aria_base.specs.declared.limits.TheConstants.{GREATEST_NUMBER, MOST_REQUESTS}
+use Rattle.aria_base.specs.declared.limits.TheConstants.{MOST_REQUESTS}
 use Rattle.batch_core.specs.Steps.{State, Handed, step}
-use Rattle.batch_engine.specs.Engines.{Between, handed_by, most_numbered}
+use Rattle.batch_engine.specs.Engines.{Between, most_numbered}
 use Rattle.batch_rules.specs.declared.verdicts.Rule.{Rule}
 use Rattle.dep_rules.specs.declared.configs.Config.{Config}
 use Rattle.proc_lang.specs.Catalogs.{Plan, takes, run_of}
@@ -18,11 +18,11 @@ use Rattle.script_places.specs.declared.heads.Head.{Head}
 use Rattle.script_places.specs.declared.heads.Head.TheVariants as head
 use Rattle.script_places.specs.declared.places.Place.{Place}
 use Rattle.script_text.specs.declared.fits.TheConstants.{MOST_PERCENT}
-use Rattle.serving.specs.Lives.{IsNext, IsRunnable, MayServe, batch_text, first_state, handed_at, next_handed, next_state, next_text, plan_of, state_of}
+use Rattle.serving.specs.Lives.{IsNext, MayServe, batch_text, first_state, handed_at, next_handed, next_state, next_text, plan_of, state_of}
 use Rattle.serving.specs.declared.lives.Live.{Live}
-use Rattle.run_commands.specs.Bases.{IsBegun, IsBounded, IsHead, IsListed, IsSettled, IsUnder, plan_in, put_in, set_in, settings_with, state_in}
+use Rattle.run_commands.specs.Bases.{IsBegun, IsBounded, IsHead, IsListed, IsUnder, plan_in, put_in, set_in, settings_with, state_in}
 use Rattle.run_commands.specs.Onces.{behind_batch, text_of}
-use Rattle.run_commands.specs.Standing.{HasEnded, Holds, IsOf, MayCall, MayClose, MayPut, MayRun, MaySet, Stands, doing_of}
+use Rattle.run_commands.specs.Standing.{HasEnded, IsOf, MayClose, MayPut, MayRun, MaySet, Stands, doing_of}
 use Rattle.run_commands.specs.declared.bases.Base.{Base}
 use Rattle.run_commands.specs.declared.bases.Base.TheVariants as base
 use Rattle.run_commands.specs.declared.works.Work.{Work}

@@ -3,7 +3,7 @@ use Rattle.std.proofs.Common.{◌≡◌, ◌∙◌, sym, ap, subst, refl, ℕ, L
 use Rattle.std.specs.Prelude.{Result, Ok, Err}
 use Rattle.std.proofs.KnownBytes.{Appends-nil}
 use Rattle.script_course.proofs.Turns.{front_none}
-use Rattle.script_course.specs.Courses.{Course, Goes, Stops, printed}
+use Rattle.script_course.specs.Courses.{Course, Goes, printed}
 use Rattle.script_course.specs.Served.{Serves}
 use Rattle.script_course.specs.declared.stops.Stop.{Stop}
 use Rattle.script_course.specs.declared.stops.Stop.TheVariants as stop

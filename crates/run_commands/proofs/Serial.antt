@@ -1,10 +1,8 @@
 -- The requests that wait keep their numbers in order, so that each batch is serial.
-use Rattle.std.proofs.Common.{◌≡◌, ◌∙◌, sym, ap, refl, subst, ℕ, Bool, List, [], ◌∷◌, ◌++◌, Option, Some, None, ◌≤◌, arith}
+use Rattle.std.proofs.Common.{◌≡◌, ap, ℕ, List, [], ◌∷◌, Option, Some, None, arith}
 use Rattle.std.specs.Prelude.{Ok, Err}
 use Rattle.batch_core.proofs.Serial.{all_serial, keeps_numbers}
-use Rattle.batch_core.specs.Serial.{AllSerial, IsNumbered}
-use Rattle.batch_core.specs.Steps.{Handed}
-use Rattle.command_words.specs.declared.settings.Listing.{Listing}
+use Rattle.batch_core.specs.Serial.{IsNumbered}
 use Rattle.command_words.specs.declared.settings.Once.{Once}
 use Rattle.proc_lang.specs.Catalogs.{run_of}
 use Rattle.script_course.specs.Courses.{Course, Goes, Stops, behind, told, with_fault, with_line, with_lines, whole}
@@ -17,7 +15,6 @@ use Rattle.run_commands.specs.Bases.{counts_of, plan_in}
 use Rattle.run_commands.specs.Onces.{Doing, done, done_by, handed_in, on_end, on_line}
 use Rattle.run_commands.specs.Outs.{AreOne, IsAlike, is_each, no_line, start_by, start_of, told_of}
 use Rattle.run_commands.specs.Serial.{EachIsSerial, GoesSerially}
-use Rattle.script_places.specs.declared.places.Place.{Place}
 
 abbrev Counted : Course Doing → Type 0
 Counted (Goes bytes d) = IsNumbered d.state

@@ -1,5 +1,5 @@
 -- A script keeps what is true of it from line to line.
-use Rattle.std.proofs.Common.{◌≡◌, ◌∙◌, sym, ap, subst, refl, ℕ, ◌+◌, ◌<◌, ◌≤◌, Bool, true, false, cond, List, [], ◌∷◌, ◌++◌, length, Some, None, arith}
+use Rattle.std.proofs.Common.{◌≡◌, ◌∙◌, sym, ap, subst, refl, ◌+◌, ◌<◌, ◌≤◌, Bool, true, false, cond, List, [], length, Some}
 use Rattle.std.specs.List.{All}
 use Rattle.std.specs.FinMap as fin
 use Rattle.std.specs.FinMap.{get-empty, get-insert}
@@ -14,16 +14,15 @@ use Rattle.aria_base.specs.declared.limits.TheConstants.{GREATEST_NUMBER, MOST_R
 use Rattle.aria_base.specs.declared.schemas.Table.{Table}
 use Rattle.batch_rules.proofs.Maps.{same_key}
 use Rattle.proc_lang.specs.Catalogs.{Plan, takes}
-use Rattle.script_places.specs.Follows.{Follows, HeadStays, IsReadyWith}
+use Rattle.script_places.specs.Follows.{Follows, HeadStays}
 use Rattle.script_places.specs.Places.{is_check}
 use Rattle.script_places.specs.declared.deeds.Deed.{Deed}
 use Rattle.script_places.specs.declared.deeds.Deed.TheVariants as deed
 use Rattle.script_places.specs.declared.heads.Head.{Head}
 use Rattle.script_places.specs.declared.heads.Head.TheVariants as head
-use Rattle.script_places.specs.declared.places.Counts.{Counts}
 use Rattle.script_places.specs.declared.places.Place.{Place}
-use Rattle.run_commands.specs.Bases.{IsBlank, IsBounded, IsHead, IsListed, IsUnder, counts_of, state_in}
-use Rattle.run_commands.specs.Standing.{HasEnded, Holds, IsOf, MayCall, MayClose, MayDo, MayPut, MayRun, MaySet, Stands}
+use Rattle.run_commands.specs.Bases.{IsBlank, IsHead, IsUnder, counts_of, state_in}
+use Rattle.run_commands.specs.Standing.{HasEnded, Holds, IsOf, MayDo, Stands}
 use Rattle.run_commands.specs.declared.bases.Base.{Base}
 use Rattle.run_commands.specs.declared.bases.Base.TheVariants as base
 use Rattle.run_commands.specs.declared.works.Work.{Work}

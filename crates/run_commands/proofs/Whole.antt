@@ -1,9 +1,9 @@
 -- A script as a whole: what was read of it, and its end.
-use Rattle.std.proofs.Common.{◌≡◌, ◌≢◌, sym, ap, subst, ℕ, List, Option}
+use Rattle.std.proofs.Common.{◌≡◌, ◌≢◌, subst, ℕ, List, Option}
 use Rattle.std.specs.Prelude.{Result, Ok, Err}
 use Rattle.command_words.specs.declared.settings.Once.{Once}
 use Rattle.script_course.proofs.Ends.{completes_on, completes_cut}
-use Rattle.script_course.specs.Courses.{Course, told, told_whole}
+use Rattle.script_course.specs.Courses.{told, told_whole}
 use Rattle.script_course.specs.Served.{Comes, Completes, Finishes}
 use Rattle.script_course.specs.declared.stops.Stop.{Stop}
 use Rattle.script_course.specs.declared.stops.Stop.TheVariants as stop

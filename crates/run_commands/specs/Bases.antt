@@ -1,5 +1,5 @@
 -- A database before its first batch, and from then on, as a state.
-use Rattle.std.specs.Prelude.{◌≡◌, ◌≤◌, ℕ, Bool, true, length, Result, Ok, Err}
+use Rattle.std.specs.Prelude.{◌≡◌, ◌≤◌, ℕ, Bool, length, Result, Ok, Err}
 use Rattle.std.specs.FinMap as fin
 use Rattle.aria_base.specs.Orders.{Cells}
 use Rattle.aria_base.specs.Schemas.{IsConsistent}

@@ -1,12 +1,11 @@
 -- The output of `once`.
 use Rattle.std.specs.Prelude.{◌≡◌, ◌≤◌, ℕ, Bool, true, false, List, []}
 use Rattle.std.specs.FinMap as fin
-use Rattle.batch_core.specs.Steps.{State}
 use Rattle.batch_rules.specs.declared.verdicts.Rule.{Rule}
 use Rattle.command_words.specs.declared.settings.Listing.{Listing}
 use Rattle.command_words.specs.declared.settings.Listing.TheVariants.{Each, Last}
 use Rattle.command_words.specs.declared.settings.Once.{Once}
-use Rattle.script_course.specs.Courses.{Course, Out, told, told_whole, whole}
+use Rattle.script_course.specs.Courses.{Course, Out, told, whole}
 use Rattle.script_places.specs.Places.{start}
 use Rattle.script_places.specs.declared.places.Mode.TheVariants as mode
 use Rattle.script_text.specs.Lines.{Feed, blank}

@@ -1,5 +1,5 @@
 -- The promise of the printed order.
-use Rattle.std.specs.Prelude.{◌≡◌, ℕ, List}
+use Rattle.std.specs.Prelude.{ℕ, List}
 use Rattle.batch_core.specs.Serial.{AllSerial}
 use Rattle.batch_core.specs.Steps.{Handed}
 use Rattle.command_words.specs.declared.settings.Once.{Once}

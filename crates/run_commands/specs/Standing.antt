@@ -7,7 +7,7 @@ use Rattle.aria_base.specs.declared.calls.Call.{Call}
 use Rattle.aria_base.specs.declared.keys.Key.{Key}
 use Rattle.aria_base.specs.declared.limits.TheConstants.{GREATEST_NUMBER, MOST_REQUESTS}
 use Rattle.answer_text.specs.Refusals.{refusal_text}
-use Rattle.proc_lang.specs.Catalogs.{Plan, takes}
+use Rattle.proc_lang.specs.Catalogs.{takes}
 use Rattle.script_course.specs.Courses.{Course, Goes, Stops}
 use Rattle.script_places.specs.Follows.{IsReadyWith}
 use Rattle.script_places.specs.declared.deeds.Deed.{Deed}
