@@ -1,0 +1,11 @@
+pub mod Places
+pub mod Notes
+pub mod Bounds
+pub mod Ranks
+pub mod Laid
+pub mod Drawn
+pub mod Steps
+pub mod Still
+pub mod Heads
+pub mod Audited
+pub mod Found

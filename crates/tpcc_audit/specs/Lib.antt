@@ -1,0 +1,4 @@
+pub mod Facts
+pub mod Books
+pub mod Conditions
+pub mod Laws
