@@ -1,9 +1,11 @@
-//! The program `aria`: the standard streams, and the top call.
+//! The program `aria`: the standard streams, the folder of its store, and the top call.
 #![tactic(auto)]
 
 use aria_base::{FileSink, FileSource, Free};
 use aria_top::{DISK_FAULT, NO_MEMORY, READ_FAULT, WRITE_FAULT, aria};
+use dir_disk::DirDisk;
 use std::env::Env;
+use std::fs::Files;
 use std::io::{ErrorKind, Input, Print};
 use std::process::ExitCode;
 use std::thread::Threads;
@@ -18,16 +20,32 @@ fn main(rt: HostRuntime) -> ExitCode {
     ExitCode::from(status)
 }
 
+/// The folder that a store lies in, in the folder that the program runs in. It is made at the first call on
+/// the disk.
+const STORE: &str = "aria-store";
+
 /// Runs the command that the program's arguments are, and answers its status.
-fn run<R: Env + AllocGlobal + Input + Print + Threads + Sync>(rt: &R) -> u8 {
-    let mut input = FileSource::new(rt.reader());
-    let mut output = FileSink::new(io::writer(rt));
+fn run<R: Env + AllocGlobal + Files + Input + Print + Threads + Sync>(rt: &R) -> u8 {
     match words(rt) {
-        Ok(words) => aria(rt, rt.alloc(), &words, &mut input, &mut output, &Free),
+        Ok(words) => run_words(rt, &words),
         Err(error) if error.kind() == ErrorKind::OutOfMemory => NO_MEMORY,
         // An argument that is no text is no word of a command.
-        Err(_) => aria(rt, rt.alloc(), &[], &mut input, &mut output, &Free),
+        Err(_) => run_words(rt, &[]),
     }
+}
+
+/// Runs the command that the words are, and answers its status.
+fn run_words<R: AllocGlobal + Files + Input + Print + Threads + Sync>(
+    rt: &R,
+    words: &[String],
+) -> u8 {
+    let alloc = rt.alloc();
+    let mut input = FileSource::new(rt.reader());
+    let mut output = FileSink::new(io::writer(rt));
+    let Ok(mut disk) = DirDisk::new(alloc, rt, STORE) else {
+        return NO_MEMORY;
+    };
+    aria(rt, alloc, words, &mut input, &mut output, &mut disk, &Free)
 }
 
 /// The program's arguments, without its name.

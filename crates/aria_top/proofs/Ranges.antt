@@ -1,4 +1,4 @@
--- The settings of `once` that words give are within their bounds.
+-- The settings that words give are within their ranges.
 use Rattle.std.proofs.Common.{◌≡◌, ◌∙◌, sym, ap, subst, refl, ℕ, ◌≤◌, Bool, true, false, cond, ◌&&◌, nat_le, List, [], ◌∷◌, Option, Some, None, arith}
 use Rattle.std.proofs.lemmas.Bool.{leb-true}
 use Rattle.std.specs.Prelude.{find, option_and_then, option_map, codes, bytes_eq, drop}
@@ -13,8 +13,16 @@ use Rattle.command_words.specs.declared.settings.Command.{Command}
 use Rattle.command_words.specs.declared.settings.Command.TheVariants as command
 use Rattle.command_words.specs.declared.settings.Listing.{Listing}
 use Rattle.command_words.specs.declared.settings.Once.{Once}
+use Rattle.command_words.specs.declared.settings.Workload.{Workload}
 use Rattle.run_commands.specs.Outs.{IsInRange}
-use Rattle.aria_top.specs.Out.{command_in, once_by, once_in}
+use Rattle.workloads.specs.Laws.{IsAsked, WordsAreWithin}
+use Rattle.aria_top.specs.Tasks as tasks
+use Rattle.aria_top.specs.Tasks.{command_in, task_by, task_in}
+use Rattle.aria_top.specs.declared.tasks.Task.{Task}
+
+abbrev once_by : Command → Option Once
+once_by (command.Once settings) = Some settings
+once_by other = None
 
 -- what goes on with a value had one
 data Step (X Y : Type 0) (o : Option X) (f : X → Option Y) (y : Y) : Type 0 where
@@ -128,19 +136,24 @@ named_range words settings e = elim (step Line Command (line_of commands words) 
   | stepped l is found ↦ named l.cmd.name l settings found
 ]
 
-by_command : (words : List (List ℕ)) (asked : Option Command) → command_in words ≡ asked → IfSome (option_and_then once_by asked) IsInRange
-by_command words None is = tt
-by_command words (Some (command.Once settings)) is = named_range words settings is
-by_command words (Some (command.Init settings)) is = tt
-by_command words (Some (command.Run settings)) is = tt
-by_command words (Some (command.Replay settings)) is = tt
-by_command words (Some command.Check) is = tt
-by_command words (Some (command.Gen settings)) is = tt
-by_command words (Some (command.Bench settings)) is = tt
-by_command words (Some command.Audit) is = tt
-by_command words (Some (command.Mix settings)) is = tt
-by_command words (Some (command.Nodes settings)) is = tt
+gen_range : WordsAreWithin → (words : List (List ℕ)) (settings : Workload) → command_in words ≡ Some (command.Gen settings) → IsAsked settings
+gen_range law words settings e = elim (step Line Command (line_of commands words) command_of (command.Gen settings) e) [
+  | stepped l is found ↦ law.gen l settings found
+]
+
+by_command : WordsAreWithin → (words : List (List ℕ)) (asked : Option Command) → command_in words ≡ asked → IfSome (option_and_then task_by asked) tasks.IsInRange
+by_command law words None is = tt
+by_command law words (Some (command.Once settings)) is = named_range words settings is
+by_command law words (Some (command.Init settings)) is = tt
+by_command law words (Some (command.Run settings)) is = tt
+by_command law words (Some (command.Replay settings)) is = tt
+by_command law words (Some command.Check) is = tt
+by_command law words (Some (command.Gen settings)) is = gen_range law words settings is
+by_command law words (Some (command.Bench settings)) is = tt
+by_command law words (Some command.Audit) is = tt
+by_command law words (Some (command.Mix settings)) is = tt
+by_command law words (Some (command.Nodes settings)) is = tt
 
 -- the settings that words ask for
-pub in_bounds : (words : List (List ℕ)) (found : Option Once) → found ≡ once_in words → IfSome found IsInRange
-in_bounds words found is = subst (λ (f : Option Once). IfSome f IsInRange) (sym is) (by_command words (command_in words) refl)
+pub in_bounds : WordsAreWithin → (words : List (List ℕ)) (found : Option Task) → found ≡ task_in words → IfSome found tasks.IsInRange
+in_bounds law words found is = subst (λ (f : Option Task). IfSome f tasks.IsInRange) (sym is) (by_command law words (command_in words) refl)

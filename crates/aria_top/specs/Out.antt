@@ -1,41 +1,31 @@
 -- What the program prints, and how it ends.
-use Rattle.std.specs.Prelude.{ℕ, List, Option, Some, None, option_map, option_and_then}
+use Rattle.std.specs.Prelude.{ℕ, List, Option, Some, None, option_map}
 use Rattle.answer_text.specs.Notices.{refused_text}
 use Rattle.answer_text.specs.declared.notices.Refused.TheVariants.{Usage}
-use Rattle.command_words.specs.Lines.{line_of}
-use Rattle.command_words.specs.Settings.{command_of}
-use Rattle.command_words.specs.Tables.{commands}
-use Rattle.command_words.specs.declared.settings.Command.{Command}
-use Rattle.command_words.specs.declared.settings.Command.TheVariants as command
-use Rattle.command_words.specs.declared.settings.Once.{Once}
+use Rattle.gen_command.specs.Scripts.{script_of}
 use Rattle.run_commands.specs.Outs.{out_of, told_of}
 use Rattle.script_course.specs.Courses.{Out}
 use Rattle.script_course.specs.Served.{IsToldOf}
-
--- the command that words are, where they are one
-abbrev pub command_in : List (List ℕ) → Option Command
-command_in words = option_and_then command_of (line_of commands words)
-
--- its settings, where it is `once`
-abbrev pub once_by : Command → Option Once
-once_by (command.Once settings) = Some settings
-once_by other = None
-
-abbrev pub once_in : List (List ℕ) → Option Once
-once_in words = option_and_then once_by (command_in words)
+use Rattle.aria_top.specs.Tasks.{task_in}
+use Rattle.aria_top.specs.declared.tasks.Task.{Task}
+use Rattle.aria_top.specs.declared.tasks.Task.TheVariants as task
 
 abbrev pub refused_usage : Out
 refused_usage = record { bytes = refused_text Usage; status = 2 }
 
--- what they print on an input, where the source tells its bytes; words that are no command print without it
-abbrev pub out_by : Option Once → Option (List ℕ) → Option Out
+-- what a task prints on an input, where the source tells its bytes; what reads nothing prints without it
+abbrev pub out_of_task : Task → Option (List ℕ) → Option Out
+out_of_task (task.Once settings) left = option_map (out_of settings) left
+out_of_task (task.Gen settings) left = Some (record { bytes = script_of settings; status = 0 })
+
+abbrev pub out_by : Option Task → Option (List ℕ) → Option Out
 out_by None left = Some refused_usage
-out_by (Some settings) left = option_map (out_of settings) left
+out_by (Some asked) left = out_of_task asked left
 
 abbrev pub out_for : List (List ℕ) → Option (List ℕ) → Option Out
-out_for words left = out_by (once_in words) left
+out_for words left = out_by (task_in words) left
 
 -- what was written is all that the bytes that were taken tell, and no line of them was refused
-abbrev pub IsToldFor : Option Once → Option (List ℕ) → Option (List ℕ) → Option (List ℕ) → Option (List ℕ) → Type 0
-IsToldFor None left rest old new = ⊥
-IsToldFor (Some settings) left rest old new = IsToldOf (told_of settings) left rest old new
+abbrev pub IsToldFor : Option Task → Option (List ℕ) → Option (List ℕ) → Option (List ℕ) → Option (List ℕ) → Type 0
+IsToldFor (Some (task.Once settings)) left rest old new = IsToldOf (told_of settings) left rest old new
+IsToldFor other left rest old new = ⊥

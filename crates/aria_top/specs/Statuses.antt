@@ -1,6 +1,6 @@
 -- What a status says.
 use Rattle.std.specs.Prelude.{◌≡◌, ℕ, ◌⊎◌}
-use Rattle.aria_top.specs.declared.tops.TheConstants.{DONE, REFUSED, USAGE}
+use Rattle.aria_top.specs.declared.statuses.TheConstants.{DONE, REFUSED, USAGE}
 
 -- the whole output was written
 abbrev pub IsAnswered : ℕ → Type 0

@@ -5,13 +5,19 @@
 //! where the source or the sink did, or where there was no memory.
 //!
 //! ```text
-//! words ──> command_words ──> tops (aria) ──> run_commands (once)
+//! words ──> tasks (command_words) ──> tops (aria) ──> commands ──> run_commands (once)
+//!                                                             └──> gen_command (gen)
 //! ```
 //!
-//! In `specs/`: `Out` says what words print on an input, `Statuses` what a status says.
+//! In `specs/`: `Tasks` says what words ask for, `Out` what they print on an input, `Statuses` what a
+//! status says.
 #![tactic(auto)]
 
+mod commands;
+mod statuses;
+mod tasks;
 mod tops;
 
 pub use serving::{Given, Live, serve_batch};
-pub use tops::{DISK_FAULT, DONE, NO_MEMORY, READ_FAULT, REFUSED, USAGE, WRITE_FAULT, aria};
+pub use statuses::{DISK_FAULT, DONE, NO_MEMORY, READ_FAULT, REFUSED, USAGE, WRITE_FAULT};
+pub use tops::aria;

@@ -1,6 +1,7 @@
 // A run of the top call over bytes in memory.
 use aria_base::{Free, MemSink, MemSource, Memory, Pace};
 use aria_top::{NO_MEMORY, aria};
+use disk_model::MemDisk;
 use std::process::Abort;
 use std::test::Fail;
 use std::thread::Threads;
@@ -45,7 +46,9 @@ pub fn run<P: Pace + Sync, R: AllocGlobal + Threads + Sync>(
     let mut input = MemSource::new(script, case.piece.max(1), fails);
     let fails = Vec::from_array(alloc, [case.failing_give])?;
     let mut out = MemSink::new(alloc, ROOM, fails)?;
-    let status = aria(rt, alloc, &words, &mut input, &mut out, pace);
+    // No command of these tests has a use for a disk.
+    let mut disk = MemDisk::new(alloc, 0, 0, Vec::new(alloc))?;
+    let status = aria(rt, alloc, &words, &mut input, &mut out, &mut disk, pace);
     if status == NO_MEMORY {
         return Err(Memory);
     }

@@ -1,6 +1,6 @@
 use Rattle.run_commands.specs.Outs.{out_of}
 use Rattle.aria_top.proofs.Stopped.{front_cut, front_end}
-use Rattle.aria_top.proofs.tops.run_once.Goals as goal
+use Rattle.aria_top.proofs.commands.run_once.Goals as goal
 
 pub returns-in-Ok-clause-front : goal.returns-in-Ok-clause-front
 returns-in-Ok-clause-front g c =

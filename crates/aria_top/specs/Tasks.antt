@@ -1,0 +1,34 @@
+-- What words ask for.
+use Rattle.std.specs.Prelude.{◌≤◌, Bool, true, false, ℕ, List, Option, Some, None, option_and_then}
+use Rattle.command_words.specs.Lines.{line_of}
+use Rattle.command_words.specs.Settings.{command_of}
+use Rattle.command_words.specs.Tables.{commands}
+use Rattle.command_words.specs.declared.settings.Command.{Command}
+use Rattle.command_words.specs.declared.settings.Command.TheVariants as command
+use Rattle.run_commands.specs.Outs as once
+use Rattle.workloads.specs.Laws.{IsAsked}
+use Rattle.aria_top.specs.declared.tasks.Task.{Task}
+use Rattle.aria_top.specs.declared.tasks.Task.TheVariants as task
+
+-- the task of a command that the program has; every other command is refused as words that are none
+abbrev pub task_by : Command → Option Task
+task_by (command.Once settings) = Some (task.Once settings)
+task_by (command.Gen settings) = Some (task.Gen settings)
+task_by other = None
+
+-- the command that words are, where they are one
+abbrev pub command_in : List (List ℕ) → Option Command
+command_in words = option_and_then command_of (line_of commands words)
+
+abbrev pub task_in : List (List ℕ) → Option Task
+task_in words = option_and_then task_by (command_in words)
+
+-- its settings are within their ranges
+abbrev pub IsInRange : Task → Type 0
+IsInRange (task.Once settings) = once.IsInRange settings
+IsInRange (task.Gen settings) = IsAsked settings
+
+-- whether the input is read for it
+abbrev pub reads : Option Task → Bool
+reads (Some (task.Once settings)) = true
+reads other = false

@@ -1,0 +1,58 @@
+// Each command with the status that it ends in.
+ghost use Rattle.std.specs.Prelude.{◌≡◌, ◌⊎◌, IfSome};
+ghost use Rattle.std.specs.Io.KnownBytes.{Appends, IsAtEnd};
+ghost use Rattle.aria_base.specs.Faults.{Rose};
+ghost use Rattle.aria_base.specs.Streams.{AppendsFront};
+ghost use Rattle.script_course.specs.Served.{IsToldOf};
+ghost use Rattle.aria_top.specs.Statuses.{IsAnswered};
+ghost use Rattle.gen_command.specs.Scripts.{script_of};
+ghost use Rattle.run_commands.specs.Outs.{IsInRange, out_of, told_of};
+ghost use Rattle.workloads.specs.Laws.{IsAsked};
+
+use crate::statuses::{DONE, NO_MEMORY, READ_FAULT, REFUSED, WRITE_FAULT};
+use aria_base::{Pace, Sink, Source};
+use command_words::{Once, Workload};
+use gen_command::generate;
+use run_commands::once;
+use std::alloc::Global;
+use std::thread::Threads;
+
+/// Runs `once`, and answers its status.
+#[tactic(auto, using(crate::proofs::Stopped::answered_end, crate::proofs::Stopped::front_end, crate::proofs::Stopped::front_cut, crate::proofs::Stopped::answered_cut, crate::proofs::Stopped::others_cut, crate::proofs::Stopped::read_cut, crate::proofs::Stopped::write_cut, crate::proofs::Stopped::never_done, crate::proofs::Stopped::told_cut))]
+pub fn run_once<S: Source, K: Sink, P: Pace + Sync, R: Threads + Sync>(
+    rt: &R,
+    alloc: Global,
+    settings: &Once,
+    input: &mut S,
+    out: &mut K,
+    pace: &P,
+) -> u8
+    requires { IsInRange settings.now }
+    ensures answered { IsAnswered result → IfSome (S.left input.old)
+        (λ text. (result ≡ (out_of settings.now text).status) × Appends (K.given out.old) (K.given out.new) (out_of settings.now text).bytes) }
+    ensures front { IfSome (S.left input.old) (λ text. AppendsFront (K.given out.old) (K.given out.new) (out_of settings.now text).bytes) }
+    ensures others { (result ≡ DONE) ⊎ (result ≡ REFUSED) ⊎ (result ≡ READ_FAULT) ⊎ (result ≡ WRITE_FAULT) ⊎ (result ≡ NO_MEMORY) }
+    ensures read { result ≡ READ_FAULT → Rose (S.faults input.old) (S.faults input.new) }
+    ensures write { result ≡ WRITE_FAULT → Rose (K.faults out.old) (K.faults out.new) }
+    ensures end { result ≡ DONE → IsAtEnd (S.left input.new) }
+    ensures told { result ≡ READ_FAULT → IsToldOf (told_of settings.now) (S.left input.old) (S.left input.new) (K.given out.old) (K.given out.new) }
+{
+    match once(rt, alloc, settings, input, out, pace) {
+        Ok(status) => status,
+        Err(stop) => stop.status(),
+    }
+}
+
+/// Runs `gen`, and answers its status.
+pub fn run_gen<K: Sink>(alloc: Global, settings: &Workload, out: &mut K) -> u8
+    requires { IsAsked settings.now }
+    ensures answered { IsAnswered result → (result ≡ DONE) × Appends (K.given out.old) (K.given out.new) (script_of settings.now) }
+    ensures front { AppendsFront (K.given out.old) (K.given out.new) (script_of settings.now) }
+    ensures others { (result ≡ DONE) ⊎ (result ≡ WRITE_FAULT) ⊎ (result ≡ NO_MEMORY) }
+    ensures write { result ≡ WRITE_FAULT → Rose (K.faults out.old) (K.faults out.new) }
+{
+    match generate(alloc, settings, out) {
+        Ok(status) => status,
+        Err(stop) => stop.status(),
+    }
+}

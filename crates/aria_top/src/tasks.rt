@@ -1,0 +1,47 @@
+// What the words of a command line ask for.
+ghost use Rattle.std.specs.Prelude.{◌≡◌, map, string_bytes, IfOk, IfSome};
+ghost use Rattle.aria_top.specs.Tasks.{task_by, task_in, IsInRange};
+ghost use Rattle.workloads.specs.Laws.{WordsAreWithin};
+
+use aria_base::Memory;
+use command_words::{Command, Once, Workload, commands, read_settings};
+use std::alloc::Global;
+use workloads::words_are_within;
+
+/// A command that the program has, with its settings.
+#[derive(Drop)]
+pub enum Task {
+    Once(Once),
+    Gen(Workload),
+}
+
+/// What the words ask for, where they are the line of a command that the program has. Its settings are
+/// within their ranges.
+pub fn read_task(alloc: Global, words: &[String]) -> Result<Option<Task>, Memory>
+    ensures asked { IfOk result (λ found. found ≡ task_in (map string_bytes words.now)) }
+    ensures range { IfOk result (λ found. IfSome found IsInRange) }
+{
+    words_are_within();
+    match read_settings(alloc, &commands(), words)? {
+        Some(command) => Ok(task_by(command)),
+        None => Ok(None),
+    }
+}
+
+/// The task of a command, where the program has it.
+fn task_by(command: Command) -> Option<Task>
+    ensures { result ≡ task_by command }
+{
+    match command {
+        Command::Once(settings) => Some(Task::Once(settings)),
+        Command::Gen(settings) => Some(Task::Gen(settings)),
+        Command::Init(_)
+        | Command::Run(_)
+        | Command::Replay(_)
+        | Command::Check
+        | Command::Bench(_)
+        | Command::Audit
+        | Command::Mix(_)
+        | Command::Nodes(_) => None,
+    }
+}
