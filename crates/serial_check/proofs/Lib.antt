@@ -1,0 +1,8 @@
+mod Drains
+mod EndsTold
+mod Framed
+mod HeldReports
+mod Naming
+mod OrderSteps
+mod Places
+mod Told

@@ -1,0 +1,77 @@
+// The requests of an order, run one after the other.
+ghost use Rattle.std.specs.Prelude.{◌≡◌, map, IfOk, OnOk, None};
+ghost use Rattle.std.specs.BTreeMap as tree;
+ghost use Rattle.std.specs.Map.Iter.{deref};
+ghost use Rattle.std.specs.Ordering.{nat_cmp};
+ghost use Rattle.batch_rules.specs.Serials.{serial_map};
+ghost use Rattle.batch_rules.specs.Touches.{map_after, overwritten};
+ghost use Rattle.batch_rules.specs.Trees.{end_of, set_at};
+ghost use Rattle.proc_lang.specs.Catalogs.{run_of};
+ghost use Rattle.proc_lang.specs.Meaning.{is_done};
+ghost use Rattle.serial_check.specs.Runs.{end_in};
+
+use aria_base::{Changes, Key, Memory, Request};
+use exec_phase::execute;
+use proc_lang::{Catalog, End};
+use std::alloc::Global;
+use std::collections::BTreeMap;
+use tbl_rows::Tables;
+use tbl_snapshot::Snapshot;
+
+/// How requests end, by their numbers.
+pub(crate) type Ends = BTreeMap<u64, End>;
+
+/// Runs these requests in place, one after the other, and tells how each ends.
+pub(crate) fn run_in_order(
+    alloc: Global,
+    catalog: &Catalog,
+    tables: &mut Tables,
+    order: &[&Request],
+) -> Result<Ends, Memory>
+    ensures ends { IfOk result (λ ends. tree.get nat_cmp ends ≡ end_in (run_of catalog.now) tables.old (map deref order.now)) }
+    ensures rows { OnOk result (tables.new ≡ serial_map is_done (run_of catalog.now) tables.old (map deref order.now)) }
+{
+    let mut ends = BTreeMap::new(alloc);
+    for request in order {
+        let end = run_request(alloc, catalog, tables, request)?;
+        ends.insert(request.q, end)?;
+    }
+    Ok(ends)
+}
+
+/// Runs a request in place.
+#[tactic(auto, using(crate::proofs::Framed::framed))]
+fn run_request(
+    alloc: Global,
+    catalog: &Catalog,
+    tables: &mut Tables,
+    request: &Request,
+) -> Result<End, Memory>
+    ensures end { IfOk result (λ end. end ≡ end_of (run_of catalog.now request.now) tables.old) }
+    ensures rows { OnOk result (tables.new ≡ map_after is_done (run_of catalog.now request.now) tables.old) }
+{
+    let outcome = execute(alloc, catalog, request, Snapshot::of(tables))?;
+    install(tables, outcome.writes)?;
+    Ok(outcome.end)
+}
+
+/// Puts and deletes the rows of these changes, which move into the tables.
+fn install(tables: &mut Tables, changes: Changes) -> Result<(), Memory>
+    ensures { OnOk result (tables.new ≡ overwritten tables.old changes) }
+{
+    let mut changes = changes.into_vec();
+    while let Some((key, row)) = changes.pop() {
+        match row {
+            Some(row) => tables.put(key, row)?,
+            None => remove(tables, key),
+        }
+    }
+    Ok(())
+}
+
+/// Deletes the row at the key, if there is one.
+fn remove(tables: &mut Tables, key: Key)
+    ensures { tables.new ≡ set_at tables.old key None }
+{
+    tables.delete(&key);
+}
