@@ -21,7 +21,8 @@ END
 #
 # Lays a benchmark out beside copies of the crates that it uses, in a temporary folder that goes when
 # the script ends, and changes into the benchmark's crate there. FOLDER is where the benchmark lies,
-# HANDLES what it may use of the machine, and LINE its line of crates.txt.
+# HANDLES what it may use of the machine, and LINE its line of crates.txt. Where GATE names a clone that
+# the gate has run in, what it proved there is not proved again.
 lay_out() {
     local folder=$1 handles=$2 line=$3
     shift 3
@@ -45,5 +46,8 @@ lay_out() {
         mkdir -p "$own/$(dirname "$file")"
         cp "$folder/$file" "$own/${file%.txt}"
     done
+    if [ -n "${GATE:-}" ]; then
+        "$top/tools/take_proved.py" "$work" "$GATE"
+    fi
     cd "$own"
 }

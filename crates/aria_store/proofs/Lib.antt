@@ -1,0 +1,7 @@
+pub mod Attached
+pub mod Batches
+pub mod Coursed
+pub mod Founds
+pub mod Lines
+pub mod Payloads
+pub mod Written
