@@ -1,0 +1,5 @@
+mod Bounds
+mod Once
+mod Runs
+mod Tallied
+mod Totals

@@ -1,0 +1,5 @@
+pub mod Benches
+pub mod Summaries
+pub mod Tallies
+pub mod Turns
+pub mod Laws

@@ -1,0 +1,40 @@
+// The database of a workload before its first batch.
+ghost use Rattle.std.specs.Prelude.{◌≡◌, ◌≤◌, IfOk};
+ghost use Rattle.serving.specs.Lives.{IsRunnable, plan_of, state_of};
+ghost use Rattle.workloads.specs.Generators.{IsWithin};
+ghost use Rattle.workloads.specs.Generators as load;
+ghost use Rattle.bench_command.specs.Benches.{head_state};
+
+use aria_base::Memory;
+use batch_engine::Engine;
+use dep_rules::Config;
+use replica_run::Replicas;
+use serving::Live;
+use std::alloc::Global;
+use workloads::Generator;
+
+/// The database of the workload's head, in so many replicas.
+pub(crate) fn begin(
+    alloc: Global,
+    generator: &Generator,
+    config: Config,
+    replicas: u32,
+) -> Result<Live, Memory>
+    requires within { IsWithin generator.now }
+    requires workers { (1 ≤ config.workers) × (config.workers ≤ 64) }
+    requires fallback { config.fallback ≤ 101 }
+    requires engines { (1 ≤ replicas) × (replicas ≤ 8) }
+    ensures plan { IfOk result (λ live. plan_of live ≡ load.plan_of generator.now) }
+    ensures state { IfOk result (λ live. state_of live ≡ head_state generator.now config.rule config.fallback) }
+    ensures runnable { IfOk result IsRunnable }
+{
+    let (catalog, tables) = generator.head(alloc)?;
+    let engine = Engine::begin(catalog, tables, Vec::new(alloc), 0, 0);
+    let replicas = Replicas::begin(alloc, engine, replicas)?;
+    Ok(Live {
+        replicas,
+        config,
+        each: false,
+        checkpoint: 0,
+    })
+}
