@@ -1,0 +1,214 @@
+// Scripts of small workloads, and sinks that fail.
+ghost use Rattle.workloads.specs.Generators.{IsWithin, generator_of};
+
+use aria_base::MemSink;
+use command_words::{Accesses, Amount, Load, Stock, Workload};
+use gen_command::generate;
+use script_course::Stop;
+use std::alloc::Global;
+use std::fmt::Debug;
+use std::process::Abort;
+use std::test::Fail;
+
+/// More bytes than any of the scripts has.
+const ROOM: usize = 1_000_000;
+
+/// One request that reads or changes rows of a hundred keys.
+const SMALLEST: Workload = Workload {
+    kind: Load::Ycsb,
+    amount: Amount {
+        number: 1,
+        batches: 1,
+        size: 1,
+    },
+    accesses: Accesses {
+        keys: 100,
+        ops: 10,
+        reads: 50,
+        updates: 0,
+        hot: 0,
+    },
+    stock: Stock {
+        warehouses: 1,
+        customers: 30,
+        items: 100,
+    },
+};
+
+/// Two batches of two requests that also write rows anew, and prefer one key.
+const MIXED: Workload = Workload {
+    amount: Amount {
+        number: 1,
+        batches: 2,
+        size: 2,
+    },
+    accesses: Accesses {
+        keys: 100,
+        ops: 3,
+        reads: 50,
+        updates: 25,
+        hot: 20,
+    },
+    ..SMALLEST
+};
+
+/// How the script of `MIXED` ends, behind its rows.
+const MIXED_BATCHES: &str = "tx txn [15,0;11,2;75,1] 18
+tx txn [7,0;29,2;78,0] 41
+end 1
+tx txn [33,2;83,0;50,1] 51
+tx txn [66,2;4,0;0,0] 73
+end 2
+";
+
+/// Rows that are given in three pieces.
+const PIECES: Workload = Workload {
+    accesses: Accesses {
+        keys: 2_500,
+        ops: 3,
+        reads: 50,
+        updates: 25,
+        hot: 20,
+    },
+    ..SMALLEST
+};
+
+/// Order entry at its smallest.
+const ORDERS: Workload = Workload {
+    kind: Load::Tpcc,
+    amount: Amount {
+        number: 1,
+        batches: 2,
+        size: 3,
+    },
+    ..SMALLEST
+};
+
+/// Order entry with two warehouses.
+const FAR_ORDERS: Workload = Workload {
+    kind: Load::Tpcc,
+    amount: Amount {
+        number: 7,
+        batches: 3,
+        size: 4,
+    },
+    stock: Stock {
+        warehouses: 2,
+        customers: 31,
+        items: 101,
+    },
+    ..SMALLEST
+};
+
+/// Asserts that what was found in this case is what is wanted.
+fn same<T: PartialEq + Debug>(rt: &impl Abort, case: &impl Debug, found: &T, wanted: &T) {
+    assert_eq!(rt; found, wanted, "at {case:?}");
+}
+
+/// How the command ends, and what it gave to a sink whose call of this number fails.
+fn script(
+    alloc: Global,
+    workload: &Workload,
+    fails: u64,
+) -> Result<(Result<u8, Stop>, MemSink), Fail>
+    requires { IsWithin (generator_of workload.now) }
+{
+    let mut out = MemSink::new(alloc, ROOM, vec![in alloc; fails]?)?;
+    let end = generate(alloc, workload, &mut out);
+    Ok((end, out))
+}
+
+/// What texts are told apart by: how many lines and bytes they have, and their hash FNV-1a of 64 bits.
+fn mark(text: &[u8]) -> (u64, usize, u64) {
+    let mut lines = 0_u64;
+    let mut hash = 0xcbf2_9ce4_8422_2325_u64;
+    for byte in text {
+        if *byte == b'\n' {
+            lines = lines.wrapping_add(1);
+        }
+        hash = (hash ^ u64::from(*byte)).wrapping_mul(0x100_0000_01b3);
+    }
+    (lines, text.len(), hash)
+}
+
+/// Asserts that the script of a workload has so many lines and bytes, and this hash.
+fn has_mark(
+    rt: &impl Abort,
+    alloc: Global,
+    workload: &Workload,
+    wanted: (u64, usize, u64),
+) -> Result<(), Fail>
+    requires { IsWithin (generator_of workload.now) }
+{
+    let (end, out) = script(alloc, workload, 0)?;
+    same(rt, workload, &end, &Ok(0));
+    same(rt, workload, &mark(out.bytes()), &wanted);
+    Ok(())
+}
+
+#[test]
+fn scripts_of_both_kinds(rt: HostRuntime) -> Result<(), Fail> {
+    let alloc = rt.alloc();
+    has_mark(
+        &rt,
+        alloc,
+        &SMALLEST,
+        (103, 3_471, 2_006_264_141_175_198_391),
+    )?;
+    has_mark(&rt, alloc, &MIXED, (107, 3_520, 17_913_140_345_580_213_803))?;
+    has_mark(
+        &rt,
+        alloc,
+        &PIECES,
+        (2_503, 88_939, 4_514_011_131_245_467_650),
+    )?;
+    has_mark(
+        &rt,
+        alloc,
+        &ORDERS,
+        (4_287, 158_538, 6_949_694_008_899_440_142),
+    )?;
+    has_mark(
+        &rt,
+        alloc,
+        &FAR_ORDERS,
+        (8_777, 326_290, 5_630_994_953_710_367_839),
+    )
+}
+
+#[test]
+fn batches_stand_behind_the_rows(rt: HostRuntime) -> Result<(), Fail> {
+    let (_, out) = script(rt.alloc(), &MIXED, 0)?;
+    let head = b"catalog ycsb\nrow ycsb 0 = 0 0 0 0 0 0 0 0 0 0\nrow ycsb 1 = ";
+    same(&rt, &"head", &out.bytes().starts_with(head), &true);
+    same(
+        &rt,
+        &"batches",
+        &out.bytes().ends_with(MIXED_BATCHES.as_bytes()),
+        &true,
+    );
+    Ok(())
+}
+
+/// What the sink was given of `MIXED` where its first call fails, the second one and so on: nothing, the
+/// catalogue's line, the rows, the first batch. The fifth call is never made.
+const CUTS: [(u64, Result<u8, Stop>, usize); 5] = [
+    (1, Err(Stop::NoWrite), 0),
+    (2, Err(Stop::NoWrite), 13),
+    (3, Err(Stop::NoWrite), 3_403),
+    (4, Err(Stop::NoWrite), 3_462),
+    (5, Ok(0), 3_520),
+];
+
+#[test]
+fn sinks_that_fail(rt: HostRuntime) -> Result<(), Fail> {
+    let alloc = rt.alloc();
+    let (_, whole) = script(alloc, &MIXED, 0)?;
+    for (call, wanted, count) in CUTS {
+        let (end, out) = script(alloc, &MIXED, call)?;
+        same(&rt, &call, &end, &wanted);
+        same(&rt, &call, &out.bytes().len(), &count);
+        same(&rt, &call, &whole.bytes().starts_with(out.bytes()), &true);
+    }
+    Ok(())
+}
