@@ -72,7 +72,8 @@ with_drains drain plan ran = if drain then ran_behind ran.answers (all_drained p
 abbrev pub ran_of : Bench → Ran
 ran_of b =
     let g = generator_of b.workload in
-    with_drains b.drain (plan_of g) (batches_ran g b.workload.amount.size b.workload.amount.batches (head_state g b.rule b.fallback) (first_draws g))
+    with_drains b.drain (plan_of g)
+    (batches_ran g b.workload.amount.size b.workload.amount.batches (head_state g b.rule b.fallback) (first_draws g))
 
 -- the settings are within their bounds
 pub record IsInRange (b : Bench) : Type 0 where
