@@ -9,7 +9,7 @@ use Rattle.script_course.specs.Courses.{Course, Out, status_of}
 use Rattle.script_course.specs.Served.{FinishesCut, IsToldOf, ToldWhere}
 use Rattle.script_course.specs.declared.stops.Stop.{Stop}
 use Rattle.script_course.specs.declared.stops.Stop.TheVariants as stop
-use Rattle.aria_top.specs.Statuses.{IsAnswered}
+use Rattle.aria_top.specs.Statuses.{IsAnswered, IsEnded}
 
 if_some : {A : Type 0} (o : Option A) (P Q : A → Type 0) → ((a : A) → P a → Q a) → IfSome o P → IfSome o Q
 if_some None P Q f h = tt
@@ -62,7 +62,7 @@ no_source stop.NoDisk sink disk h = h
 no_source stop.NoRead sink disk h = h
 
 module _ (source sink : Type 0) (status : ℕ) where
-  pub others_cut : (why : Stop) → status ≡ status_of why → IsReadCause why source sink ⊥ → (status ≡ 0) ⊎ (status ≡ 1) ⊎ (status ≡ 3) ⊎ (status ≡ 4) ⊎ (status ≡ 7)
+  pub others_cut : (why : Stop) → status ≡ status_of why → IsReadCause why source sink ⊥ → IsEnded status ⊎ (status ≡ 1) ⊎ (status ≡ 3) ⊎ (status ≡ 4) ⊎ (status ≡ 7)
   others_cut stop.Refused is h = grind (arith, is)
   others_cut stop.NoMemory is h = grind (arith, is)
   others_cut stop.NoWrite is h = grind (arith, is)
@@ -83,12 +83,12 @@ module _ (source sink : Type 0) (status : ℕ) where
   write_cut stop.NoDisk is h e = absurd h
   write_cut stop.NoRead is h e = absurd (omega (arith, is, e))
 
-pub never_done : (why : Stop) (status : ℕ) → status ≡ status_of why → status ≡ 0 → ⊥
-never_done stop.Refused status is e = omega (arith, is, e)
-never_done stop.NoMemory status is e = omega (arith, is, e)
-never_done stop.NoWrite status is e = omega (arith, is, e)
-never_done stop.NoDisk status is e = omega (arith, is, e)
-never_done stop.NoRead status is e = omega (arith, is, e)
+pub never_ended : (why : Stop) (status : ℕ) → status ≡ status_of why → IsEnded status → ⊥
+never_ended stop.Refused status is e = grind (arith, is, e)
+never_ended stop.NoMemory status is e = grind (arith, is, e)
+never_ended stop.NoWrite status is e = grind (arith, is, e)
+never_ended stop.NoDisk status is e = grind (arith, is, e)
+never_ended stop.NoRead status is e = grind (arith, is, e)
 
 pub told_cut : {R : Type 0} (told : List ℕ → Course R) (left rest old new : Option (List ℕ)) (why : Stop) (status : ℕ) → status ≡ status_of why
     → ToldWhere told left rest old new why → status ≡ 3 → IsToldOf told left rest old new

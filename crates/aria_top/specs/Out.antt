@@ -1,11 +1,20 @@
 -- What the program prints, and how it ends.
-use Rattle.std.specs.Prelude.{ℕ, List, Option, Some, None, option_map}
+use Rattle.std.specs.Prelude.{ℕ, List, ◌++◌, Option, Some, None, option_map}
 use Rattle.answer_text.specs.Notices.{refused_text}
 use Rattle.answer_text.specs.declared.notices.Refused.TheVariants.{Usage}
+use Rattle.audit_command.specs.Audits as audit
+use Rattle.audit_command.specs.Findings.{finding_text, status_of}
+use Rattle.bench_command.specs.Benches.{ran_of}
+use Rattle.bench_command.specs.Summaries.{summary_of}
+use Rattle.command_words.specs.declared.settings.Bench.{Bench}
+use Rattle.command_words.specs.declared.settings.Load.{Load}
+use Rattle.command_words.specs.declared.settings.Load.TheVariants as load
 use Rattle.gen_command.specs.Scripts.{script_of}
 use Rattle.run_commands.specs.Outs.{out_of, told_of}
 use Rattle.script_course.specs.Courses.{Out}
 use Rattle.script_course.specs.Served.{IsToldOf}
+use Rattle.tpcc_audit.specs.Conditions.{audited}
+use Rattle.tpcc_audit.specs.declared.findings.Audit.{Audit}
 use Rattle.aria_top.specs.Tasks.{task_in}
 use Rattle.aria_top.specs.declared.tasks.Task.{Task}
 use Rattle.aria_top.specs.declared.tasks.Task.TheVariants as task
@@ -13,10 +22,24 @@ use Rattle.aria_top.specs.declared.tasks.Task.TheVariants as task
 abbrev pub refused_usage : Out
 refused_usage = record { bytes = refused_text Usage; status = 2 }
 
+-- a text with the finding of an audit behind it, which decides the status
+abbrev pub with_finding : List ℕ → Audit → Out
+with_finding text found = record { bytes = text ++ finding_text found; status = status_of found }
+
+-- the summary of a workload; behind that of order entry its audit
+abbrev pub bench_by : Load → Bench → Out
+bench_by load.Ycsb settings = record { bytes = summary_of settings; status = 0 }
+bench_by load.Tpcc settings = with_finding (summary_of settings) (audited (ran_of settings).state.rows)
+
+abbrev pub bench_out : Bench → Out
+bench_out settings = bench_by settings.workload.kind settings
+
 -- what a task prints on an input, where the source tells its bytes; what reads nothing prints without it
 abbrev pub out_of_task : Task → Option (List ℕ) → Option Out
 out_of_task (task.Once settings) left = option_map (out_of settings) left
 out_of_task (task.Gen settings) left = Some (record { bytes = script_of settings; status = 0 })
+out_of_task (task.Bench settings) left = Some (bench_out settings)
+out_of_task task.Audit left = option_map audit.out_of left
 
 abbrev pub out_by : Option Task → Option (List ℕ) → Option Out
 out_by None left = Some refused_usage
@@ -28,4 +51,5 @@ out_for words left = out_by (task_in words) left
 -- what was written is all that the bytes that were taken tell, and no line of them was refused
 abbrev pub IsToldFor : Option Task → Option (List ℕ) → Option (List ℕ) → Option (List ℕ) → Option (List ℕ) → Type 0
 IsToldFor (Some (task.Once settings)) left rest old new = IsToldOf (told_of settings) left rest old new
+IsToldFor (Some task.Audit) left rest old new = IsToldOf audit.told_of left rest old new
 IsToldFor other left rest old new = ⊥

@@ -1,7 +1,11 @@
 -- What a status says.
 use Rattle.std.specs.Prelude.{◌≡◌, ℕ, ◌⊎◌}
-use Rattle.aria_top.specs.declared.statuses.TheConstants.{DONE, REFUSED, USAGE}
+use Rattle.aria_top.specs.declared.statuses.TheConstants.{DONE, FAILS, REFUSED, USAGE}
+
+-- all that was asked for was done
+abbrev pub IsEnded : ℕ → Type 0
+IsEnded status = (status ≡ DONE) ⊎ (status ≡ FAILS)
 
 -- the whole output was written
 abbrev pub IsAnswered : ℕ → Type 0
-IsAnswered status = (status ≡ DONE) ⊎ (status ≡ REFUSED) ⊎ (status ≡ USAGE)
+IsAnswered status = IsEnded status ⊎ (status ≡ REFUSED) ⊎ (status ≡ USAGE)

@@ -5,6 +5,7 @@ use Rattle.command_words.specs.Settings.{command_of}
 use Rattle.command_words.specs.Tables.{commands}
 use Rattle.command_words.specs.declared.settings.Command.{Command}
 use Rattle.command_words.specs.declared.settings.Command.TheVariants as command
+use Rattle.bench_command.specs.Benches as bench
 use Rattle.run_commands.specs.Outs as once
 use Rattle.workloads.specs.Laws.{IsAsked}
 use Rattle.aria_top.specs.declared.tasks.Task.{Task}
@@ -14,6 +15,8 @@ use Rattle.aria_top.specs.declared.tasks.Task.TheVariants as task
 abbrev pub task_by : Command → Option Task
 task_by (command.Once settings) = Some (task.Once settings)
 task_by (command.Gen settings) = Some (task.Gen settings)
+task_by (command.Bench settings) = Some (task.Bench settings)
+task_by command.Audit = Some task.Audit
 task_by other = None
 
 -- the command that words are, where they are one
@@ -27,8 +30,11 @@ task_in words = option_and_then task_by (command_in words)
 abbrev pub IsInRange : Task → Type 0
 IsInRange (task.Once settings) = once.IsInRange settings
 IsInRange (task.Gen settings) = IsAsked settings
+IsInRange (task.Bench settings) = bench.IsInRange settings
+IsInRange task.Audit = Unit {0}
 
 -- whether the input is read for it
 abbrev pub reads : Option Task → Bool
 reads (Some (task.Once settings)) = true
+reads (Some task.Audit) = true
 reads other = false

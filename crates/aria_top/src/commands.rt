@@ -4,21 +4,26 @@ ghost use Rattle.std.specs.Io.KnownBytes.{Appends, IsAtEnd};
 ghost use Rattle.aria_base.specs.Faults.{Rose};
 ghost use Rattle.aria_base.specs.Streams.{AppendsFront};
 ghost use Rattle.script_course.specs.Served.{IsToldOf};
-ghost use Rattle.aria_top.specs.Statuses.{IsAnswered};
+ghost use Rattle.aria_top.specs.Out.{bench_out};
+ghost use Rattle.aria_top.specs.Statuses.{IsAnswered, IsEnded};
+ghost use Rattle.audit_command.specs.Audits as audits;
+ghost use Rattle.bench_command.specs.Benches as benches;
 ghost use Rattle.gen_command.specs.Scripts.{script_of};
 ghost use Rattle.run_commands.specs.Outs.{IsInRange, out_of, told_of};
 ghost use Rattle.workloads.specs.Laws.{IsAsked};
 
-use crate::statuses::{DONE, NO_MEMORY, READ_FAULT, REFUSED, WRITE_FAULT};
-use aria_base::{Pace, Sink, Source};
-use command_words::{Once, Workload};
+use crate::statuses::{DONE, FAILS, NO_MEMORY, READ_FAULT, REFUSED, WRITE_FAULT};
+use crate::summaries::print_bench;
+use aria_base::{Memory, Pace, Sink, Source};
+use audit_command::audit;
+use command_words::{Bench, Once, Workload};
 use gen_command::generate;
 use run_commands::once;
 use std::alloc::Global;
 use std::thread::Threads;
 
 /// Runs `once`, and answers its status.
-#[tactic(auto, using(crate::proofs::Stopped::answered_end, crate::proofs::Stopped::front_end, crate::proofs::Stopped::front_cut, crate::proofs::Stopped::answered_cut, crate::proofs::Stopped::others_cut, crate::proofs::Stopped::read_cut, crate::proofs::Stopped::write_cut, crate::proofs::Stopped::never_done, crate::proofs::Stopped::told_cut))]
+#[tactic(auto, using(crate::proofs::Stopped::answered_end, crate::proofs::Stopped::front_end, crate::proofs::Stopped::front_cut, crate::proofs::Stopped::answered_cut, crate::proofs::Stopped::others_cut, crate::proofs::Stopped::read_cut, crate::proofs::Stopped::write_cut, crate::proofs::Stopped::never_ended, crate::proofs::Stopped::told_cut))]
 pub fn run_once<S: Source, K: Sink, P: Pace + Sync, R: Threads + Sync>(
     rt: &R,
     alloc: Global,
@@ -31,10 +36,10 @@ pub fn run_once<S: Source, K: Sink, P: Pace + Sync, R: Threads + Sync>(
     ensures answered { IsAnswered result → IfSome (S.left input.old)
         (λ text. (result ≡ (out_of settings.now text).status) × Appends (K.given out.old) (K.given out.new) (out_of settings.now text).bytes) }
     ensures front { IfSome (S.left input.old) (λ text. AppendsFront (K.given out.old) (K.given out.new) (out_of settings.now text).bytes) }
-    ensures others { (result ≡ DONE) ⊎ (result ≡ REFUSED) ⊎ (result ≡ READ_FAULT) ⊎ (result ≡ WRITE_FAULT) ⊎ (result ≡ NO_MEMORY) }
+    ensures others { IsEnded result ⊎ (result ≡ REFUSED) ⊎ (result ≡ READ_FAULT) ⊎ (result ≡ WRITE_FAULT) ⊎ (result ≡ NO_MEMORY) }
     ensures read { result ≡ READ_FAULT → Rose (S.faults input.old) (S.faults input.new) }
     ensures write { result ≡ WRITE_FAULT → Rose (K.faults out.old) (K.faults out.new) }
-    ensures end { result ≡ DONE → IsAtEnd (S.left input.new) }
+    ensures end { IsEnded result → IsAtEnd (S.left input.new) }
     ensures told { result ≡ READ_FAULT → IsToldOf (told_of settings.now) (S.left input.old) (S.left input.new) (K.given out.old) (K.given out.new) }
 {
     match once(rt, alloc, settings, input, out, pace) {
@@ -52,6 +57,47 @@ pub fn run_gen<K: Sink>(alloc: Global, settings: &Workload, out: &mut K) -> u8
     ensures write { result ≡ WRITE_FAULT → Rose (K.faults out.old) (K.faults out.new) }
 {
     match generate(alloc, settings, out) {
+        Ok(status) => status,
+        Err(stop) => stop.status(),
+    }
+}
+
+/// Runs `bench`, and answers its status.
+pub fn run_bench<K: Sink, P: Pace + Sync, R: Threads + Sync>(
+    rt: &R,
+    alloc: Global,
+    settings: &Bench,
+    out: &mut K,
+    pace: &P,
+) -> u8
+    requires { benches.IsInRange settings.now }
+    ensures answered { IsAnswered result → (result ≡ (bench_out settings.now).status) × Appends (K.given out.old) (K.given out.new) (bench_out settings.now).bytes }
+    ensures front { AppendsFront (K.given out.old) (K.given out.new) (bench_out settings.now).bytes }
+    ensures others { IsEnded result ⊎ (result ≡ WRITE_FAULT) ⊎ (result ≡ NO_MEMORY) }
+    ensures write { result ≡ WRITE_FAULT → Rose (K.faults out.old) (K.faults out.new) }
+{
+    match print_bench(rt, alloc, settings, pace) {
+        Ok((text, status)) => match out.give(&text) {
+            Ok(()) => return status,
+            Err(_) => return WRITE_FAULT,
+        },
+        Err(Memory) => return NO_MEMORY,
+    }
+}
+
+/// Runs `audit`, and answers its status.
+#[tactic(auto, using(crate::proofs::Stopped::answered_end, crate::proofs::Stopped::front_end, crate::proofs::Stopped::front_cut, crate::proofs::Stopped::answered_cut, crate::proofs::Stopped::others_cut, crate::proofs::Stopped::read_cut, crate::proofs::Stopped::write_cut, crate::proofs::Stopped::never_ended, crate::proofs::Stopped::told_cut))]
+pub fn run_audit<S: Source, K: Sink>(alloc: Global, input: &mut S, out: &mut K) -> u8
+    ensures answered { IsAnswered result → IfSome (S.left input.old)
+        (λ text. (result ≡ (audits.out_of text).status) × Appends (K.given out.old) (K.given out.new) (audits.out_of text).bytes) }
+    ensures front { IfSome (S.left input.old) (λ text. AppendsFront (K.given out.old) (K.given out.new) (audits.out_of text).bytes) }
+    ensures others { IsEnded result ⊎ (result ≡ REFUSED) ⊎ (result ≡ READ_FAULT) ⊎ (result ≡ WRITE_FAULT) ⊎ (result ≡ NO_MEMORY) }
+    ensures read { result ≡ READ_FAULT → Rose (S.faults input.old) (S.faults input.new) }
+    ensures write { result ≡ WRITE_FAULT → Rose (K.faults out.old) (K.faults out.new) }
+    ensures end { IsEnded result → IsAtEnd (S.left input.new) }
+    ensures told { result ≡ READ_FAULT → IsToldOf audits.told_of (S.left input.old) (S.left input.new) (K.given out.old) (K.given out.new) }
+{
+    match audit(alloc, input, out) {
         Ok(status) => status,
         Err(stop) => stop.status(),
     }

@@ -5,8 +5,10 @@
 //! where the source or the sink did, or where there was no memory.
 //!
 //! ```text
-//! words ──> tasks (command_words) ──> tops (aria) ──> commands ──> run_commands (once)
-//!                                                             └──> gen_command (gen)
+//! words ──> tasks (command_words) ──> tops (aria) ──> commands ─┬> run_commands (once)
+//!                                                               ├> gen_command (gen)
+//!                                                               ├> audit_command (audit)
+//!                                                               └> summaries ──> bench_command (bench)
 //! ```
 //!
 //! In `specs/`: `Tasks` says what words ask for, `Out` what they print on an input, `Statuses` what a
@@ -15,9 +17,10 @@
 
 mod commands;
 mod statuses;
+mod summaries;
 mod tasks;
 mod tops;
 
 pub use serving::{Given, Live, serve_batch};
-pub use statuses::{DISK_FAULT, DONE, NO_MEMORY, READ_FAULT, REFUSED, USAGE, WRITE_FAULT};
+pub use statuses::{DISK_FAULT, DONE, FAILS, NO_MEMORY, READ_FAULT, REFUSED, USAGE, WRITE_FAULT};
 pub use tops::aria;

@@ -20,3 +20,6 @@ pub const DISK_FAULT: u8 = 5;
 
 /// There was no memory.
 pub const NO_MEMORY: u8 = 7;
+
+/// All was done, and an audit does not hold.
+pub const FAILS: u8 = 8;

@@ -4,7 +4,7 @@ ghost use Rattle.aria_top.specs.Tasks.{task_by, task_in, IsInRange};
 ghost use Rattle.workloads.specs.Laws.{WordsAreWithin};
 
 use aria_base::Memory;
-use command_words::{Command, Once, Workload, commands, read_settings};
+use command_words::{Bench, Command, Once, Workload, commands, read_settings};
 use std::alloc::Global;
 use workloads::words_are_within;
 
@@ -13,6 +13,8 @@ use workloads::words_are_within;
 pub enum Task {
     Once(Once),
     Gen(Workload),
+    Bench(Bench),
+    Audit,
 }
 
 /// What the words ask for, where they are the line of a command that the program has. Its settings are
@@ -35,12 +37,12 @@ fn task_by(command: Command) -> Option<Task>
     match command {
         Command::Once(settings) => Some(Task::Once(settings)),
         Command::Gen(settings) => Some(Task::Gen(settings)),
+        Command::Bench(settings) => Some(Task::Bench(settings)),
+        Command::Audit => Some(Task::Audit),
         Command::Init(_)
         | Command::Run(_)
         | Command::Replay(_)
         | Command::Check
-        | Command::Bench(_)
-        | Command::Audit
         | Command::Mix(_)
         | Command::Nodes(_) => None,
     }

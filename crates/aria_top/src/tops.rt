@@ -5,14 +5,14 @@ ghost use Rattle.aria_base.specs.Faults.{Rose};
 ghost use Rattle.aria_base.specs.Streams.{AppendsFront};
 ghost use Rattle.command_words.specs.declared.settings.Once.{Once};
 ghost use Rattle.aria_top.specs.Out.{out_for, out_of_task, IsToldFor};
-ghost use Rattle.aria_top.specs.Statuses.{IsAnswered};
+ghost use Rattle.aria_top.specs.Statuses.{IsAnswered, IsEnded};
 ghost use Rattle.aria_top.specs.Tasks.{reads, task_in, IsInRange};
 ghost use Rattle.answer_text.specs.Notices.{refused_text};
 ghost use Rattle.answer_text.specs.declared.notices.Refused.TheVariants.{Usage};
 ghost use Rattle.run_commands.specs.Outs.{AreOne, IsAlike};
 ghost use Rattle.run_commands.specs.Serial.{EachIsSerial};
 
-use crate::commands::{run_gen, run_once};
+use crate::commands::{run_audit, run_bench, run_gen, run_once};
 use crate::statuses::{DONE, NO_MEMORY, READ_FAULT, USAGE, WRITE_FAULT};
 use crate::tasks::{Task, read_task};
 use answer_text::{Refused, refused_line};
@@ -35,7 +35,7 @@ pub fn aria<S: Source, K: Sink, D: Disk, P: Pace + Sync, R: Threads + Sync>(
     disk: &mut D,
     pace: &P,
 ) -> u8
-    // Where the answer is 0, 1 or 2, it is the defined one, and all of the output is written; else a
+    // Where the answer is 0, 1, 2 or 8, it is the defined one, and all of the output is written; else a
     // front of it.
     ensures answered { IsAnswered result → IfSome (out_for (map string_bytes words.now) (S.left input.old))
         (λ o. (result ≡ o.status) × Appends (K.given out.old) (K.given out.new) o.bytes) }
@@ -49,7 +49,7 @@ pub fn aria<S: Source, K: Sink, D: Disk, P: Pace + Sync, R: Threads + Sync>(
 
     // The input was read to its end; or the source failed, and what was written is all that the bytes
     // taken so far tell, of which no line was refused; or it is not read, and was not touched.
-    ensures end { result ≡ DONE → reads (task_in (map string_bytes words.now)) ≡ true → IsAtEnd (S.left input.new) }
+    ensures end { IsEnded result → reads (task_in (map string_bytes words.now)) ≡ true → IsAtEnd (S.left input.new) }
     ensures told { result ≡ READ_FAULT → IsToldFor (task_in (map string_bytes words.now)) (S.left input.old) (S.left input.new) (K.given out.old) (K.given out.new) }
     ensures untouched { reads (task_in (map string_bytes words.now)) ≡ false → input.new ≡ input.old }
     ensures usage { result ≡ USAGE → task_in (map string_bytes words.now) ≡ None }
@@ -87,13 +87,15 @@ fn run_task<S: Source, K: Sink, P: Pace + Sync, R: Threads + Sync>(
     ensures usage { result ≡ USAGE → ⊥ }
     ensures read { result ≡ READ_FAULT → Rose (S.faults input.old) (S.faults input.new) }
     ensures write { result ≡ WRITE_FAULT → Rose (K.faults out.old) (K.faults out.new) }
-    ensures end { result ≡ DONE → reads (Some task.now) ≡ true → IsAtEnd (S.left input.new) }
+    ensures end { IsEnded result → reads (Some task.now) ≡ true → IsAtEnd (S.left input.new) }
     ensures told { result ≡ READ_FAULT → IsToldFor (Some task.now) (S.left input.old) (S.left input.new) (K.given out.old) (K.given out.new) }
     ensures untouched { reads (Some task.now) ≡ false → input.new ≡ input.old }
 {
     match task {
         Task::Once(settings) => return run_once(rt, alloc, settings, input, out, pace),
         Task::Gen(settings) => return run_gen(alloc, settings, out),
+        Task::Bench(settings) => return run_bench(rt, alloc, settings, out, pace),
+        Task::Audit => return run_audit(alloc, input, out),
     }
 }
 

@@ -2,7 +2,8 @@
 //!
 //! `answers`, `refusals` and `crowds` have scripts with what the program prints and how it ends, worked out
 //! by hand; `faults` has a source and a sink that fail at each of their calls in turn, and `paces` workers
-//! that meet and steps that are counted; `generated` has scripts of `gen`. `runs` runs a case over bytes in memory.
+//! that meet and steps that are counted; `generated` has scripts of `gen`, and `orders`
+//! audits and summaries of `bench`. `runs` runs a case over bytes in memory.
 //!
 //! ```text
 //! once --rule plain      tx copy 1 2 / tx copy 2 3 / end 1      batch 1 / 1 ok 10 / 2 wait raw 1 / ..
@@ -17,6 +18,8 @@ mod crowds;
 mod faults;
 #[cfg(test)]
 mod generated;
+#[cfg(test)]
+mod orders;
 #[cfg(test)]
 mod paces;
 #[cfg(test)]
