@@ -11,4 +11,5 @@ IsCutBy cut.NoWrite sink = sink
 
 -- to give the rest from here is to give the whole from there
 abbrev pub LeadsTo : List ℕ → Option (List ℕ) → List ℕ → Option (List ℕ) → Type 0
-LeadsTo rest now whole old = (new : Option (List ℕ)) (result : Result (Unit {0}) Cut) → Gives now new result rest → Gives old new result whole
+LeadsTo rest now whole old = (new : Option (List ℕ)) (result : Result (Unit {0}) Cut)
+    → Gives now new result rest → Gives old new result whole
