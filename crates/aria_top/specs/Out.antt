@@ -13,6 +13,7 @@ use Rattle.gen_command.specs.Scripts.{script_of}
 use Rattle.run_commands.specs.Outs.{out_of, told_of}
 use Rattle.script_course.specs.Courses.{Out}
 use Rattle.script_course.specs.Served.{IsToldOf}
+use Rattle.script_course.specs.declared.statuses.TheConstants.{DONE, USAGE}
 use Rattle.tpcc_audit.specs.Conditions.{audited}
 use Rattle.tpcc_audit.specs.declared.findings.Audit.{Audit}
 use Rattle.aria_top.specs.Tasks.{task_in}
@@ -20,7 +21,7 @@ use Rattle.aria_top.specs.declared.tasks.Task.{Task}
 use Rattle.aria_top.specs.declared.tasks.Task.TheVariants as task
 
 abbrev pub refused_usage : Out
-refused_usage = record { bytes = refused_text Usage; status = 2 }
+refused_usage = record { bytes = refused_text Usage; status = USAGE }
 
 -- a text with the finding of an audit behind it, which decides the status
 abbrev pub with_finding : List ℕ → Audit → Out
@@ -28,7 +29,7 @@ with_finding text found = record { bytes = text ++ finding_text found; status = 
 
 -- the summary of a workload; behind that of order entry its audit
 abbrev pub bench_by : Load → Bench → Out
-bench_by load.Ycsb settings = record { bytes = summary_of settings; status = 0 }
+bench_by load.Ycsb settings = record { bytes = summary_of settings; status = DONE }
 bench_by load.Tpcc settings = with_finding (summary_of settings) (audited (ran_of settings).state.rows)
 
 abbrev pub bench_out : Bench → Out
@@ -37,7 +38,7 @@ bench_out settings = bench_by settings.workload.kind settings
 -- what a task prints on an input, where the source tells its bytes; what reads nothing prints without it
 abbrev pub out_of_task : Task → Option (List ℕ) → Option Out
 out_of_task (task.Once settings) left = option_map (out_of settings) left
-out_of_task (task.Gen settings) left = Some (record { bytes = script_of settings; status = 0 })
+out_of_task (task.Gen settings) left = Some (record { bytes = script_of settings; status = DONE })
 out_of_task (task.Bench settings) left = Some (bench_out settings)
 out_of_task task.Audit left = option_map audit.out_of left
 

@@ -1,6 +1,6 @@
 -- What a status says.
 use Rattle.std.specs.Prelude.{◌≡◌, ℕ, ◌⊎◌}
-use Rattle.aria_top.specs.declared.statuses.TheConstants.{DONE, FAILS, REFUSED, USAGE}
+use Rattle.script_course.specs.declared.statuses.TheConstants.{DONE, FAILS, REFUSED, USAGE}
 
 -- all that was asked for was done
 abbrev pub IsEnded : ℕ → Type 0

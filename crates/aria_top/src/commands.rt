@@ -12,13 +12,13 @@ ghost use Rattle.gen_command.specs.Scripts.{script_of};
 ghost use Rattle.run_commands.specs.Outs.{IsInRange, out_of, told_of};
 ghost use Rattle.workloads.specs.Laws.{IsAsked};
 
-use crate::statuses::{DONE, FAILS, NO_MEMORY, READ_FAULT, REFUSED, WRITE_FAULT};
 use crate::summaries::print_bench;
 use aria_base::{Memory, Pace, Sink, Source};
 use audit_command::audit;
 use command_words::{Bench, Once, Workload};
 use gen_command::generate;
 use run_commands::once;
+use script_course::{DONE, NO_MEMORY, READ_FAULT, REFUSED, WRITE_FAULT};
 use std::alloc::Global;
 use std::thread::Threads;
 

@@ -16,11 +16,12 @@
 #![tactic(auto)]
 
 mod commands;
-mod statuses;
 mod summaries;
 mod tasks;
 mod tops;
 
+pub use script_course::{
+    DISK_FAULT, DONE, FAILS, NO_MEMORY, READ_FAULT, REFUSED, USAGE, WRITE_FAULT,
+};
 pub use serving::{Given, Live, serve_batch};
-pub use statuses::{DISK_FAULT, DONE, FAILS, NO_MEMORY, READ_FAULT, REFUSED, USAGE, WRITE_FAULT};
 pub use tops::aria;

@@ -5,11 +5,11 @@ ghost use Rattle.aria_top.specs.Statuses.{IsEnded};
 ghost use Rattle.bench_command.specs.Benches.{IsInRange};
 ghost use Rattle.tpcc_audit.specs.Conditions.{audited};
 
-use crate::statuses::DONE;
 use aria_base::{Memory, Pace};
 use audit_command::{print_finding, status_of};
 use bench_command::measure;
 use command_words::{Bench, Load};
+use script_course::DONE;
 use std::alloc::Global;
 use std::thread::Threads;
 use tbl_rows::Tables;

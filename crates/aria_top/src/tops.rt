@@ -13,12 +13,12 @@ ghost use Rattle.run_commands.specs.Outs.{AreOne, IsAlike};
 ghost use Rattle.run_commands.specs.Serial.{EachIsSerial};
 
 use crate::commands::{run_audit, run_bench, run_gen, run_once};
-use crate::statuses::{DONE, NO_MEMORY, READ_FAULT, USAGE, WRITE_FAULT};
 use crate::tasks::{Task, read_task};
 use answer_text::{Refused, refused_line};
 use aria_base::{Memory, Pace, Sink, Source};
 use disk_model::Disk;
 use run_commands::{each_is_serial, one_output};
+use script_course::{DONE, NO_MEMORY, READ_FAULT, USAGE, WRITE_FAULT};
 use std::alloc::Global;
 use std::thread::Threads;
 

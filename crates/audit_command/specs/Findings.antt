@@ -3,7 +3,7 @@ use Rattle.std.specs.Prelude.{ℕ, ℤ, List, ◌++◌, codes, decimal}
 use Rattle.std.specs.Fmt.{signed_decimal}
 use Rattle.tpcc_audit.specs.declared.findings.Audit.{Audit}
 use Rattle.tpcc_audit.specs.declared.findings.Audit.TheVariants.{Holds, Fails}
-use Rattle.audit_command.specs.declared.findings.TheConstants as status
+use Rattle.script_course.specs.declared.statuses.TheConstants as status
 
 -- the end of a line: the warehouse and the district
 abbrev pub district_text : ℤ → ℤ → List ℕ
@@ -22,5 +22,5 @@ finding_text (Fails condition w d wanted found) =
     fails_text condition w d ++ amount_text (codes "wanted ") wanted ++ amount_text (codes "found ") found
 
 abbrev pub status_of : Audit → ℕ
-status_of Holds = status.HOLDS
+status_of Holds = status.DONE
 status_of (Fails condition w d wanted found) = status.FAILS

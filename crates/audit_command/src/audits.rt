@@ -7,7 +7,7 @@ ghost use Rattle.script_course.specs.declared.stops.Stop.TheVariants as stop;
 ghost use Rattle.audit_command.specs.Audits as audits;
 ghost use Rattle.audit_command.specs.Audits.{Moves};
 ghost use Rattle.tpcc_audit.specs.Conditions.{audited};
-ghost use Rattle.audit_command.specs.declared.findings.TheConstants as status;
+ghost use Rattle.script_course.specs.declared.statuses.TheConstants as status;
 
 use crate::findings::{print_finding, status_of};
 use aria_base::{Memory, Sink};
@@ -79,7 +79,7 @@ impl Auditing {
     pub(crate) fn end<K: Sink>(self, alloc: Global, out: &mut K) -> Result<u8, Stop>
         ensures finishes { Finishes (audits.on_end self) (K.given out.old) (K.given out.new) result }
         ensures read { result ≢ Err stop.NoRead }
-        ensures status { IfOk result (λ ending. (ending ≡ status.HOLDS) ⊎ (ending ≡ status.FAILS)) }
+        ensures status { IfOk result (λ ending. (ending ≡ status.DONE) ⊎ (ending ≡ status.FAILS)) }
         ensures sink { K.faults out.old ≤ K.faults out.new }
         ensures cause { IfErr result (λ stop. IsCause stop (Rose (K.faults out.old) (K.faults out.new)) ⊥) }
     {
@@ -96,7 +96,7 @@ impl Auditing {
 fn tell_finding<K: Sink>(alloc: Global, tables: &Tables, out: &mut K) -> Result<u8, Stop>
     ensures finishes { Finishes (audits.finding_out (audited tables.now)) (K.given out.old) (K.given out.new) result }
     ensures read { result ≢ Err stop.NoRead }
-    ensures status { IfOk result (λ ending. (ending ≡ status.HOLDS) ⊎ (ending ≡ status.FAILS)) }
+    ensures status { IfOk result (λ ending. (ending ≡ status.DONE) ⊎ (ending ≡ status.FAILS)) }
     ensures sink { K.faults out.old ≤ K.faults out.new }
     ensures cause { IfErr result (λ stop. IsCause stop (Rose (K.faults out.old) (K.faults out.new)) ⊥) }
 {
@@ -110,7 +110,7 @@ fn tell_finding<K: Sink>(alloc: Global, tables: &Tables, out: &mut K) -> Result<
 fn give_finding<K: Sink>(alloc: Global, found: &Audit, out: &mut K) -> Result<u8, Stop>
     ensures finishes { Finishes (audits.finding_out found.now) (K.given out.old) (K.given out.new) result }
     ensures read { result ≢ Err stop.NoRead }
-    ensures status { IfOk result (λ ending. (ending ≡ status.HOLDS) ⊎ (ending ≡ status.FAILS)) }
+    ensures status { IfOk result (λ ending. (ending ≡ status.DONE) ⊎ (ending ≡ status.FAILS)) }
     ensures sink { K.faults out.old ≤ K.faults out.new }
     ensures cause { IfErr result (λ stop. IsCause stop (Rose (K.faults out.old) (K.faults out.new)) ⊥) }
 {

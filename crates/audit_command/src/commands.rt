@@ -5,7 +5,7 @@ ghost use Rattle.aria_base.specs.Faults.{Rose};
 ghost use Rattle.script_course.specs.Causes.{IsReadCause};
 ghost use Rattle.script_course.specs.Served.{Completes};
 ghost use Rattle.audit_command.specs.Audits.{out_of, told_of};
-ghost use Rattle.audit_command.specs.declared.findings.TheConstants as status;
+ghost use Rattle.script_course.specs.declared.statuses.TheConstants as status;
 
 use crate::audits::Auditing;
 use aria_base::{Sink, Source};
@@ -21,7 +21,7 @@ pub fn audit<S: Source, K: Sink>(alloc: Global, input: &mut S, out: &mut K) -> R
     ensures completes { Completes told_of out_of (S.left input.old) (S.left input.new) (K.given out.old) (K.given out.new) result }
 
     // Where nothing was in the way, the answer is that of a finding, and the input was read to its end.
-    ensures status { IfOk result (λ ending. (ending ≡ status.HOLDS) ⊎ (ending ≡ status.FAILS)) }
+    ensures status { IfOk result (λ ending. (ending ≡ status.DONE) ⊎ (ending ≡ status.FAILS)) }
     ensures end { IfOk result (λ _. IsAtEnd (S.left input.new)) }
 
     // Each stop for a fault has its cause.

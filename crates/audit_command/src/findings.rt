@@ -3,23 +3,18 @@ ghost use Rattle.std.specs.Prelude.{◌≡◌, ◌⊎◌, ◌++◌, codes, IfOk,
 ghost use Rattle.audit_command.specs.Findings.{amount_text, district_text, fails_text, finding_text, status_of};
 
 use aria_base::Memory;
+use script_course::{DONE, FAILS};
 use script_text::append_number;
 use std::alloc::Global;
 use tpcc_audit::Audit;
 
-/// The status where the audit holds.
-pub const HOLDS: u8 = 0;
-
-/// The status where it does not.
-pub const FAILS: u8 = 8;
-
 /// The status of a finding.
 pub fn status_of(found: &Audit) -> u8
     ensures status { result ≡ status_of found.now }
-    ensures one { (result ≡ HOLDS) ⊎ (result ≡ FAILS) }
+    ensures one { (result ≡ DONE) ⊎ (result ≡ FAILS) }
 {
     match found {
-        Audit::Holds => HOLDS,
+        Audit::Holds => DONE,
         Audit::Fails { .. } => FAILS,
     }
 }

@@ -16,4 +16,4 @@ mod commands;
 mod findings;
 
 pub use commands::audit;
-pub use findings::{FAILS, HOLDS, print_finding, status_of};
+pub use findings::{print_finding, status_of};

@@ -18,7 +18,7 @@ use crate::turns::Turn;
 use aria_base::{Memory, Pace, Sink};
 use command_words::Bench;
 use dep_rules::Config;
-use script_course::{Stop, end_with};
+use script_course::{DONE, Stop, end_with};
 use serving::Live;
 use std::alloc::Global;
 use std::thread::Threads;
@@ -35,14 +35,14 @@ pub fn give_summary<K: Sink, P: Pace + Sync, R: Threads + Sync>(
     pace: &P,
 ) -> Result<u8, Stop>
     requires { IsInRange settings.now }
-    ensures finishes { Finishes (record { bytes = summary_of settings.now; status = 0 }) (K.given out.old) (K.given out.new) result }
+    ensures finishes { Finishes (record { bytes = summary_of settings.now; status = DONE }) (K.given out.old) (K.given out.new) result }
     ensures read { result ≢ Err stop.NoRead }
-    ensures zero { IfOk result (λ status. status ≡ 0) }
+    ensures zero { IfOk result (λ status. status ≡ DONE) }
     ensures sink { K.faults out.old ≤ K.faults out.new }
     ensures cause { IfErr result (λ stop. IsCause stop (Rose (K.faults out.old) (K.faults out.new)) ⊥) }
 {
     match measure(rt, alloc, settings, pace) {
-        Ok((text, _live)) => end_with(0, &text, out),
+        Ok((text, _live)) => end_with(DONE, &text, out),
         Err(Memory) => Err(Stop::NoMemory),
     }
 }

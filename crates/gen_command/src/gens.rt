@@ -11,7 +11,7 @@ use crate::cuts::Cut;
 use crate::scripts::give_script;
 use aria_base::Sink;
 use command_words::Workload;
-use script_course::Stop;
+use script_course::{DONE, Stop};
 use std::alloc::Global;
 use workloads::Generator;
 
@@ -19,15 +19,15 @@ use workloads::Generator;
 /// sink fails, a front of the script was given, and the sink is named only where its count of faults rose.
 pub fn generate<K: Sink>(alloc: Global, settings: &Workload, out: &mut K) -> Result<u8, Stop>
     requires { IsWithin (generator_of settings.now) }
-    ensures finishes { Finishes (record { bytes = script_of settings.now; status = 0 }) (K.given out.old) (K.given out.new) result }
+    ensures finishes { Finishes (record { bytes = script_of settings.now; status = DONE }) (K.given out.old) (K.given out.new) result }
     ensures read { result ≢ Err stop.NoRead }
-    ensures zero { IfOk result (λ status. status ≡ 0) }
+    ensures zero { IfOk result (λ status. status ≡ DONE) }
     ensures sink { K.faults out.old ≤ K.faults out.new }
     ensures cause { IfErr result (λ stop. IsCause stop (Rose (K.faults out.old) (K.faults out.new)) ⊥) }
 {
     let generator = Generator::of(settings);
     match give_script(alloc, &generator, settings.amount, out) {
-        Ok(()) => Ok(0),
+        Ok(()) => Ok(DONE),
         Err(Cut::NoMemory) => Err(Stop::NoMemory),
         Err(Cut::NoWrite) => Err(Stop::NoWrite),
     }

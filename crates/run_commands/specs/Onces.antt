@@ -10,6 +10,7 @@ use Rattle.batch_core.specs.Steps.{State, Handed, step}
 use Rattle.batch_rules.specs.declared.verdicts.Rule.{Rule}
 use Rattle.proc_lang.specs.Catalogs.{Plan, run_of}
 use Rattle.script_course.specs.Courses.{Course, Goes, Stops, Out, ended, status_of}
+use Rattle.script_course.specs.declared.statuses.TheConstants.{DONE}
 use Rattle.script_course.specs.declared.stops.Stop.TheVariants as stop
 use Rattle.script_places.specs.Places.{Asked, asked, closing}
 use Rattle.script_places.specs.declared.deeds.Deed.{Deed}
@@ -78,7 +79,7 @@ on_line d line = done_by d (asked d.place (counts_of d.state) line)
 
 -- one listing behind all, where not each answer had one
 abbrev pub listed : Plan → Bool → State → Out
-listed plan each state = record { bytes = (if each then [] else listing plan state); status = 0 }
+listed plan each state = record { bytes = (if each then [] else listing plan state); status = DONE }
 
 -- what waits is drained where that is asked for; a batch that is refused has the number of the line behind the last
 abbrev pub drained : Bool → Plan → Bool → ℕ → State → Out

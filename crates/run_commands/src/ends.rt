@@ -12,7 +12,7 @@ use crate::bases::Base;
 use crate::scripts::Script;
 use crate::works::Work;
 use aria_base::{Memory, Pace, Sink};
-use script_course::{Stop, end_with, refuse};
+use script_course::{DONE, Stop, end_with, refuse};
 use script_places::{Head, closes};
 use script_text::LinesRefused;
 use serving::drain;
@@ -31,7 +31,7 @@ pub(crate) fn end_of<K: Sink, P: Pace + Sync, R: Threads + Sync>(
 ) -> Result<u8, Stop>
     ensures finishes { Finishes (on_end drains script) (K.given out.old) (K.given out.new) result }
     ensures read { result ≢ Err stop.NoRead }
-    ensures zero { IfOk result (λ status. status ≡ 0) }
+    ensures zero { IfOk result (λ status. status ≡ DONE) }
     ensures sink { K.faults out.old ≤ K.faults out.new }
     ensures cause { IfErr result (λ stop. IsCause stop (Rose (K.faults out.old) (K.faults out.new)) ⊥) }
 {
@@ -61,7 +61,7 @@ fn close<K: Sink, P: Pace + Sync, R: Threads + Sync>(
     requires listed { IsListed work.each work.base }
     ensures finishes { Finishes (drained drains (plan_in head.now) work.each line (state_in work.base)) (K.given out.old) (K.given out.new) result }
     ensures read { result ≢ Err stop.NoRead }
-    ensures zero { IfOk result (λ status. status ≡ 0) }
+    ensures zero { IfOk result (λ status. status ≡ DONE) }
     ensures sink { K.faults out.old ≤ K.faults out.new }
     ensures cause { IfErr result (λ stop. IsCause stop (Rose (K.faults out.old) (K.faults out.new)) ⊥) }
 {
@@ -114,15 +114,15 @@ fn list<K: Sink>(
     requires { IsNamed head.now base.now }
     ensures finishes { Finishes (listed (plan_in head.now) each (state_in base.now)) (K.given out.old) (K.given out.new) result }
     ensures read { result ≢ Err stop.NoRead }
-    ensures zero { IfOk result (λ status. status ≡ 0) }
+    ensures zero { IfOk result (λ status. status ≡ DONE) }
     ensures sink { K.faults out.old ≤ K.faults out.new }
     ensures cause { IfErr result (λ stop. IsCause stop (Rose (K.faults out.old) (K.faults out.new)) ⊥) }
 {
     if each {
-        return end_with(0, b"", out);
+        return end_with(DONE, b"", out);
     }
     match base.list(alloc, head) {
-        Ok(text) => end_with(0, &text, out),
+        Ok(text) => end_with(DONE, &text, out),
         Err(Memory) => Err(Stop::NoMemory),
     }
 }

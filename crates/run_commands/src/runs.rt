@@ -12,7 +12,7 @@ use crate::scripts::Script;
 use aria_base::{Pace, Sink, Source};
 use command_words::{Listing, Once};
 use dep_rules::Config;
-use script_course::Stop;
+use script_course::{DONE, Stop};
 use std::alloc::Global;
 use std::thread::Threads;
 
@@ -32,7 +32,7 @@ pub fn once<S: Source, K: Sink, P: Pace + Sync, R: Threads + Sync>(
     ensures completes { Completes (told_of settings.now) (out_of settings.now) (S.left input.old) (S.left input.new) (K.given out.old) (K.given out.new) result }
 
     // Where nothing was in the way, the answer is 0, and the input was read to its end.
-    ensures zero { IfOk result (λ status. status ≡ 0) }
+    ensures zero { IfOk result (λ status. status ≡ DONE) }
     ensures end { IfOk result (λ _. IsAtEnd (S.left input.new)) }
 
     // Each stop for a fault has its cause.

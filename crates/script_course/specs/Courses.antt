@@ -5,6 +5,7 @@ use Rattle.script_text.specs.declared.refusals.Refusal.{Refusal}
 use Rattle.script_text.specs.Lines.{Feed, Scan, scan, last_line}
 use Rattle.script_course.specs.declared.stops.Stop.{Stop}
 use Rattle.script_course.specs.declared.stops.Stop.TheVariants as stop
+use Rattle.script_course.specs.declared.statuses.TheConstants.{DISK_FAULT, NO_MEMORY, READ_FAULT, REFUSED, WRITE_FAULT}
 use Rattle.answer_text.specs.Refusals.{refusal_text}
 
 -- what was printed, and what stands: a state to go on from; or nothing, since a line was refused
@@ -18,11 +19,11 @@ pub record Out : Type 0 where
   pub status : ℕ
 
 abbrev pub status_of : Stop → ℕ
-status_of stop.Refused = 1
-status_of stop.NoRead = 3
-status_of stop.NoWrite = 4
-status_of stop.NoDisk = 5
-status_of stop.NoMemory = 7
+status_of stop.Refused = REFUSED
+status_of stop.NoRead = READ_FAULT
+status_of stop.NoWrite = WRITE_FAULT
+status_of stop.NoDisk = DISK_FAULT
+status_of stop.NoMemory = NO_MEMORY
 
 -- an output behind bytes that were printed before
 abbrev pub out_behind : List ℕ → Out → Out

@@ -19,10 +19,14 @@ mod courses;
 mod gives;
 mod laws;
 mod readings;
+mod statuses;
 mod stops;
 
 pub use courses::Reads;
 pub use gives::{end_with, give, refuse};
 pub use laws::ends_of;
 pub use readings::{PIECE, read_through};
+pub use statuses::{
+    DISK_FAULT, DONE, FAILS, NO_MEMORY, READ_FAULT, REFUSED, STORE_REFUSED, USAGE, WRITE_FAULT,
+};
 pub use stops::Stop;

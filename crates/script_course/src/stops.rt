@@ -2,6 +2,8 @@
 ghost use Rattle.std.specs.Prelude.{◌≡◌};
 ghost use Rattle.script_course.specs.Courses.{status_of};
 
+use crate::statuses::{DISK_FAULT, NO_MEMORY, READ_FAULT, REFUSED, WRITE_FAULT};
+
 /// Why a command stops before the end of its input.
 #[derive(Clone, Copy, Debug, PartialEq, Eq)]
 pub enum Stop {
@@ -23,11 +25,11 @@ impl Stop {
         ensures { result ≡ status_of self }
     {
         match self {
-            Stop::Refused => 1,
-            Stop::NoRead => 3,
-            Stop::NoWrite => 4,
-            Stop::NoDisk => 5,
-            Stop::NoMemory => 7,
+            Stop::Refused => REFUSED,
+            Stop::NoRead => READ_FAULT,
+            Stop::NoWrite => WRITE_FAULT,
+            Stop::NoDisk => DISK_FAULT,
+            Stop::NoMemory => NO_MEMORY,
         }
     }
 }

@@ -1,4 +1,4 @@
-// How the program ends.
+// With which status a command ends.
 
 /// The input was read to its end, and all of it is answered.
 pub const DONE: u8 = 0;
@@ -6,7 +6,7 @@ pub const DONE: u8 = 0;
 /// A line of the input was refused, or a drained batch would pass the greatest number.
 pub const REFUSED: u8 = 1;
 
-/// The words are no command; `refused usage` was printed.
+/// The arguments are no command; `refused usage` was printed.
 pub const USAGE: u8 = 2;
 
 /// The source failed.
@@ -15,11 +15,14 @@ pub const READ_FAULT: u8 = 3;
 /// The sink failed.
 pub const WRITE_FAULT: u8 = 4;
 
-/// The disk failed. No command of today uses it.
+/// The disk failed.
 pub const DISK_FAULT: u8 = 5;
+
+/// The disk holds no store, holds one already, or one that is damaged.
+pub const STORE_REFUSED: u8 = 6;
 
 /// There was no memory.
 pub const NO_MEMORY: u8 = 7;
 
-/// All was done, and an audit does not hold.
+/// All was done, and a check or an audit does not hold.
 pub const FAILS: u8 = 8;
