@@ -21,5 +21,5 @@ pub const DISK_FAULT: u8 = 5;
 /// There was no memory.
 pub const NO_MEMORY: u8 = 7;
 
-/// All was done, and an audit does not hold.
+/// All was done, and an audit or a report does not hold.
 pub const FAILS: u8 = 8;
