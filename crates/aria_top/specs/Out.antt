@@ -6,6 +6,7 @@ use Rattle.audit_command.specs.Audits as audit
 use Rattle.audit_command.specs.Findings.{finding_text, status_of}
 use Rattle.bench_command.specs.Benches.{ran_of}
 use Rattle.bench_command.specs.Summaries.{summary_of}
+use Rattle.check_command.specs.Outs as check
 use Rattle.command_words.specs.declared.settings.Bench.{Bench}
 use Rattle.command_words.specs.declared.settings.Load.{Load}
 use Rattle.command_words.specs.declared.settings.Load.TheVariants as load
@@ -41,6 +42,7 @@ out_of_task (task.Once settings) left = option_map (out_of settings) left
 out_of_task (task.Gen settings) left = Some (record { bytes = script_of settings; status = DONE })
 out_of_task (task.Bench settings) left = Some (bench_out settings)
 out_of_task task.Audit left = option_map audit.out_of left
+out_of_task task.Check left = option_map check.out_of left
 
 abbrev pub out_by : Option Task → Option (List ℕ) → Option Out
 out_by None left = Some refused_usage
@@ -53,4 +55,5 @@ out_for words left = out_by (task_in words) left
 abbrev pub IsToldFor : Option Task → Option (List ℕ) → Option (List ℕ) → Option (List ℕ) → Option (List ℕ) → Type 0
 IsToldFor (Some (task.Once settings)) left rest old new = IsToldOf (told_of settings) left rest old new
 IsToldFor (Some task.Audit) left rest old new = IsToldOf audit.told_of left rest old new
+IsToldFor (Some task.Check) left rest old new = IsToldOf check.told_of left rest old new
 IsToldFor other left rest old new = ⊥

@@ -17,6 +17,7 @@ task_by (command.Once settings) = Some (task.Once settings)
 task_by (command.Gen settings) = Some (task.Gen settings)
 task_by (command.Bench settings) = Some (task.Bench settings)
 task_by command.Audit = Some task.Audit
+task_by command.Check = Some task.Check
 task_by other = None
 
 -- the command that words are, where they are one
@@ -32,9 +33,11 @@ IsInRange (task.Once settings) = once.IsInRange settings
 IsInRange (task.Gen settings) = IsAsked settings
 IsInRange (task.Bench settings) = bench.IsInRange settings
 IsInRange task.Audit = Unit {0}
+IsInRange task.Check = Unit {0}
 
 -- whether the input is read for it
 abbrev pub reads : Option Task → Bool
 reads (Some (task.Once settings)) = true
 reads (Some task.Audit) = true
+reads (Some task.Check) = true
 reads other = false

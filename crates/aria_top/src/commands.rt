@@ -8,6 +8,7 @@ ghost use Rattle.aria_top.specs.Out.{bench_out};
 ghost use Rattle.aria_top.specs.Statuses.{IsAnswered, IsEnded};
 ghost use Rattle.audit_command.specs.Audits as audits;
 ghost use Rattle.bench_command.specs.Benches as benches;
+ghost use Rattle.check_command.specs.Outs as checks;
 ghost use Rattle.gen_command.specs.Scripts.{script_of};
 ghost use Rattle.run_commands.specs.Outs.{IsInRange, out_of, told_of};
 ghost use Rattle.workloads.specs.Laws.{IsAsked};
@@ -15,6 +16,7 @@ ghost use Rattle.workloads.specs.Laws.{IsAsked};
 use crate::summaries::print_bench;
 use aria_base::{Memory, Pace, Sink, Source};
 use audit_command::audit;
+use check_command::check_report;
 use command_words::{Bench, Once, Workload};
 use gen_command::generate;
 use run_commands::once;
@@ -98,6 +100,24 @@ pub fn run_audit<S: Source, K: Sink>(alloc: Global, input: &mut S, out: &mut K) 
     ensures told { result ≡ READ_FAULT → IsToldOf audits.told_of (S.left input.old) (S.left input.new) (K.given out.old) (K.given out.new) }
 {
     match audit(alloc, input, out) {
+        Ok(status) => status,
+        Err(stop) => stop.status(),
+    }
+}
+
+/// Runs `check`, and answers its status.
+#[tactic(auto, using(crate::proofs::Stopped::answered_end, crate::proofs::Stopped::front_end, crate::proofs::Stopped::front_cut, crate::proofs::Stopped::answered_cut, crate::proofs::Stopped::others_cut, crate::proofs::Stopped::read_cut, crate::proofs::Stopped::write_cut, crate::proofs::Stopped::never_ended, crate::proofs::Stopped::told_cut))]
+pub fn run_check<S: Source, K: Sink>(alloc: Global, input: &mut S, out: &mut K) -> u8
+    ensures answered { IsAnswered result → IfSome (S.left input.old)
+        (λ text. (result ≡ (checks.out_of text).status) × Appends (K.given out.old) (K.given out.new) (checks.out_of text).bytes) }
+    ensures front { IfSome (S.left input.old) (λ text. AppendsFront (K.given out.old) (K.given out.new) (checks.out_of text).bytes) }
+    ensures others { IsEnded result ⊎ (result ≡ REFUSED) ⊎ (result ≡ READ_FAULT) ⊎ (result ≡ WRITE_FAULT) ⊎ (result ≡ NO_MEMORY) }
+    ensures read { result ≡ READ_FAULT → Rose (S.faults input.old) (S.faults input.new) }
+    ensures write { result ≡ WRITE_FAULT → Rose (K.faults out.old) (K.faults out.new) }
+    ensures end { IsEnded result → IsAtEnd (S.left input.new) }
+    ensures told { result ≡ READ_FAULT → IsToldOf checks.told_of (S.left input.old) (S.left input.new) (K.given out.old) (K.given out.new) }
+{
+    match check_report(alloc, input, out) {
         Ok(status) => status,
         Err(stop) => stop.status(),
     }

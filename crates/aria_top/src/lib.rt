@@ -8,6 +8,7 @@
 //! words ──> tasks (command_words) ──> tops (aria) ──> commands ─┬> run_commands (once)
 //!                                                               ├> gen_command (gen)
 //!                                                               ├> audit_command (audit)
+//!                                                               ├> check_command (check)
 //!                                                               └> summaries ──> bench_command (bench)
 //! ```
 //!

@@ -15,6 +15,7 @@ pub enum Task {
     Gen(Workload),
     Bench(Bench),
     Audit,
+    Check,
 }
 
 /// What the words ask for, where they are the line of a command that the program has. Its settings are
@@ -39,10 +40,10 @@ fn task_by(command: Command) -> Option<Task>
         Command::Gen(settings) => Some(Task::Gen(settings)),
         Command::Bench(settings) => Some(Task::Bench(settings)),
         Command::Audit => Some(Task::Audit),
+        Command::Check => Some(Task::Check),
         Command::Init(_)
         | Command::Run(_)
         | Command::Replay(_)
-        | Command::Check
         | Command::Mix(_)
         | Command::Nodes(_) => None,
     }

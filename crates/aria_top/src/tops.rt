@@ -12,7 +12,7 @@ ghost use Rattle.answer_text.specs.declared.notices.Refused.TheVariants.{Usage};
 ghost use Rattle.run_commands.specs.Outs.{AreOne, IsAlike};
 ghost use Rattle.run_commands.specs.Serial.{EachIsSerial};
 
-use crate::commands::{run_audit, run_bench, run_gen, run_once};
+use crate::commands::{run_audit, run_bench, run_check, run_gen, run_once};
 use crate::tasks::{Task, read_task};
 use answer_text::{Refused, refused_line};
 use aria_base::{Memory, Pace, Sink, Source};
@@ -96,6 +96,7 @@ fn run_task<S: Source, K: Sink, P: Pace + Sync, R: Threads + Sync>(
         Task::Gen(settings) => return run_gen(alloc, settings, out),
         Task::Bench(settings) => return run_bench(rt, alloc, settings, out, pace),
         Task::Audit => return run_audit(alloc, input, out),
+        Task::Check => return run_check(alloc, input, out),
     }
 }
 

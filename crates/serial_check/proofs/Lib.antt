@@ -1,3 +1,4 @@
+mod Crowded
 mod Drains
 mod EndsTold
 mod Framed

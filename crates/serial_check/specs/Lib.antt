@@ -1,3 +1,4 @@
+pub mod Crowds
 pub mod Flaws
 pub mod Halts
 pub mod Lines

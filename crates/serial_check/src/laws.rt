@@ -4,6 +4,7 @@ ghost use Rattle.std.specs.Prelude.{◌≡◌, ℕ, List, false};
 ghost use Rattle.aria_base.specs.Orders.{Database};
 ghost use Rattle.aria_base.specs.declared.calls.Call.{Call};
 ghost use Rattle.proc_lang.specs.Catalogs.{Plan};
+ghost use Rattle.serial_check.specs.Crowds.{IsOneOf, run_behind};
 ghost use Rattle.serial_check.specs.Reports.{begun, finding};
 ghost use Rattle.serial_check.specs.Serial.{IsReport};
 ghost use Rattle.serial_check.specs.declared.findings.Finding.TheVariants.{Holds};
@@ -13,4 +14,10 @@ ghost use Rattle.serial_check.specs.declared.findings.Finding.TheVariants.{Holds
 /// batch's start, with the printed replies, and a listing is the rows that it leaves.
 pub fn held()
     ensures { (plan : Plan) (report : List (List ℕ)) (rows : Database) (script : List (ℕ × List Call)) → finding plan report rows script ≡ Holds → IsReport plan false (begun rows).standing script report }
+{}
+
+/// A batch that is found too large is one of those that are run, by the rule that one was run before where its number is none above
+/// theirs.
+pub fn crowded_is_run()
+    ensures { (plan : Plan) (report : List (List ℕ)) (rows : Database) (script : List (ℕ × List Call)) → IsOneOf (run_behind 0 script) (finding plan report rows script) }
 {}

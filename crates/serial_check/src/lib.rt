@@ -19,7 +19,8 @@
 //! ```
 //!
 //! In `specs/`: `Reports` says what has to stand where and which line is the first that cannot, `Orders` what an
-//! order line names, `Runs` how its requests end, `Lines` the lines, and `Serial` what a report tells that holds.
+//! order line names, `Runs` how its requests end, `Lines` the lines, `Serial` what a report tells that holds, and `Crowds` which
+//! batches are run.
 #![tactic(auto)]
 
 mod answers;
@@ -36,4 +37,4 @@ mod standings;
 
 pub use checks::check;
 pub use findings::Finding;
-pub use laws::held;
+pub use laws::{crowded_is_run, held};

@@ -1,0 +1,4 @@
+pub mod Asked
+pub mod Lines
+pub mod Standing
+pub mod Whole

@@ -1,0 +1,67 @@
+-- What is true of a script and its report between two lines.
+use Rattle.std.specs.Prelude.{◌≡◌, ◌≤◌, ◌+◌, ℕ, List, [], map, length, Result, Ok, Err}
+use Rattle.aria_base.specs.declared.calls.Call.{Call}
+use Rattle.aria_base.specs.declared.limits.TheConstants.{GREATEST_NUMBER}
+use Rattle.answer_text.specs.Refusals.{refusal_text}
+use Rattle.script_course.specs.Courses.{Course, Goes, Stops}
+use Rattle.script_places.specs.declared.deeds.Deed.{Deed}
+use Rattle.script_places.specs.declared.deeds.Deed.TheVariants as deed
+use Rattle.script_places.specs.declared.places.Place.{Place}
+use Rattle.script_text.specs.declared.refusals.LinesRefused.{LinesRefused}
+use Rattle.script_text.specs.declared.refusals.LinesRefused.TheVariants as refused
+use Rattle.serial_check.specs.Crowds.{run_behind}
+use Rattle.check_command.specs.Checks.{Doing}
+use Rattle.check_command.specs.declared.works.Work.{Work}
+
+abbrev pub doing_of : Place → Work → Doing
+doing_of place work = record {
+  place = place;
+  rows = work.tables;
+  calls = work.calls.items;
+  script = map (λ batch. (batch.0, batch.1.items)) work.script.items;
+  ends = work.ends.items;
+  requests = work.requests;
+  report = work.report.items;
+}
+
+-- each batch that is run has the line that ends it
+abbrev pub HasEnds : Doing → Type 0
+HasEnds d = run_behind 0 d.script ≡ length d.ends
+
+-- between two lines: the open calls are those that the place counts
+pub record Stands (d : Doing) : Type 0 where
+  pub ends : HasEnds d
+  pub counted : d.place.open_calls ≡ length d.calls
+
+-- ---- behind a line, before what it asks for is done
+
+pub record MayCall (d : Doing) : Type 0 where
+  pub ends : HasEnds d
+  pub counted : d.place.open_calls ≡ length d.calls + 1
+
+pub record MayKeep (d : Doing) (number : ℕ) : Type 0 where
+  pub ends : HasEnds d
+  pub counted : d.place.open_calls ≡ 0
+  pub before : number ≤ length d.ends
+
+pub record MayRun (d : Doing) : Type 0 where
+  pub ends : HasEnds d
+  pub counted : d.place.open_calls ≡ 0
+  pub requests : d.requests + length d.calls ≤ GREATEST_NUMBER
+
+abbrev pub MayDo : Doing → Deed → Type 0
+MayDo d deed.Nothing = Stands d
+MayDo d (deed.Put key row) = Stands d
+MayDo d (deed.Call call) = MayCall d
+MayDo d (deed.Set rule percent) = Stands d
+MayDo d (deed.Keep number) = MayKeep d number
+MayDo d deed.Run = MayRun d
+MayDo d deed.Tell = Stands d
+
+-- ---- a line
+
+-- how a line moves the reading: it goes on and prints nothing, or the line is refused
+abbrev pub Moves : Course Doing → Result Doing LinesRefused → Type 0
+Moves course (Ok next) = course ≡ Goes [] next
+Moves course (Err refused.Memory) = Unit {0}
+Moves course (Err (refused.Line refusal)) = course ≡ Stops (refusal_text refusal)
