@@ -1,0 +1,6 @@
+mod OneAnswer
+mod OrderNamed
+mod Places
+mod Texts
+mod Told
+mod Whole
