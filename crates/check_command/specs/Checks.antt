@@ -24,7 +24,7 @@ use Rattle.serial_check.specs.Reports.{finding}
 use Rattle.serial_check.specs.declared.findings.Finding.{Finding}
 use Rattle.serial_check.specs.declared.findings.Finding.TheVariants as found
 use Rattle.check_command.specs.Texts.{holds_text, fails_text, line_of}
-use Rattle.check_command.specs.declared.texts.TheConstants as status
+use Rattle.script_course.specs.declared.statuses.TheConstants as status
 
 -- Between two lines: the place, the rows, the calls of the open batch, and the batches so far, each with its number. Of those that are to
 -- be run, the line that ends each, and how many calls they have; then the lines of the report.
@@ -98,7 +98,7 @@ on_line d line = done_by d line (asked d.place (counts_of d) line)
 
 -- a batch that is too large is refused as the line that ends it
 abbrev pub out_of_finding : List ℕ → Finding → Out
-out_of_finding ends found.Holds = record { bytes = holds_text; status = status.HOLDS }
+out_of_finding ends found.Holds = record { bytes = holds_text; status = status.DONE }
 out_of_finding ends (found.Fails line wanted found) = record { bytes = fails_text line wanted found; status = status.FAILS }
 out_of_finding ends (found.Crowded number) =
     record { bytes = refusal_text (record { line = line_of ends number; kind = kind.Batch }); status = status_of stop.Refused }

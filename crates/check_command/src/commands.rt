@@ -5,7 +5,7 @@ ghost use Rattle.aria_base.specs.Faults.{Rose};
 ghost use Rattle.script_course.specs.Causes.{IsReadCause};
 ghost use Rattle.script_course.specs.Served.{Completes};
 ghost use Rattle.check_command.specs.Outs.{out_of, told_of};
-ghost use Rattle.check_command.specs.declared.texts.TheConstants as status;
+ghost use Rattle.script_course.specs.declared.statuses.TheConstants as status;
 
 use crate::ends::end_of;
 use crate::readings::Reading;
@@ -30,7 +30,7 @@ pub fn check_report<S: Source, K: Sink>(
     ensures completes { Completes told_of out_of (S.left input.old) (S.left input.new) (K.given out.old) (K.given out.new) result }
 
     // Where a finding was printed, the answer is its status, and the input was read to its end.
-    ensures status { IfOk result (λ ending. (ending ≡ status.HOLDS) ⊎ (ending ≡ status.FAILS)) }
+    ensures status { IfOk result (λ ending. (ending ≡ status.DONE) ⊎ (ending ≡ status.FAILS)) }
     ensures end { IfOk result (λ _. IsAtEnd (S.left input.new)) }
 
     // Each stop for a fault has its cause.

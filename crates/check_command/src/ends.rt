@@ -6,15 +6,15 @@ ghost use Rattle.script_course.specs.Served.{Finishes};
 ghost use Rattle.script_course.specs.declared.stops.Stop.TheVariants as stop;
 ghost use Rattle.check_command.specs.Checks.{judged, on_end, out_of_finding, plan_in};
 ghost use Rattle.check_command.specs.Standing.{HasEnds, doing_of};
-ghost use Rattle.check_command.specs.declared.texts.TheConstants as status;
+ghost use Rattle.script_course.specs.declared.statuses.TheConstants as status;
 ghost use Rattle.serial_check.specs.Crowds.{IsOneOf};
 
 use crate::readings::Reading;
-use crate::texts::{FAILS, HOLDS, fails_text, line_of};
+use crate::texts::{fails_text, line_of};
 use crate::works::Work;
 use aria_base::{Memory, Schema, Sink};
 use proc_lang::Catalog;
-use script_course::{Stop, end_with, refuse};
+use script_course::{DONE, FAILS, Stop, end_with, refuse};
 use script_places::{Head, Place};
 use script_text::{Kind8, LinesRefused, Refusal};
 use serial_check::{Finding, check, crowded_is_run};
@@ -24,7 +24,7 @@ use std::alloc::Global;
 pub(crate) fn end_of<K: Sink>(alloc: Global, reading: Reading, out: &mut K) -> Result<u8, Stop>
     ensures finishes { Finishes (on_end reading) (K.given out.old) (K.given out.new) result }
     ensures read { result ≢ Err stop.NoRead }
-    ensures status { IfOk result (λ ending. (ending ≡ status.HOLDS) ⊎ (ending ≡ status.FAILS)) }
+    ensures status { IfOk result (λ ending. (ending ≡ status.DONE) ⊎ (ending ≡ status.FAILS)) }
     ensures sink { K.faults out.old ≤ K.faults out.new }
     ensures cause { IfErr result (λ stop. IsCause stop (Rose (K.faults out.old) (K.faults out.new)) ⊥) }
 {
@@ -41,7 +41,7 @@ fn judge<K: Sink>(alloc: Global, place: Place, work: Work, out: &mut K) -> Resul
     requires { HasEnds (doing_of place work) }
     ensures finishes { Finishes (judged (doing_of place work)) (K.given out.old) (K.given out.new) result }
     ensures read { result ≢ Err stop.NoRead }
-    ensures status { IfOk result (λ ending. (ending ≡ status.HOLDS) ⊎ (ending ≡ status.FAILS)) }
+    ensures status { IfOk result (λ ending. (ending ≡ status.DONE) ⊎ (ending ≡ status.FAILS)) }
     ensures sink { K.faults out.old ≤ K.faults out.new }
     ensures cause { IfErr result (λ stop. IsCause stop (Rose (K.faults out.old) (K.faults out.new)) ⊥) }
 {
@@ -58,12 +58,12 @@ fn tell<K: Sink>(alloc: Global, ends: &[u64], finding: Finding, out: &mut K) -> 
     requires { IsOneOf (length ends.now) finding }
     ensures finishes { Finishes (out_of_finding ends.now finding) (K.given out.old) (K.given out.new) result }
     ensures read { result ≢ Err stop.NoRead }
-    ensures status { IfOk result (λ ending. (ending ≡ status.HOLDS) ⊎ (ending ≡ status.FAILS)) }
+    ensures status { IfOk result (λ ending. (ending ≡ status.DONE) ⊎ (ending ≡ status.FAILS)) }
     ensures sink { K.faults out.old ≤ K.faults out.new }
     ensures cause { IfErr result (λ stop. IsCause stop (Rose (K.faults out.old) (K.faults out.new)) ⊥) }
 {
     match finding {
-        Finding::Holds => end_with(HOLDS, b"check holds\n", out),
+        Finding::Holds => end_with(DONE, b"check holds\n", out),
         Finding::Fails {
             line,
             wanted,

@@ -19,4 +19,3 @@ mod works;
 
 pub use commands::{LONGEST_LINE, MOST_BYTES, check_report};
 pub use laws::crowded_is_ended;
-pub use texts::{FAILS, HOLDS};

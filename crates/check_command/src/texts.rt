@@ -6,12 +6,6 @@ use aria_base::{Bytes, Memory};
 use script_text::append_number;
 use std::alloc::Global;
 
-/// The status where the report holds.
-pub const HOLDS: u8 = 0;
-
-/// The status where the report does not hold.
-pub const FAILS: u8 = 8;
-
 /// The three lines that tell which line of the report cannot stand.
 pub(crate) fn fails_text(
     alloc: Global,
