@@ -1,9 +1,10 @@
 -- The report of a script holds: batch by batch, then what is drained, then the end.
-use Rattle.std.proofs.Common.{◌≡◌, ℕ, zero, suc, ◌+◌, ◌-◌, ◌<◌, ◌≤◌, ◌^◌, ◌⊎◌, inl, inr, List, [], ◌∷◌, ◌++◌, length, drop, Bool, true, false, cond, Result, Ok, Err, ◌&&◌, refl, ap, sym, ◌∙◌, subst, arith, append_assoc, append-nil, ltb-true}
-use Rattle.std.specs.Prelude.{if◌then◌else◌, nat_lt}
+use Rattle.std.proofs.Common.{◌≡◌, ℕ, zero, suc, ◌+◌, ◌-◌, ◌<◌, ◌≤◌, ◌^◌, ◌⊎◌, inl, inr, List, [], ◌∷◌, ◌++◌, length, drop, Bool, true, false, not, cond, Result, Ok, Err, ◌&&◌, ◌||◌, refl, ap, sym, ◌∙◌, subst, arith, append_assoc, append-nil, ltb-true}
+use Rattle.std.specs.Prelude.{if◌then◌else◌, nat_lt, unwrap_or}
 use Rattle.std.specs.Str.{bytes_eq}
 use Rattle.std.proofs.lemmas.Bool.{lt-ltb, false_from_ne_true}
 use Rattle.std.proofs.lemmas.List.{length-append, length-drop}
+use Rattle.std.proofs.lemmas.Option.{slice_get_past}
 use Rattle.aria_base.specs.Orders.{Database}
 use Rattle.aria_base.specs.declared.limits.TheConstants.{MOST_REQUESTS}
 use Rattle.batch_core.specs.Serial.{IsNumbered}
@@ -14,7 +15,7 @@ use Rattle.proc_lang.specs.Catalogs.{Plan, run_of}
 use Rattle.serial_check.specs.Lines.{batch_line, kept_line, state_line, end_state_line}
 use Rattle.serial_check.specs.Reports as check
 use Rattle.serial_check.specs.Reports.{◌>>=◌, row_lines}
-use Rattle.serial_check.specs.declared.findings.Finding.TheVariants.{Holds}
+use Rattle.serial_check.specs.declared.findings.Finding.TheVariants.{Fails, Holds}
 use Rattle.report_laws.specs.Printed.{Given, Reading, answer_lines, reading_at, standing_of, state_lines}
 use Rattle.report_laws.specs.Scripts.{AreDrains, HaveRoom, batch_lines, calls_of, drain_lines, ends_listed, fresh, is_kept, left, listed_drains, listed_script, next, report, script_lines}
 use Rattle.report_laws.proofs.OneAnswer.{answer_stands}
@@ -23,13 +24,10 @@ use Rattle.report_laws.proofs.Places.{all_stand, behind, behind_all, got, itself
 abbrev Flaw : Type 0
 Flaw = Given (check.failing [] 0)
 
--- where nothing was found
-abbrev Ends : Result ℕ Flaw → Type 0
-Ends r = (end : ℕ) × (r ≡ Ok end)
-
-after_both : {A B : Type 0} (r : Result A Flaw) (f : A → Result B Flaw) (g : B → Result ℕ Flaw) → Ends (r >>= (λ x. f x >>= g)) → Ends ((r >>= f) >>= g)
-after_both (Ok x) f g h = h
-after_both (Err flaw) f g h = h
+after_both : {A B : Type 0} (Ends : Result ℕ Flaw → Type 0) (r : Result A Flaw) (f : A → Result B Flaw) (g : B → Result ℕ Flaw)
+    → Ends (r >>= (λ x. f x >>= g)) → Ends ((r >>= f) >>= g)
+after_both Ends (Ok x) f g h = h
+after_both Ends (Err flaw) f g h = h
 
 otherwise : {A : Type 0} (b : Bool) (x y : A) → b ≡ false → cond b x y ≡ y
 otherwise true x y h = cc
@@ -39,14 +37,26 @@ never : (b : Bool) → (b && false) ≡ false
 never true = refl
 never false = refl
 
--- the last line of all, where a listing stands last or not
-abbrev close_lines : Plan → Bool → State → List (List ℕ)
-close_lines plan listed state = if listed then [] else state_lines plan state
+-- what stands last of all, where a listing was read last or not; `shut` tells whether one follows where none was
+abbrev close_lines : Plan → Bool → Bool → State → List (List ℕ)
+close_lines plan shut listed state = if listed then [] else (if shut then state_lines plan state else [])
 
-module _ (plan : Plan) (each : Bool) where
+-- nothing was found; or nothing but that this listing is missing at the end
+abbrev Closes : List (List ℕ) → Bool → State → Result ℕ Flaw → Type 0
+Closes text true state r = (end : ℕ) × (r ≡ Ok end)
+Closes text false state r = r ≡ Err (check.failing text (length text) (state_line state.batches))
+
+-- where a listing follows at the end, it does not matter whether one was read last
+shut_either : (text : List (List ℕ)) (state : State) (r : Result ℕ Flaw) (a b : Bool) → Closes text (a || true) state r → Closes text (b || true) state r
+shut_either text state r true true h = h
+shut_either text state r true false h = h
+shut_either text state r false true h = h
+shut_either text state r false false h = h
+
+module _ (plan : Plan) (each shut : Bool) (shuts : each ≡ false → shut ≡ true) where
   -- what is left from between two batches on
   abbrev rest_drains : Bool → State → List Handed → List (List ℕ)
-  rest_drains listed state [] = close_lines plan listed state
+  rest_drains listed state [] = close_lines plan shut listed state
   rest_drains listed state (handed ∷ more) = batch_lines plan each state handed ++ rest_drains each (step (run_of plan) state handed) more
 
   abbrev rest : Bool → State → List (ℕ × Handed) → List Handed → List (List ℕ)
@@ -61,13 +71,13 @@ module _ (plan : Plan) (each : Bool) where
   IsTail tail state = ((line : List ℕ) × (more : List (List ℕ)) × (tail false ≡ (98 ∷ line) ∷ more))
       ⊎ ((tail false ≡ state_lines plan state) × (tail true ≡ []))
 
-  drains_tail : (state : State) (drains : List Handed) → IsTail (λ listed. rest_drains listed state drains) state
-  drains_tail state [] = inr (refl, refl)
-  drains_tail state (handed ∷ more) = inl (_, _, refl)
+  drains_tail : (state : State) (drains : List Handed) → each ≡ false → IsTail (λ listed. rest_drains listed state drains) state
+  drains_tail state [] e = inr (ap (λ b. if b then state_lines plan state else []) (shuts e), refl)
+  drains_tail state (handed ∷ more) e = inl (_, _, refl)
 
-  tail_of : (state : State) (script : List (ℕ × Handed)) (drains : List Handed) → IsTail (λ listed. rest listed state script drains) state
-  tail_of state [] drains = drains_tail state drains
-  tail_of state (batch ∷ more) drains = inl (by (is_kept state batch))
+  tail_of : (state : State) (script : List (ℕ × Handed)) (drains : List Handed) → each ≡ false → IsTail (λ listed. rest listed state script drains) state
+  tail_of state [] drains e = drains_tail state drains e
+  tail_of state (batch ∷ more) drains e = inl (by (is_kept state batch))
     where
       by : (b : Bool) → (line : List ℕ) × (lines : List (List ℕ)) × ((if b then kept_line batch.0 ∷ [] else batch_lines plan each state batch.1)
           ++ rest (if b then false else each) (next plan state batch) more drains ≡ (98 ∷ line) ∷ lines)
@@ -114,32 +124,47 @@ module _ (plan : Plan) (each : Bool) where
 
     -- ---- answers
 
-    after_answer : (state : State) (at : ℕ) (tail : Bool → List (List ℕ)) (go : Reading → Result ℕ Flaw) → IsTail tail state
-        → ((listed : Bool) (n : ℕ) → drop n text ≡ tail listed → Ends (go (reading_at n state listed)))
-        → (b : Bool) → drop at text ≡ (if b then state_lines plan state else []) ++ tail b
-        → Ends (check.may_list plan text (reading_at at state false) >>= go)
-    after_answer state at tail go t on true h =
-        let n = at + length (state_lines plan state) in
-        subst (λ r. Ends (r >>= go)) (sym (lists state at (tail true) h)) (on true n (behind_all text (state_lines plan state) (tail true) at h))
-    after_answer state at tail go (inl first) on false h =
-        subst (λ r. Ends (r >>= go)) (sym (lists_not state at first.0 first.1 (h ∙ first.2))) (on false at h)
-    after_answer state at tail go (inr last) on false h =
-        let n = at + length (state_lines plan state) in
-        let only : drop at text ≡ state_lines plan state ++ [] = h ∙ last.0 ∙ sym (append-nil (state_lines plan state)) in
-        subst (λ r. Ends (r >>= go)) (sym (lists state at [] only)) (on true n (behind_all text (state_lines plan state) [] at only ∙ sym last.1))
+    within : (lines more : List (List ℕ)) (at : ℕ) → at ≤ length text → drop at text ≡ lines ++ more → at + length lines ≤ length text
+    within lines more at w h =
+        let left_over : length text - at ≡ length lines + length more = sym (length-drop at text) ∙ ap length h ∙ length-append lines more in
+        omega (arith, left_over, w)
 
-    answered : (state : State) (handed : Handed) → IsNumbered state → state.requests + length handed.calls < 2 ^ 64
-        → (at : ℕ) (listed : Bool) (tail : Bool → List (List ℕ)) (go : Reading → Result ℕ Flaw) → IsTail tail (step (run_of plan) state handed)
-        → ((listed : Bool) (n : ℕ) → drop n text ≡ tail listed → Ends (go (reading_at n (step (run_of plan) state handed) listed)))
-        → drop at text ≡ batch_lines plan each state handed ++ tail each
-        → Ends (check.answered plan text (reading_at at state listed) handed.calls >>= go)
-    answered state handed numbered few at listed tail go t on h =
-        let behind = step (run_of plan) state handed in
-        let lines = answer_lines plan.tables (answer (run_of plan) state handed) in
-        let more = if each then state_lines plan behind else [] in
-        let whole : drop at text ≡ lines ++ (more ++ tail each) = h ∙ append_assoc lines more (tail each) in
-        subst (λ r. Ends ((r >>= check.may_list plan text) >>= go)) (sym (answer_stands plan state handed numbered few text (more ++ tail each) at whole))
-        (after_answer behind (at + length lines) tail go t on each (behind_all text lines (more ++ tail each) at whole))
+    module _ (Ends : Result ℕ Flaw → Type 0) where
+      -- the rest ends so, from wherever it stands; where each answer has a listing, one was read last
+      abbrev Goes_on : (Bool → List (List ℕ)) → State → (Reading → Result ℕ Flaw) → Type 0
+      Goes_on tail state go = (listed : Bool) → (each ≡ true → listed ≡ true) → (n : ℕ) → n ≤ length text → drop n text ≡ tail listed
+          → Ends (go (reading_at n state listed))
+
+      after_answer : (state : State) (at : ℕ) (tail : Bool → List (List ℕ)) (go : Reading → Result ℕ Flaw) → (each ≡ false → IsTail tail state)
+          → Goes_on tail state go → at ≤ length text → (b : Bool) → each ≡ b → drop at text ≡ (if b then state_lines plan state else []) ++ tail b
+          → Ends (check.may_list plan text (reading_at at state false) >>= go)
+      after_answer state at tail go t on w true e h =
+          let n = at + length (state_lines plan state) in
+          subst (λ r. Ends (r >>= go)) (sym (lists state at (tail true) h))
+          (on true (λ _. refl) n (within (state_lines plan state) (tail true) at w h) (behind_all text (state_lines plan state) (tail true) at h))
+      after_answer state at tail go t on w false e h = by (t e)
+        where
+          by : IsTail tail state → Ends (check.may_list plan text (reading_at at state false) >>= go)
+          by (inl first) =
+              subst (λ r. Ends (r >>= go)) (sym (lists_not state at first.0 first.1 (h ∙ first.2))) (on false (λ k. sym e ∙ k) at w h)
+          by (inr last) =
+              let n = at + length (state_lines plan state) in
+              let only : drop at text ≡ state_lines plan state ++ [] = h ∙ last.0 ∙ sym (append-nil (state_lines plan state)) in
+              subst (λ r. Ends (r >>= go)) (sym (lists state at [] only))
+              (on true (λ _. refl) n (within (state_lines plan state) [] at w only) (behind_all text (state_lines plan state) [] at only ∙ sym last.1))
+
+      answered : (state : State) (handed : Handed) → IsNumbered state → state.requests + length handed.calls < 2 ^ 64
+          → (at : ℕ) (listed : Bool) (tail : Bool → List (List ℕ)) (go : Reading → Result ℕ Flaw) → (each ≡ false → IsTail tail (step (run_of plan) state handed))
+          → Goes_on tail (step (run_of plan) state handed) go → at ≤ length text
+          → drop at text ≡ batch_lines plan each state handed ++ tail each
+          → Ends (check.answered plan text (reading_at at state listed) handed.calls >>= go)
+      answered state handed numbered few at listed tail go t on w h =
+          let behind = step (run_of plan) state handed in
+          let lines = answer_lines plan.tables (answer (run_of plan) state handed) in
+          let more = if each then state_lines plan behind else [] in
+          let whole : drop at text ≡ lines ++ (more ++ tail each) = h ∙ append_assoc lines more (tail each) in
+          subst (λ r. Ends ((r >>= check.may_list plan text) >>= go)) (sym (answer_stands plan state handed numbered few text (more ++ tail each) at whole))
+          (after_answer behind (at + length lines) tail go t on (within lines (more ++ tail each) at w whole) each refl (behind_all text lines (more ++ tail each) at whole))
 
     -- ---- the end
 
@@ -149,28 +174,40 @@ module _ (plan : Plan) (each : Bool) where
         let past : nat_lt at (length text) ≡ false = false_from_ne_true (nat_lt at (length text)) (λ t. let below = ltb-true at (length text) t in omega (arith, short, below)) in
         ap (λ b. cond b (Err (check.failing text at [])) (Ok at)) past
 
-    closed_ends : (listed : Bool) (state : State) (at : ℕ) → drop at text ≡ close_lines plan listed state
-        → Ends (check.closed plan text (reading_at at state listed))
-    closed_ends true state at h = (at, nothing_behind at h)
-    closed_ends false state at h =
+    all_read : (at : ℕ) → at ≤ length text → drop at text ≡ [] → at ≡ length text
+    all_read at w h = let short : length text - at ≡ 0 = sym (length-drop at text) ∙ ap length h in omega (arith, short, w)
+
+    missing : (wanted : List ℕ) (at : ℕ) → at ≤ length text → drop at text ≡ [] → check.expect text wanted at ≡ Err (check.failing text (length text) wanted)
+    missing wanted at w h =
+        ap (λ o. cond (check.passes (λ line. bytes_eq line wanted) o) (Ok (at + 1)) (Err (check.failing text at wanted))) (none_got text at h)
+        ∙ ap (λ n. Err (check.failing text n wanted)) (all_read at w h)
+
+    closed_ends : (listed : Bool) (state : State) (at : ℕ) → at ≤ length text → (b : Bool) → drop at text ≡ close_lines plan b listed state
+        → Closes text (listed || b) state (check.closed plan text (reading_at at state listed))
+    closed_ends true state at w b h = (at, nothing_behind at h)
+    closed_ends false state at w true h =
         let only : drop at text ≡ state_lines plan state ++ [] = h ∙ sym (append-nil (state_lines plan state)) in
         let n = at + length (state_lines plan state) in
         (n, ap (λ r. r >>= check.expect_end text) (listing_stands state at [] only) ∙ nothing_behind n (behind_all text (state_lines plan state) [] at only))
+    closed_ends false state at w false h =
+        ap (λ r. (r >>= (λ n. check.expect_all text (row_lines plan state.rows) n >>= check.expect text end_state_line)) >>= check.expect_end text)
+        (missing (state_line state.batches) at w h)
 
-    no_batch : (listed : Bool) (state : State) (at : ℕ) → drop at text ≡ close_lines plan listed state
+    no_batch : (listed : Bool) (state : State) (at : ℕ) → (b : Bool) → drop at text ≡ close_lines plan b listed state
         → check.is_line text (batch_line (state.batches + 1)) at ≡ false
-    no_batch true state at h = ap (check.passes (λ line. bytes_eq line (batch_line (state.batches + 1)))) (none_got text at h)
-    no_batch false state at h = ap (check.passes (λ line. bytes_eq line (batch_line (state.batches + 1)))) (got text at (state_line state.batches) (row_lines plan state.rows ++ end_state_line ∷ []) h)
+    no_batch false state at false h = ap (check.passes (λ line. bytes_eq line (batch_line (state.batches + 1)))) (none_got text at h)
+    no_batch true state at b h = ap (check.passes (λ line. bytes_eq line (batch_line (state.batches + 1)))) (none_got text at h)
+    no_batch false state at true h = ap (check.passes (λ line. bytes_eq line (batch_line (state.batches + 1)))) (got text at (state_line state.batches) (row_lines plan state.rows ++ end_state_line ∷ []) h)
 
     abbrev going : ℕ → State → ℕ → Bool → Result Reading Flaw
     going n state at listed = check.answered plan text (reading_at at state listed) [] >>= check.drained plan text n
 
-    stops : (n : ℕ) (state : State) (at : ℕ) (listed : Bool) → drop at text ≡ close_lines plan listed state
+    stops : (n : ℕ) (state : State) (at : ℕ) (listed : Bool) → drop at text ≡ close_lines plan shut listed state
         → check.drained plan text n (reading_at at state listed) ≡ Ok (reading_at at state listed)
     stops zero state at listed h = refl
     stops (suc n) state at listed h =
         let none : check.is_drained text (reading_at at state listed) ≡ false
-        = ap (λ b. nat_lt 0 (length state.waiting) && b) (no_batch listed state at h) ∙ never (nat_lt 0 (length state.waiting)) in
+        = ap (λ b. nat_lt 0 (length state.waiting) && b) (no_batch listed state at shut h) ∙ never (nat_lt 0 (length state.waiting)) in
         ap (λ b. cond b (going n state at listed) (Ok (reading_at at state listed))) none
 
     goes : (n : ℕ) (state : State) (at : ℕ) (listed : Bool) (more : List (List ℕ)) → 0 < length state.waiting → drop at text ≡ batch_line (state.batches + 1) ∷ more
@@ -182,24 +219,39 @@ module _ (plan : Plan) (each : Bool) where
         = ap (λ b. nat_lt 0 (length state.waiting) && b) there ∙ ap (λ b. b && true) (lt-ltb 0 (length state.waiting) some) in
         ap (λ b. cond b (going n state at listed) (Ok (reading_at at state listed))) drained
 
+    -- how the drains end is said of whether a listing was read last in the end
+    turned : (drains : List Handed) (state : State) (r : Result ℕ Flaw) (listed b c : Bool) → each ≡ b → shut ≡ c → (each ≡ true → listed ≡ true)
+        → Closes text (listed_drains plan each listed drains || shut) state r → Closes text (listed_drains plan each each drains || shut) state r
+    turned drains state r listed true c e k l h = subst (λ b. Closes text (listed_drains plan each b drains || shut) state r) (l e ∙ sym e) h
+    turned drains state r listed false c e k l h =
+        let last : shut ≡ true = shuts e in
+        subst (λ c. Closes text (listed_drains plan each each drains || c) state r) (sym last)
+        (shut_either text state r (listed_drains plan each listed drains) (listed_drains plan each each drains)
+        (subst (λ c. Closes text (listed_drains plan each listed drains || c) state r) last h))
+
     -- at most so many, which are enough
     drains_end : (n : ℕ) (drains : List Handed) (state : State) (at : ℕ) (listed : Bool) → length drains ≤ n → IsNumbered state
-        → state.requests < 2 ^ 64 → AreDrains plan state drains → drop at text ≡ rest_drains listed state drains
-        → Ends (check.drained plan text n (reading_at at state listed) >>= check.closed plan text)
-    drains_end n [] state at listed enough numbered few d h =
-        subst (λ r. Ends (r >>= check.closed plan text)) (sym (stops n state at listed h)) (closed_ends listed state at h)
-    drains_end zero (handed ∷ more) state at listed enough numbered few d h = absurd (omega (arith, enough))
-    drains_end (suc n) (handed ∷ more) state at listed enough numbered few d h =
+        → state.requests < 2 ^ 64 → AreDrains plan state drains → at ≤ length text → drop at text ≡ rest_drains listed state drains
+        → Closes text (listed_drains plan each listed drains || shut) (run (run_of plan) state drains)
+        (check.drained plan text n (reading_at at state listed) >>= check.closed plan text)
+    drains_end n [] state at listed enough numbered few d w h =
+        subst (λ r. Closes text (listed || shut) state (r >>= check.closed plan text)) (sym (stops n state at listed h)) (closed_ends listed state at w shut h)
+    drains_end zero (handed ∷ more) state at listed enough numbered few d w h = absurd (omega (arith, enough))
+    drains_end (suc n) (handed ∷ more) state at listed enough numbered few d w h =
         let behind = step (run_of plan) state handed in
+        let last = run (run_of plan) behind more in
+        let Ends : Result ℕ Flaw → Type 0 = Closes text (listed_drains plan each each more || shut) last in
         let none : length handed.calls ≡ 0 = ap length d.0 in
         let numbers : state.requests + length handed.calls < 2 ^ 64 = omega (arith, none, few) in
+        let go : Reading → Result ℕ Flaw = λ r. check.drained plan text n r >>= check.closed plan text in
         subst (λ r. Ends (r >>= check.closed plan text)) (sym (goes n state at listed _ d.1 h))
-        (after_both (check.answered plan text (reading_at at state listed) []) (check.drained plan text n) (check.closed plan text)
-        (subst (λ calls. Ends (check.answered plan text (reading_at at state listed) calls >>= (λ r. check.drained plan text n r >>= check.closed plan text))) d.0
-        (answered state handed numbered numbers at listed (λ listed. rest_drains listed behind more) (λ r. check.drained plan text n r >>= check.closed plan text)
+        (after_both Ends (check.answered plan text (reading_at at state listed) []) (check.drained plan text n) (check.closed plan text)
+        (subst (λ calls. Ends (check.answered plan text (reading_at at state listed) calls >>= go)) d.0
+        (answered Ends state handed numbered numbers at listed (λ listed. rest_drains listed behind more) go
         (drains_tail behind more)
-        (λ l m k. drains_end n more behind m l (omega (arith, enough)) (keeps_numbers (run_of plan) state handed numbered) numbers d.2 k)
-        h)))
+        (λ l k m v g. turned more last (go (reading_at m behind l)) l each shut refl refl k
+        (drains_end n more behind m l (omega (arith, enough)) (keeps_numbers (run_of plan) state handed numbered) numbers d.2 v g))
+        w h)))
 
     -- ---- batches
 
@@ -217,44 +269,63 @@ module _ (plan : Plan) (each : Bool) where
     to_the_end script reading = check.batches plan text reading (calls_of script) >>= check.ended plan text
 
     ended_ends : (drains : List Handed) (state : State) (at : ℕ) (listed : Bool) → IsNumbered state → state.requests < 2 ^ 64
-        → AreDrains plan state drains → drop at text ≡ rest_drains listed state drains → Ends (check.ended plan text (reading_at at state listed))
-    ended_ends drains state at listed numbered few d h =
+        → AreDrains plan state drains → at ≤ length text → drop at text ≡ rest_drains listed state drains
+        → Closes text (listed_drains plan each listed drains || shut) (run (run_of plan) state drains) (check.ended plan text (reading_at at state listed))
+    ended_ends drains state at listed numbered few d w h =
         let left_over : length text - at ≡ length (rest_drains listed state drains) = sym (length-drop at text) ∙ ap length h in
         let short = drains_short drains listed state in
-        drains_end (length text) drains state at listed (omega (arith, left_over, short)) numbered few d h
+        drains_end (length text) drains state at listed (omega (arith, left_over, short)) numbered few d w h
 
     module _ (drains : List Handed) where
-      -- the rest of a script holds behind its first batch
+      -- how the rest of a script ends, from a state where a listing was read last or not
+      abbrev EndsFrom : List (ℕ × Handed) → State → Bool → Result ℕ Flaw → Type 0
+      EndsFrom script state listed =
+          Closes text (listed_drains plan each (listed_script plan each listed state script) drains || shut) (run (run_of plan) (left plan state script) drains)
+
+      turned_script : (script : List (ℕ × Handed)) (state : State) (r : Result ℕ Flaw) (listed b : Bool) → each ≡ b → (each ≡ true → listed ≡ true)
+          → EndsFrom script state listed r → EndsFrom script state each r
+      turned_script script state r listed true e l h = subst (λ b. EndsFrom script state b r) (l e ∙ sym e) h
+      turned_script script state r listed false e l h =
+          let last : shut ≡ true = shuts e in
+          let final = run (run_of plan) (left plan state script) drains in
+          let flag : Bool → Bool = λ b. listed_drains plan each (listed_script plan each b state script) drains in
+          subst (λ c. Closes text (flag each || c) final r) (sym last)
+          (shut_either text final r (flag listed) (flag each) (subst (λ c. Closes text (flag listed || c) final r) last h))
+
+      -- the rest of a script ends so behind its first batch
       abbrev Holding : List (ℕ × Handed) → Type 0
       Holding script = (state : State) (at : ℕ) (listed : Bool) → IsNumbered state → state.requests < 2 ^ 64 → HaveRoom plan state script
-          → AreDrains plan (left plan state script) drains → drop at text ≡ rest listed state script drains → Ends (to_the_end script (reading_at at state listed))
+          → AreDrains plan (left plan state script) drains → at ≤ length text → drop at text ≡ rest listed state script drains
+          → EndsFrom script state listed (to_the_end script (reading_at at state listed))
 
-      one_kept : (batch : ℕ × Handed) (more : List (ℕ × Handed)) (state : State) (at : ℕ) (listed : Bool) → ((n : ℕ) → drop n text ≡ rest false state more drains → Ends (to_the_end more (reading_at n state false)))
-          → drop at text ≡ kept_line batch.0 ∷ rest false state more drains
-          → Ends ((check.kept text (reading_at at state listed) batch.0 >>= (λ reading. check.batches plan text reading (calls_of more))) >>= check.ended plan text)
-      one_kept batch more state at listed on h =
-          let stands = stands_at text (kept_line batch.0) at (rest false state more drains) h in
-          subst (λ r. Ends (((r >>= (λ n. Ok (record (reading_at at state listed) { at = n; listed = false }))) >>= (λ reading. check.batches plan text reading (calls_of more))) >>= check.ended plan text))
-          (sym stands) (on (at + 1) (behind text at (kept_line batch.0) (rest false state more drains) h))
+      module _ (Ends : Result ℕ Flaw → Type 0) where
+        one_kept : (batch : ℕ × Handed) (more : List (ℕ × Handed)) (state : State) (at : ℕ) (listed : Bool)
+            → ((n : ℕ) → n ≤ length text → drop n text ≡ rest false state more drains → Ends (to_the_end more (reading_at n state false)))
+            → at ≤ length text → drop at text ≡ kept_line batch.0 ∷ rest false state more drains
+            → Ends ((check.kept text (reading_at at state listed) batch.0 >>= (λ reading. check.batches plan text reading (calls_of more))) >>= check.ended plan text)
+        one_kept batch more state at listed on w h =
+            let stands = stands_at text (kept_line batch.0) at (rest false state more drains) h in
+            subst (λ r. Ends (((r >>= (λ n. Ok (record (reading_at at state listed) { at = n; listed = false }))) >>= (λ reading. check.batches plan text reading (calls_of more))) >>= check.ended plan text))
+            (sym stands) (on (at + 1) (within (kept_line batch.0 ∷ []) (rest false state more drains) at w h) (behind text at (kept_line batch.0) (rest false state more drains) h))
 
-      one_run : (batch : ℕ × Handed) (more : List (ℕ × Handed)) (state : State) (at : ℕ) (listed : Bool) → IsNumbered state
-          → length state.waiting + length batch.1.calls ≤ MOST_REQUESTS → state.requests + length batch.1.calls < 2 ^ 64
-          → ((l : Bool) (n : ℕ) → drop n text ≡ rest l (step (run_of plan) state batch.1) more drains → Ends (to_the_end more (reading_at n (step (run_of plan) state batch.1) l)))
-          → drop at text ≡ batch_lines plan each state batch.1 ++ rest each (step (run_of plan) state batch.1) more drains
-          → Ends ((check.run plan text (reading_at at state listed) batch.1.calls >>= (λ reading. check.batches plan text reading (calls_of more))) >>= check.ended plan text)
-      one_run batch more state at listed numbered room few on h =
-          let behind = step (run_of plan) state batch.1 in
-          let taken : nat_lt MOST_REQUESTS (length state.waiting + length batch.1.calls) ≡ false
-          = false_from_ne_true (nat_lt MOST_REQUESTS (length state.waiting + length batch.1.calls)) (λ t. let above = ltb-true MOST_REQUESTS (length state.waiting + length batch.1.calls) t in omega (arith, room, above)) in
-          let runs : check.run plan text (reading_at at state listed) batch.1.calls ≡ check.answered plan text (reading_at at state listed) batch.1.calls
-          = otherwise (nat_lt MOST_REQUESTS (length state.waiting + length batch.1.calls)) _ _ taken in
-          subst (λ r. Ends ((r >>= (λ reading. check.batches plan text reading (calls_of more))) >>= check.ended plan text)) (sym runs)
-          (after_both (check.answered plan text (reading_at at state listed) batch.1.calls) (λ reading. check.batches plan text reading (calls_of more)) (check.ended plan text)
-          (answered state batch.1 numbered few at listed (λ l. rest l behind more drains) (to_the_end more) (tail_of behind more drains) on h))
+        one_run : (batch : ℕ × Handed) (more : List (ℕ × Handed)) (state : State) (at : ℕ) (listed : Bool) → IsNumbered state
+            → length state.waiting + length batch.1.calls ≤ MOST_REQUESTS → state.requests + length batch.1.calls < 2 ^ 64
+            → Goes_on Ends (λ l. rest l (step (run_of plan) state batch.1) more drains) (step (run_of plan) state batch.1) (to_the_end more)
+            → at ≤ length text → drop at text ≡ batch_lines plan each state batch.1 ++ rest each (step (run_of plan) state batch.1) more drains
+            → Ends ((check.run plan text (reading_at at state listed) batch.1.calls >>= (λ reading. check.batches plan text reading (calls_of more))) >>= check.ended plan text)
+        one_run batch more state at listed numbered room few on w h =
+            let behind = step (run_of plan) state batch.1 in
+            let taken : nat_lt MOST_REQUESTS (length state.waiting + length batch.1.calls) ≡ false
+            = false_from_ne_true (nat_lt MOST_REQUESTS (length state.waiting + length batch.1.calls)) (λ t. let above = ltb-true MOST_REQUESTS (length state.waiting + length batch.1.calls) t in omega (arith, room, above)) in
+            let runs : check.run plan text (reading_at at state listed) batch.1.calls ≡ check.answered plan text (reading_at at state listed) batch.1.calls
+            = otherwise (nat_lt MOST_REQUESTS (length state.waiting + length batch.1.calls)) _ _ taken in
+            subst (λ r. Ends ((r >>= (λ reading. check.batches plan text reading (calls_of more))) >>= check.ended plan text)) (sym runs)
+            (after_both Ends (check.answered plan text (reading_at at state listed) batch.1.calls) (λ reading. check.batches plan text reading (calls_of more)) (check.ended plan text)
+            (answered Ends state batch.1 numbered few at listed (λ l. rest l behind more drains) (to_the_end more) (tail_of behind more drains) on w h))
 
       script_ends : (script : List (ℕ × Handed)) → Holding script
-      script_ends [] state at listed numbered few room d h = ended_ends drains state at listed numbered few d h
-      script_ends (batch ∷ more) state at listed numbered few room d h = by (script_ends more) (is_kept state batch) room.0 room.1 d h
+      script_ends [] state at listed numbered few room d w h = ended_ends drains state at listed numbered few d w h
+      script_ends (batch ∷ more) state at listed numbered few room d w h = by (script_ends more) (is_kept state batch) room.0 room.1 d h
         where
           by : Holding more → (b : Bool)
               → (b ≡ false → (length state.waiting + length batch.1.calls ≤ MOST_REQUESTS) × (state.requests + length batch.1.calls < 2 ^ 64))
@@ -262,23 +333,26 @@ module _ (plan : Plan) (each : Bool) where
               → AreDrains plan (left plan (if b then state else step (run_of plan) state batch.1) more) drains
               → drop at text ≡ (if b then kept_line batch.0 ∷ [] else batch_lines plan each state batch.1)
               ++ rest (if b then false else each) (if b then state else step (run_of plan) state batch.1) more drains
-              → Ends ((cond b (check.kept text (reading_at at state listed) batch.0) (check.run plan text (reading_at at state listed) batch.1.calls)
+              → EndsFrom more (if b then state else step (run_of plan) state batch.1) (if b then false else each)
+              ((cond b (check.kept text (reading_at at state listed) batch.0) (check.run plan text (reading_at at state listed) batch.1.calls)
               >>= (λ reading. check.batches plan text reading (calls_of more))) >>= check.ended plan text)
-          by on true own room d h = one_kept batch more state at listed (λ n k. on state n false numbered few room d k) h
+          by on true own room d h = one_kept (EndsFrom more state false) batch more state at listed (λ n v k. on state n false numbered few room d v k) w h
           by on false own room d h =
               let bounds = own refl in
-              one_run batch more state at listed numbered bounds.0 bounds.1
-              (λ l n k. on (step (run_of plan) state batch.1) n l (keeps_numbers (run_of plan) state batch.1 numbered) bounds.1 room d k) h
+              let behind = step (run_of plan) state batch.1 in
+              one_run (EndsFrom more behind each) batch more state at listed numbered bounds.0 bounds.1
+              (λ l e n v k. turned_script more behind (to_the_end more (reading_at n behind l)) l each refl e
+              (on behind n l (keeps_numbers (run_of plan) state batch.1 numbered) bounds.1 room d v k)) w h
 
   -- ---- the whole
 
   drains_are : (drains : List Handed) (listed : Bool) (state : State)
-      → rest_drains listed state drains ≡ drain_lines plan each state drains ++ close_lines plan (listed_drains plan each listed drains) (run (run_of plan) state drains)
+      → rest_drains listed state drains ≡ drain_lines plan each state drains ++ close_lines plan shut (listed_drains plan each listed drains) (run (run_of plan) state drains)
   drains_are [] listed state = refl
   drains_are (handed ∷ more) listed state =
       let behind = step (run_of plan) state handed in
       ap (λ l. batch_lines plan each state handed ++ l) (drains_are more each behind)
-      ∙ sym (append_assoc (batch_lines plan each state handed) (drain_lines plan each behind more) (close_lines plan (listed_drains plan each each more) (run (run_of plan) behind more)))
+      ∙ sym (append_assoc (batch_lines plan each state handed) (drain_lines plan each behind more) (close_lines plan shut (listed_drains plan each each more) (run (run_of plan) behind more)))
 
   rest_is : (script : List (ℕ × Handed)) (drains : List Handed) (listed : Bool) (state : State)
       → rest listed state script drains ≡ script_lines plan each state script
@@ -304,27 +378,54 @@ never_script plan (batch ∷ more) state = by (is_kept state batch) (never_scrip
     by true h = h
     by false h = h
 
--- what follows all is the listing that has to stand there
+-- what follows all is the listing that has to stand there, or nothing where each answer has one
 closes : (plan : Plan) (each : Bool) (state last : State) (script : List (ℕ × Handed)) (drains : List Handed)
-    → (each ≡ true → ends_listed plan each state script drains ≡ true)
-    → (if each then [] else state_lines plan last) ≡ close_lines plan (ends_listed plan each state script drains) last
-closes plan true state last script drains h = ap (λ b. close_lines plan b last) (sym (h refl))
-closes plan false state last script drains h =
-    ap (λ b. close_lines plan b last) (sym (ap (λ now. listed_drains plan false now drains) (never_script plan script state) ∙ never_drains plan drains))
+    → (if each then [] else state_lines plan last) ≡ close_lines plan (not each) (ends_listed plan each state script drains) last
+closes plan true state last script drains = by (ends_listed plan true state script drains)
+  where
+    by : (b : Bool) → [] ≡ close_lines plan false b last
+    by true = refl
+    by false = refl
+closes plan false state last script drains =
+    ap (λ b. close_lines plan true b last) (sym (ap (λ now. listed_drains plan false now drains) (never_script plan script state) ∙ never_drains plan drains))
 
-pub own_report : (plan : Plan) (rule : Rule) (percent : ℕ) (rows : Database) (each : Bool) (script : List (ℕ × Handed)) (drains : List Handed)
-    → HaveRoom plan (fresh rule percent rows) script → AreDrains plan (left plan (fresh rule percent rows) script) drains
-    → (each ≡ true → ends_listed plan each (fresh rule percent rows) script drains ≡ true)
-    → check.finding plan (report plan each (fresh rule percent rows) script drains) rows (calls_of script) ≡ Holds
-own_report plan rule percent rows each script drains room d last =
-    let state = fresh rule percent rows in
-    let end = run (run_of plan) (left plan state script) drains in
-    let before = script_lines plan each state script in
-    let drained = drain_lines plan each (left plan state script) drains in
-    let same : report plan each state script drains ≡ rest plan each false state script drains
-    = append_assoc before drained (if each then [] else state_lines plan end)
-    ∙ ap (λ l. before ++ (drained ++ l)) (closes plan each state end script drains last)
-    ∙ ap (λ l. before ++ l) (sym (drains_are plan each drains (listed_script plan each false state script) (left plan state script)))
-    ∙ sym (rest_is plan each script drains false state) in
-    let ends = script_ends plan each (report plan each state script drains) drains script state 0 false (omega arith) (omega arith) room d same in
-    ap check.finding_of ends.1
+not_each : (each : Bool) → each ≡ false → not each ≡ true
+not_each each e = ap not e
+
+module _ (plan : Plan) (rule : Rule) (percent : ℕ) (rows : Database) (each : Bool) (script : List (ℕ × Handed)) (drains : List Handed)
+    (room : HaveRoom plan (fresh rule percent rows) script) (d : AreDrains plan (left plan (fresh rule percent rows) script) drains) where
+  abbrev text : List (List ℕ)
+  text = report plan each (fresh rule percent rows) script drains
+
+  abbrev final : State
+  final = run (run_of plan) (left plan (fresh rule percent rows) script) drains
+
+  ends : Closes text (ends_listed plan each (fresh rule percent rows) script drains || not each) final (check.whole plan text rows (calls_of script))
+  ends =
+      let state = fresh rule percent rows in
+      let before = script_lines plan each state script in
+      let drained = drain_lines plan each (left plan state script) drains in
+      let same : text ≡ rest plan each (not each) (not_each each) false state script drains
+      = append_assoc before drained (if each then [] else state_lines plan final)
+      ∙ ap (λ l. before ++ (drained ++ l)) (closes plan each state final script drains)
+      ∙ ap (λ l. before ++ l) (sym (drains_are plan each (not each) (not_each each) drains (listed_script plan each false state script) (left plan state script)))
+      ∙ sym (rest_is plan each (not each) (not_each each) script drains false state) in
+      script_ends plan each (not each) (not_each each) text drains script state 0 false (omega arith) (omega arith) room d (omega arith) same
+
+  pub own_report : (each ≡ true → ends_listed plan each (fresh rule percent rows) script drains ≡ true) → check.finding plan text rows (calls_of script) ≡ Holds
+  own_report last = by each refl (ends_listed plan each (fresh rule percent rows) script drains) refl ends
+    where
+      by : (b : Bool) → each ≡ b → (c : Bool) → ends_listed plan each (fresh rule percent rows) script drains ≡ c
+          → Closes text (c || not b) final (check.whole plan text rows (calls_of script)) → check.finding plan text rows (calls_of script) ≡ Holds
+      by b e true l h = ap check.finding_of h.1
+      by false e false l h = ap check.finding_of h.1
+      by true e false l h = let clash : true ≡ false = sym (last e) ∙ l in cc
+
+  pub open_report : each ≡ true → ends_listed plan each (fresh rule percent rows) script drains ≡ false
+      → check.finding plan text rows (calls_of script) ≡ Fails (length text + 1) (state_line final.batches) []
+  open_report e last =
+      let flag : (ends_listed plan each (fresh rule percent rows) script drains || not each) ≡ false = ap (λ b. b || not each) last ∙ ap not e in
+      let failed : check.whole plan text rows (calls_of script) ≡ Err (check.failing text (length text) (state_line final.batches))
+      = subst (λ b. Closes text b final (check.whole plan text rows (calls_of script))) flag ends in
+      ap check.finding_of failed
+      ∙ ap (λ o. Fails (length text + 1) (state_line final.batches) (unwrap_or o [])) (slice_get_past text (length text) (omega arith))

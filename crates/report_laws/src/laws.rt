@@ -6,7 +6,7 @@ ghost use Rattle.batch_core.specs.Serial.{IsNumbered};
 ghost use Rattle.batch_core.specs.Steps.{State, Handed};
 ghost use Rattle.batch_rules.specs.declared.verdicts.Rule.{Rule};
 ghost use Rattle.proc_lang.specs.Catalogs.{Plan};
-ghost use Rattle.report_laws.specs.Laws.{AnswerStands, OwnReport, PrintedLines};
+ghost use Rattle.report_laws.specs.Laws.{AnswerStands, OpenReport, OwnReport, PrintedLines};
 
 /// The answer of a batch, by whichever rule and with or without the late fold, stands where a report has it:
 /// its order names requests of the list, these end one after the other as printed, all others wait, and what
@@ -22,6 +22,12 @@ pub fn answer_stands()
 /// for its requests beside those that wait, as the check asks it, and request numbers are of 64 bits.
 pub fn own_report()
     ensures { (plan : Plan) (rule : Rule) (percent : ℕ) (rows : Database) → OwnReport plan rule percent rows }
+{}
+
+/// Where it follows each answer and no answer is printed last, the report does not hold: the script has no batch,
+/// or its last one was run before and nothing drains what waits.
+pub fn open_report()
+    ensures { (plan : Plan) (rule : Rule) (percent : ℕ) (rows : Database) → OpenReport plan rule percent rows }
 {}
 
 /// The printed text of an answer, of a listing, of a batch that was run before and of a batch with its listing is

@@ -4,4 +4,4 @@
 
 mod laws;
 
-pub use laws::{answer_stands, own_report, printed_lines};
+pub use laws::{answer_stands, open_report, own_report, printed_lines};
