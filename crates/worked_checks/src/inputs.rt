@@ -64,11 +64,11 @@ const CASES: [Case; 18] = [
     ),
 ];
 
-/// What is printed of an input that comes in pieces of so many bytes, and then the status.
-fn printed(alloc: Global, input: &str, piece: usize) -> Result<Vec<u8>, Fail>
+/// What is printed of an input, with a bar in the place of each line feed, that comes in pieces of so many bytes, and then the status.
+fn printed(alloc: Global, input: &[u8], piece: usize) -> Result<Vec<u8>, Fail>
     requires { 0 < piece }
 {
-    let bytes = changed(alloc, input.as_bytes(), b'|', b'\n')?;
+    let bytes = changed(alloc, input, b'|', b'\n')?;
     let mut input = MemSource::new(bytes, piece, Vec::new(alloc));
     let mut out = MemSink::new(alloc, 100_000, Vec::new(alloc))?;
     let status = match check_report(alloc, &mut input, &mut out) {
@@ -78,6 +78,21 @@ fn printed(alloc: Global, input: &str, piece: usize) -> Result<Vec<u8>, Fail>
     let mut found = changed(alloc, out.bytes(), b'\n', b'|')?;
     append_number(&mut found, status)?;
     Ok(found)
+}
+
+/// A batch of 10,000 requests and one of one more, with a report in which all requests of the first one wait.
+fn crowd(alloc: Global) -> Result<Vec<u8>, Fail> {
+    let mut text = Vec::from_slice(alloc, b"catalog bank|row acct 1 = 10|")?;
+    for _ in 0..10_000_u32 {
+        text.extend_from_slice(b"tx add 1 1|")?;
+    }
+    text.extend_from_slice(b"end 1|tx add 1 1|end 2|report|batch 1|")?;
+    for number in 1..10_001_u32 {
+        append_number(&mut text, number)?;
+        text.extend_from_slice(b" wait |")?;
+    }
+    text.extend_from_slice(b"order|end 1|")?;
+    Ok(text)
 }
 
 /// The bytes with one in the place of another.
@@ -94,7 +109,7 @@ fn all_printed(rt: &impl Abort, alloc: Global, piece: usize) -> Result<(), Fail>
     requires { 0 < piece }
 {
     for (input, wanted) in &CASES {
-        let found = printed(alloc, input, piece)?;
+        let found = printed(alloc, input.as_bytes(), piece)?;
         assert_eq!(rt; found.as_slice(), wanted.as_bytes(), "at {input}");
     }
     Ok(())
@@ -108,4 +123,12 @@ fn inputs_are_checked(rt: HostRuntime) -> Result<(), Fail> {
 #[test]
 fn pieces_have_no_say(rt: HostRuntime) -> Result<(), Fail> {
     all_printed(&rt, rt.alloc(), 7)
+}
+
+#[test]
+fn crowded_batches_are_refused_at_their_end(rt: HostRuntime) -> Result<(), Fail> {
+    let input = crowd(rt.alloc())?;
+    let found = printed(rt.alloc(), &input, 4096)?;
+    assert_eq!(&rt; found.as_slice(), b"refused 10005 batch|1".as_slice());
+    Ok(())
 }
