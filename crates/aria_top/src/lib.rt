@@ -21,6 +21,6 @@ mod summaries;
 mod tasks;
 mod tops;
 
-pub use serving::{Given, Live, serve_batch};
+pub use serving::{Given, Live, MOST_LOG, serve_batch};
 pub use statuses::{DISK_FAULT, DONE, FAILS, NO_MEMORY, READ_FAULT, REFUSED, USAGE, WRITE_FAULT};
 pub use tops::aria;
