@@ -3,7 +3,6 @@ use Rattle.std.proofs.Common.{◌≡◌, ◌∙◌, ◌⊎◌, inl, inr, sym, ap
 use Rattle.std.specs.Prelude.{Result, Ok, Err, OnOk}
 use Rattle.std.specs.List.{slice_get}
 use Rattle.std.proofs.KnownBytes.{Appends-nil}
-use Rattle.aria_base.specs.Faults.{Rose}
 use Rattle.aria_base.specs.Streams.{AppendsFront}
 use Rattle.aria_base.specs.declared.calls.Call.{Call}
 use Rattle.batch_core.specs.Steps.{State}
@@ -15,9 +14,9 @@ use Rattle.proc_lang.specs.Catalogs.{Plan}
 use Rattle.slot_images.specs.Images.{Checkpoint}
 use Rattle.aria_store.specs.Reopens.{Reopens, Found}
 use Rattle.aria_store.specs.Stands.{Kept, MayAdd, Stands, added}
-use Rattle.serving.specs.Given.{IsGivenCause, IsUntold, Tells}
+use Rattle.serving.specs.Given.{IsUntold, Tells}
 use Rattle.serving.specs.Lives.{IsNext, MayServe, next_handed, next_state, plan_of, state_of}
-use Rattle.serving.specs.Stored.{GoesOn, HasTaken, Holds, HoldsTurned, IsHeld, IsLogging, LeavesState, ReopensTo, ReopensToEither, due_by, is_due, logged, next_due, next_store, stored_state, told_by, turned_by}
+use Rattle.serving.specs.Stored.{GoesOn, HasTaken, Holds, HoldsTurned, IsHeld, IsLogging, LeavesState, ReopensTo, ReopensToEither, due_by, is_due, logged, next_due, next_store, stored_state, told_by, turned, turned_by}
 use Rattle.serving.specs.declared.batches.Given.{Given}
 use Rattle.serving.specs.declared.batches.Given.TheVariants as given
 use Rattle.serving.specs.declared.lives.Live.{Live}
@@ -41,9 +40,6 @@ of_first live first e P p =
     (subst (λ (state : State). P (plan_of live) state) (state_is live.config live.replicas first e) p)
 
 -- ---- the database with its batch in the log is the same but for the store
-
-pub may_logged : (live : Live) (calls : List Call) → MayServe live calls → MayServe (logged live calls) calls
-may_logged live calls h = record { fit = h.fit; room = h.room; batches = h.batches; requests = h.requests; percent = h.percent; workers = h.workers }
 
 next_logged : (live : Live) (calls : List Call) (next : Live) → IsNext (logged live calls) calls next → IsNext live calls next
 next_logged live calls next h = record {
@@ -94,9 +90,6 @@ module _ (live mid next : Live) (calls : List Call) (log : mid ≡ logged live c
   to_live : (P : Plan → State → Type 0) → P (plan_of next) (state_of next) → P (plan_of live) (next_state live calls)
   to_live P p = subst (λ (state : State). P (plan_of live) state) own.state (subst (λ (plan : Plan). P plan (state_of next)) own.plan p)
 
-  pub taken_next : (disk : History) → IfSome mid.store (HasTaken disk (next_state live calls).batches) → IfSome next.store (HasTaken disk (state_of next).batches)
-  taken_next disk h = to_next (λ plan state store. IfSome store (HasTaken disk state.batches)) h
-
   module _ (after : Live) (turn : after ≡ record next { store = turned_by (due_by next.checkpoint (state_of next).batches next.store) (state_of next) next.store }) where
     pub next_after : IsNext live calls after
     next_after = subst (λ (l : Live). IsNext live calls l) (sym turn)
@@ -104,9 +97,6 @@ module _ (live mid next : Live) (calls : List Call) (log : mid ≡ logged live c
 
     due_next : due_by next.checkpoint (state_of next).batches next.store ≡ next_due live calls
     due_next = λ i. due_by (own.checkpoint i) (own.state i).batches (store_next i)
-
-    pub store_after : after.store ≡ next_store live calls
-    store_after = ap (λ (l : Live). l.store) turn ∙ (λ i. turned_by (due_next i) (own.state i) (store_next i))
 
     module _ (old log_disk new : History) (c : Checkpoint) (later : List Batch)
         (logs : Holds old (plan_of live) (stored_state live) live.store c later → Holds log_disk (plan_of live) (next_state live calls) mid.store c (added later live.config.rule live.config.fallback calls))
@@ -197,28 +187,30 @@ module _ (live : Live) (first : Between) (e : slice_get live.replicas 0 ≡ Some
       (h.0, first_is live first e (λ plan state. IsHeld new plan state now h.0 []) h.1)
   turned_holds (Err why) old new now due h = tt
 
+  pub turned_is : {T E : Type 0} (result : Result T E) (now : Kept) → due_by live.checkpoint (state_of live).batches live.store ≡ true
+      → OnOk result (now ≡ turned true (state_in live.config first) store)
+      → OnOk result (with_store live (Some now) ≡ with_store live (turned_by (due_by live.checkpoint (state_of live).batches live.store) (state_of live) live.store))
+  turned_is (Ok done) now due h =
+      let same = state_is live.config live.replicas first e in
+      ap (λ (s : Option Kept). with_store live s) (ap (λ (k : Kept). Some k) h ∙ sym (λ i. turned_by (due i) (same i) (is i)))
+  turned_is (Err why) now due h = tt
+
+  pub turned_images : (old new : History) (c : Checkpoint) (later : List Batch)
+      → (IsHeld old first.plan (state_in live.config first) store c later → LeavesAll old new (ReopensTo first.plan (state_in live.config first)))
+      → Holds old (plan_of live) (state_of live) live.store c later → LeavesAll old new (ReopensTo (plan_of live) (state_of live))
+  turned_images old new c later all h =
+      first_is live first e (λ plan state. LeavesAll old new (ReopensTo plan state))
+      (all (of_first live first e (λ plan state. IsHeld old plan state store c later) (subst (λ (s : Option Kept). Holds old (plan_of live) (state_of live) s c later) is h)))
+
 -- ---- where it is not told
 
 module _ (text : List ℕ) (goes_on : Live → Type 0) (old new : Option (List ℕ)) where
-  pub untold_tells : {S D : Type 0} (why : Given) → IsUntold why S D → AppendsFront old new text → Tells text goes_on old new (None, why)
-  untold_tells given.Told h front = absurd h
-  untold_tells given.NoMemory h front = front
-  untold_tells given.NoWrite h front = front
-  untold_tells given.NoDisk h front = front
-
-pub untold_cause : {S D S' D' : Type 0} (why : Given) → IsUntold why S D → (S → S') → (D → D') → IsGivenCause why S' D'
-untold_cause given.Told h sink disk = absurd h
-untold_cause given.NoMemory h sink disk = tt
-untold_cause given.NoWrite h sink disk = sink h
-untold_cause given.NoDisk h sink disk = disk h
-
-pub not_told : (S D : Type 0) (why : Given) → IsUntold why S D → why ≡ given.Told → ⊥
-not_told S D why h e = subst (λ (w : Given). IsUntold w S D) e h
+  pub untold_tells : (S D : Type 0) (why : Given) → IsUntold why S D → AppendsFront old new text → Tells text goes_on old new (None, why)
+  untold_tells S D given.Told h front = absurd h
+  untold_tells S D given.NoMemory h front = front
+  untold_tells S D given.NoWrite h front = front
+  untold_tells S D given.NoDisk h front = front
 
 -- nothing was given
 pub none_given : (now : Option (List ℕ)) (text : List ℕ) → AppendsFront now now text
 none_given now text = (0, Appends-nil now)
-
--- a count that rose since a later moment rose since an earlier one
-pub rose_since : (a b c : ℕ) → a ≤ b → Rose b c → Rose a c
-rose_since a b c le rose = elim rose [ | inl up ↦ inl (omega (arith, le, up)) | inr last ↦ inr last ]

@@ -1,4 +1,4 @@
-use Rattle.std.proofs.Common.{◌≤◌, ◌-◌, length}
+use Rattle.std.proofs.Common.{◌≡◌, ◌≤◌, ◌-◌, length}
 use Rattle.script_course.specs.Served.{Leads}
 use Rattle.serving.specs.Drains.{drained, drains}
 use Rattle.serving.specs.Lives.{IsLike, plan_of, state_of}
