@@ -24,5 +24,5 @@ mod tops;
 pub use script_course::{
     DISK_FAULT, DONE, FAILS, NO_MEMORY, READ_FAULT, REFUSED, USAGE, WRITE_FAULT,
 };
-pub use serving::{Given, Live, serve_batch};
+pub use serving::{Given, Live, MOST_LOG, serve_batch};
 pub use tops::aria;

@@ -1,0 +1,216 @@
+-- A batch in the log, its answer, and the checkpoint behind it, put together.
+use Rattle.std.proofs.Common.{◌≡◌, ◌∙◌, ◌⊎◌, inl, inr, sym, ap, subst, refl, ℕ, ◌≤◌, ◌<◌, List, [], ◌∷◌, ◌++◌, length, Bool, true, Option, Some, None, IfSome, arith}
+use Rattle.std.specs.Prelude.{Result, Ok, Err, OnOk}
+use Rattle.std.specs.List.{slice_get}
+use Rattle.std.proofs.KnownBytes.{Appends-nil}
+use Rattle.aria_base.specs.Streams.{AppendsFront}
+use Rattle.aria_base.specs.declared.calls.Call.{Call}
+use Rattle.batch_core.specs.Steps.{State}
+use Rattle.batch_engine.specs.Engines.{Between, state_in}
+use Rattle.disk_model.specs.Histories.{History, MayLeave, LeavesAll}
+use Rattle.disk_model.proofs.Spans.{leaves_more, leaves_still, leaves_then, still_none}
+use Rattle.image_text.specs.Payloads.{Batch}
+use Rattle.proc_lang.specs.Catalogs.{Plan}
+use Rattle.slot_images.specs.Images.{Checkpoint}
+use Rattle.aria_store.specs.Reopens.{Reopens, Found}
+use Rattle.aria_store.specs.Stands.{Kept, MayAdd, Stands, added}
+use Rattle.serving.specs.Given.{IsUntold, Tells}
+use Rattle.serving.specs.Lives.{IsNext, MayServe, next_handed, next_state, plan_of, state_of}
+use Rattle.serving.specs.Stored.{GoesOn, HasTaken, Holds, HoldsTurned, IsHeld, IsLogging, LeavesState, ReopensTo, ReopensToEither, due_by, is_due, logged, next_due, next_store, stored_state, told_by, turned, turned_by}
+use Rattle.serving.specs.declared.batches.Given.{Given}
+use Rattle.serving.specs.declared.batches.Given.TheVariants as given
+use Rattle.serving.specs.declared.lives.Live.{Live}
+use Rattle.serving.proofs.Nexts.{plan_is, state_is}
+use Rattle.serving.proofs.Storing.{held_leaves, log_held, log_leaves, may_add}
+
+-- ---- the first engine stands for the database
+
+-- what is said of it holds of the database
+pub first_is : (live : Live) (first : Between) → slice_get live.replicas 0 ≡ Some first → (P : Plan → State → Type 0)
+    → P first.plan (state_in live.config first) → P (plan_of live) (state_of live)
+first_is live first e P p =
+    subst (λ (plan : Plan). P plan (state_of live)) (sym (plan_is live.replicas first e))
+    (subst (λ (state : State). P first.plan state) (sym (state_is live.config live.replicas first e)) p)
+
+-- and what is said of the database holds of it
+pub of_first : (live : Live) (first : Between) → slice_get live.replicas 0 ≡ Some first → (P : Plan → State → Type 0)
+    → P (plan_of live) (state_of live) → P first.plan (state_in live.config first)
+of_first live first e P p =
+    subst (λ (plan : Plan). P plan (state_in live.config first)) (plan_is live.replicas first e)
+    (subst (λ (state : State). P (plan_of live) state) (state_is live.config live.replicas first e) p)
+
+-- ---- the database with its batch in the log is the same but for the store
+
+next_logged : (live : Live) (calls : List Call) (next : Live) → IsNext (logged live calls) calls next → IsNext live calls next
+next_logged live calls next h = record {
+  engines = h.engines;
+  count = h.count;
+  plan = h.plan;
+  state = h.state;
+  config = h.config;
+  each = h.each;
+  checkpoint = h.checkpoint;
+  runnable = h.runnable;
+  serial = h.serial;
+}
+
+abbrev with_store : Live → Option Kept → Live
+with_store live store = record live { store = store }
+
+-- another store makes no other batch
+next_with : (live : Live) (calls : List Call) (next : Live) (store : Option Kept) → IsNext live calls next → IsNext live calls (with_store next store)
+next_with live calls next store h =
+    let r = h.runnable in
+    record {
+      engines = h.engines;
+      count = h.count;
+      plan = h.plan;
+      state = h.state;
+      config = h.config;
+      each = h.each;
+      checkpoint = h.checkpoint;
+      runnable = record { few = r.few; batches_within = r.batches_within; requests_within = r.requests_within; percent = r.percent; workers = r.workers };
+      serial = h.serial;
+    }
+
+module _ (live mid next : Live) (calls : List Call) (log : mid ≡ logged live calls) (is : IsNext mid calls next) (same : next.store ≡ mid.store) where
+  own : IsNext (logged live calls) calls next
+  own = subst (λ (l : Live). IsNext l calls next) log is
+
+  store_next : next.store ≡ (logged live calls).store
+  store_next = same ∙ ap (λ (l : Live). l.store) log
+
+  -- what holds of the logged database holds of the one behind the batch
+  to_next : (P : Plan → State → Option Kept → Type 0) → P (plan_of live) (next_state live calls) mid.store → P (plan_of next) (state_of next) next.store
+  to_next P p =
+      subst (λ (store : Option Kept). P (plan_of next) (state_of next) store) (sym same)
+      (subst (λ (state : State). P (plan_of next) state mid.store) (sym own.state)
+      (subst (λ (plan : Plan). P plan (next_state live calls) mid.store) (sym own.plan) p))
+
+  to_live : (P : Plan → State → Type 0) → P (plan_of next) (state_of next) → P (plan_of live) (next_state live calls)
+  to_live P p = subst (λ (state : State). P (plan_of live) state) own.state (subst (λ (plan : Plan). P plan (state_of next)) own.plan p)
+
+  module _ (after : Live) (turn : after ≡ record next { store = turned_by (due_by next.checkpoint (state_of next).batches next.store) (state_of next) next.store }) where
+    pub next_after : IsNext live calls after
+    next_after = subst (λ (l : Live). IsNext live calls l) (sym turn)
+        (next_with live calls next (turned_by (due_by next.checkpoint (state_of next).batches next.store) (state_of next) next.store) (next_logged live calls next own))
+
+    due_next : due_by next.checkpoint (state_of next).batches next.store ≡ next_due live calls
+    due_next = λ i. due_by (own.checkpoint i) (own.state i).batches (store_next i)
+
+    module _ (old log_disk new : History) (c : Checkpoint) (later : List Batch)
+        (logs : Holds old (plan_of live) (stored_state live) live.store c later → Holds log_disk (plan_of live) (next_state live calls) mid.store c (added later live.config.rule live.config.fallback calls))
+        (h : Holds old (plan_of live) (stored_state live) live.store c later) where
+      pub holds_after : (Holds log_disk (plan_of next) (state_of next) next.store c (added later live.config.rule live.config.fallback calls)
+          → HoldsTurned (due_by next.checkpoint (state_of next).batches next.store) new (plan_of next) (state_of next) after.store c (added later live.config.rule live.config.fallback calls))
+          → HoldsTurned (next_due live calls) new (plan_of live) (next_state live calls) after.store c (added later live.config.rule live.config.fallback calls)
+      holds_after turns =
+          subst (λ (due : Bool). HoldsTurned due new (plan_of live) (next_state live calls) after.store c (added later live.config.rule live.config.fallback calls)) due_next
+          (to_live (λ plan state. HoldsTurned (due_by next.checkpoint (state_of next).batches next.store) new plan state after.store c (added later live.config.rule live.config.fallback calls))
+          (turns (to_next (λ plan state store. Holds log_disk plan state store c (added later live.config.rule live.config.fallback calls)) (logs h))))
+
+  -- ---- the images of both calls
+
+  module _ (old log_disk new : History) (c : Checkpoint) (later : List Batch)
+      (logs : Holds old (plan_of live) (stored_state live) live.store c later → Holds log_disk (plan_of live) (next_state live calls) mid.store c (added later live.config.rule live.config.fallback calls))
+      (turns : Holds log_disk (plan_of next) (state_of next) next.store c (added later live.config.rule live.config.fallback calls) → LeavesAll log_disk new (ReopensTo (plan_of next) (state_of next)))
+      (h : Holds old (plan_of live) (stored_state live) live.store c later) where
+    turned_leaves : LeavesAll log_disk new (ReopensTo (plan_of live) (next_state live calls))
+    turned_leaves = to_live (λ plan state. LeavesAll log_disk new (ReopensTo plan state))
+        (turns (to_next (λ plan state store. Holds log_disk plan state store c (added later live.config.rule live.config.fallback calls)) (logs h)))
+
+    pub images_after : LeavesAll old log_disk (ReopensToEither (plan_of live) (stored_state live) (next_state live calls))
+        → LeavesAll old new (ReopensToEither (plan_of live) (stored_state live) (next_state live calls))
+    images_after before =
+        leaves_then old log_disk new (ReopensToEither (plan_of live) (stored_state live) (next_state live calls)) before
+        (leaves_more log_disk new (ReopensTo (plan_of live) (next_state live calls)) (ReopensToEither (plan_of live) (stored_state live) (next_state live calls)) turned_leaves (λ images is_after. inr is_after))
+
+    pub left_after : LeavesState new (plan_of live) (next_state live calls)
+    left_after images left = turned_leaves.each new.now turned_leaves.later (omega arith) images left
+
+-- ---- the batch in the log
+
+module _ (live : Live) (calls : List Call) (may : MayServe live calls) (store : Kept) (is : live.store ≡ Some store) (catalog : Plan) (p : catalog ≡ plan_of live)
+    (old : History) (c : Checkpoint) (later : List Batch) (h : Holds old (plan_of live) (stored_state live) live.store c later) where
+  here : IsHeld old (plan_of live) (told_by (Some store) (state_of live)) store c later
+  here = subst (λ (s : Option Kept). Holds old (plan_of live) (told_by s (state_of live)) s c later) is h
+
+  may_here : MayAdd catalog (length calls) c later
+  may_here = subst (λ (q : Plan). MayAdd q (length calls) c later) (sym p)
+      (may_add old (plan_of live) (state_of live) store (next_handed live calls) c later here (omega (arith, may.room)) may.batches may.requests)
+
+  pub logged_holds : (new : History) (now : Kept)
+      → (Stands old store c later → MayAdd catalog (length calls) c later → Stands new now c (added later live.config.rule live.config.fallback calls))
+      → IsHeld new (plan_of live) (next_state live calls) now c (added later live.config.rule live.config.fallback calls)
+  logged_holds new now stands =
+      log_held old (plan_of live) (state_of live) store (next_handed live calls) c later here new now (stands here.stands may_here)
+
+  pub logged_leaves : (new : History)
+      → (Stands old store c later → MayAdd catalog (length calls) c later
+      → LeavesAll old new (λ images. Reopens images (Found c later) ⊎ Reopens images (Found c (added later live.config.rule live.config.fallback calls))))
+      → LeavesAll old new (ReopensToEither (plan_of live) (stored_state live) (next_state live calls))
+  logged_leaves new all =
+      subst (λ (s : Option Kept). LeavesAll old new (ReopensToEither (plan_of live) (told_by s (state_of live)) (next_state live calls))) (sym is)
+      (log_leaves old (plan_of live) (state_of live) store (next_handed live calls) c later here new (all here.stands may_here))
+
+-- a database with a store may log where its store goes on
+pub open_store : (live : Live) (store : Kept) → live.store ≡ Some store → (disk : History) → IsLogging disk live → store.files.closed ≡ None
+open_store live store is disk h =
+    let goes : IfSome (Some store) (GoesOn disk (state_of live).batches) = subst (λ (s : Option Kept). IfSome s (GoesOn disk (state_of live).batches)) is h in
+    goes.open_yet
+
+-- what is held is what a stop now leaves
+pub holds_leaves : (disk : History) (plan : Plan) (state : State) (store : Option Kept) (c : Checkpoint) (later : List Batch) → Holds disk plan state store c later → LeavesState disk plan state
+holds_leaves disk plan state None c later h = absurd h
+holds_leaves disk plan state (Some store) c later h = held_leaves disk plan state store c later h
+
+-- ---- where no call is made, and where a checkpoint is laid
+
+pub still_leaves : (disk : History) (plan : Plan) (state : State) (store : Option Kept) (c : Checkpoint) (later : List Batch) → Holds disk plan state store c later
+    → LeavesAll disk disk (ReopensTo plan state)
+still_leaves disk plan state store c later h =
+    leaves_still disk disk (ReopensTo plan state) (still_none disk) (holds_leaves disk plan state store c later h)
+
+module _ (live : Live) (first : Between) (e : slice_get live.replicas 0 ≡ Some first) (store : Kept) (is : live.store ≡ Some store) where
+  pub due_here : (on : Bool) (number bytes : ℕ) → on ≡ is_due live.checkpoint number bytes → number ≡ first.batches → bytes ≡ store.files.at
+      → due_by live.checkpoint (state_of live).batches live.store ≡ on
+  due_here on number bytes told n b =
+      let count : (state_of live).batches ≡ first.batches = ap (λ (s : State). s.batches) (state_is live.config live.replicas first e) in
+      (λ i. due_by live.checkpoint (count i) (is i)) ∙ sym (told ∙ (λ i. is_due live.checkpoint (n i) (b i)))
+
+  pub turned_holds : {T E : Type 0} (result : Result T E) (old new : History) (now : Kept) → due_by live.checkpoint (state_of live).batches live.store ≡ true
+      → OnOk result ((d : Checkpoint) × IsHeld new first.plan (state_in live.config first) now d [])
+      → OnOk result ((c : Checkpoint) (later : List Batch) → Holds old (plan_of live) (state_of live) live.store c later
+      → HoldsTurned (due_by live.checkpoint (state_of live).batches live.store) new (plan_of live) (state_of live) (Some now) c later)
+  turned_holds (Ok done) old new now due h = λ c later held.
+      subst (λ (b : Bool). HoldsTurned b new (plan_of live) (state_of live) (Some now) c later) (sym due)
+      (h.0, first_is live first e (λ plan state. IsHeld new plan state now h.0 []) h.1)
+  turned_holds (Err why) old new now due h = tt
+
+  pub turned_is : {T E : Type 0} (result : Result T E) (now : Kept) → due_by live.checkpoint (state_of live).batches live.store ≡ true
+      → OnOk result (now ≡ turned true (state_in live.config first) store)
+      → OnOk result (with_store live (Some now) ≡ with_store live (turned_by (due_by live.checkpoint (state_of live).batches live.store) (state_of live) live.store))
+  turned_is (Ok done) now due h =
+      let same = state_is live.config live.replicas first e in
+      ap (λ (s : Option Kept). with_store live s) (ap (λ (k : Kept). Some k) h ∙ sym (λ i. turned_by (due i) (same i) (is i)))
+  turned_is (Err why) now due h = tt
+
+  pub turned_images : (old new : History) (c : Checkpoint) (later : List Batch)
+      → (IsHeld old first.plan (state_in live.config first) store c later → LeavesAll old new (ReopensTo first.plan (state_in live.config first)))
+      → Holds old (plan_of live) (state_of live) live.store c later → LeavesAll old new (ReopensTo (plan_of live) (state_of live))
+  turned_images old new c later all h =
+      first_is live first e (λ plan state. LeavesAll old new (ReopensTo plan state))
+      (all (of_first live first e (λ plan state. IsHeld old plan state store c later) (subst (λ (s : Option Kept). Holds old (plan_of live) (state_of live) s c later) is h)))
+
+-- ---- where it is not told
+
+module _ (text : List ℕ) (goes_on : Live → Type 0) (old new : Option (List ℕ)) where
+  pub untold_tells : (S D : Type 0) (why : Given) → IsUntold why S D → AppendsFront old new text → Tells text goes_on old new (None, why)
+  untold_tells S D given.Told h front = absurd h
+  untold_tells S D given.NoMemory h front = front
+  untold_tells S D given.NoWrite h front = front
+  untold_tells S D given.NoDisk h front = front
+
+-- nothing was given
+pub none_given : (now : Option (List ℕ)) (text : List ℕ) → AppendsFront now now text
+none_given now text = (0, Appends-nil now)
