@@ -1,5 +1,5 @@
 -- A batch in the log, its answer, and the checkpoint behind it, put together.
-use Rattle.std.proofs.Common.{◌≡◌, ◌∙◌, ◌⊎◌, inl, inr, sym, ap, subst, refl, ℕ, ◌≤◌, ◌<◌, List, [], ◌∷◌, ◌++◌, length, Bool, true, Option, Some, None, IfSome, arith}
+use Rattle.std.proofs.Common.{◌≡◌, ◌∙◌, ◌⊎◌, inr, sym, ap, subst, ℕ, List, [], length, Bool, true, Option, Some, None, IfSome, arith}
 use Rattle.std.specs.Prelude.{Result, Ok, Err, OnOk}
 use Rattle.std.specs.List.{slice_get}
 use Rattle.std.proofs.KnownBytes.{Appends-nil}
@@ -7,7 +7,7 @@ use Rattle.aria_base.specs.Streams.{AppendsFront}
 use Rattle.aria_base.specs.declared.calls.Call.{Call}
 use Rattle.batch_core.specs.Steps.{State}
 use Rattle.batch_engine.specs.Engines.{Between, state_in}
-use Rattle.disk_model.specs.Histories.{History, MayLeave, LeavesAll}
+use Rattle.disk_model.specs.Histories.{History, LeavesAll}
 use Rattle.disk_model.proofs.Spans.{leaves_more, leaves_still, leaves_then, still_none}
 use Rattle.image_text.specs.Payloads.{Batch}
 use Rattle.proc_lang.specs.Catalogs.{Plan}
@@ -16,7 +16,7 @@ use Rattle.aria_store.specs.Reopens.{Reopens, Found}
 use Rattle.aria_store.specs.Stands.{Kept, MayAdd, Stands, added}
 use Rattle.serving.specs.Given.{IsUntold, Tells}
 use Rattle.serving.specs.Lives.{IsNext, MayServe, next_handed, next_state, plan_of, state_of}
-use Rattle.serving.specs.Stored.{GoesOn, HasTaken, Holds, HoldsTurned, IsHeld, IsLogging, LeavesState, ReopensTo, ReopensToEither, due_by, is_due, logged, next_due, next_store, stored_state, told_by, turned, turned_by}
+use Rattle.serving.specs.Stored.{GoesOn, Holds, HoldsTurned, IsHeld, IsLogging, LeavesState, ReopensTo, ReopensToEither, due_by, is_due, logged, next_due, stored_state, told_by, turned, turned_by}
 use Rattle.serving.specs.declared.batches.Given.{Given}
 use Rattle.serving.specs.declared.batches.Given.TheVariants as given
 use Rattle.serving.specs.declared.lives.Live.{Live}

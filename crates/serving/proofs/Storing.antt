@@ -1,6 +1,5 @@
 -- What a store holds is the state of the database, batch by batch.
-use Rattle.std.proofs.Common.{◌≡◌, ◌∙◌, ◌⊎◌, inl, inr, sym, ap, subst, refl, ℕ, ◌+◌, ◌<◌, ◌≤◌, List, [], ◌∷◌, ◌++◌, length, map, Option, Some, None, arith}
-use Rattle.aria_base.specs.declared.calls.Call.{Call}
+use Rattle.std.proofs.Common.{◌≡◌, ◌∙◌, ◌⊎◌, inl, inr, sym, ap, subst, refl, ℕ, ◌+◌, ◌<◌, ◌≤◌, List, [], ◌∷◌, ◌++◌, length, map, Some, arith}
 use Rattle.aria_base.specs.declared.calls.Request.{Request}
 use Rattle.aria_base.specs.declared.keys.Key.{Key}
 use Rattle.aria_base.specs.declared.limits.TheConstants.{MOST_REQUESTS}
@@ -11,7 +10,7 @@ use Rattle.batch_engine.specs.Engines.{Between, IsReady, state_in, most_numbered
 use Rattle.batch_rules.specs.Trees.{Tree}
 use Rattle.checkpoint.specs.declared.heads.Head.{Head}
 use Rattle.dep_rules.specs.declared.configs.Config.{Config}
-use Rattle.disk_model.specs.Histories.{History, MayLeave, LeavesAll}
+use Rattle.disk_model.specs.Histories.{History, LeavesAll}
 use Rattle.disk_model.proofs.Spans.{leaves_more}
 use Rattle.image_text.specs.Payloads.{Batch}
 use Rattle.proc_lang.specs.Catalogs.{Plan, run_of}

@@ -1,5 +1,5 @@
 // The next batch of a database, given to a sink.
-ghost use Rattle.std.specs.Prelude.{◌≡◌, ◌≤◌, List, None, IfOk, IfErr};
+ghost use Rattle.std.specs.Prelude.{◌≡◌, ◌≢◌, ◌≤◌, List, None, IfOk, IfErr};
 ghost use Rattle.std.specs.Io.KnownBytes.{Appends};
 ghost use Rattle.aria_base.specs.Faults.{Rose};
 ghost use Rattle.aria_base.specs.Streams.{AppendsFront};
@@ -8,6 +8,7 @@ ghost use Rattle.image_text.specs.Payloads.{Batch};
 ghost use Rattle.slot_images.specs.Images.{Checkpoint};
 ghost use Rattle.aria_store.specs.Stands.{added};
 ghost use Rattle.serving.specs.Given.{Tells, IfTold, IsAnswered, IsGivenCause, IsUntold};
+ghost use Rattle.serving.specs.declared.batches.Given.TheVariants as given;
 ghost use Rattle.serving.specs.Lives.{MayServe, IsNext, next_state, next_text, plan_of};
 ghost use Rattle.serving.specs.Stored.{MayLog, IsLogging, Holds, HoldsTurned, ReopensToEither, LeavesState, stored_state, next_due, next_store};
 
@@ -61,6 +62,7 @@ pub fn serve_batch<K: Sink, D: Disk, P: Pace + Sync, R: Threads + Sync>(
     ensures images { (c : Checkpoint) (later : List Batch) → Holds (D.history disk.old) (plan_of live) (stored_state live) live.store c later → LeavesAll (D.history disk.old) (D.history disk.new) (ReopensToEither (plan_of live) (stored_state live) (next_state live new.items)) }
     ensures answered { (c : Checkpoint) (later : List Batch) → Holds (D.history disk.old) (plan_of live) (stored_state live) live.store c later → IsAnswered (K.given out.old) (K.given out.new) result.1 → LeavesState (D.history disk.new) (plan_of live) (next_state live new.items) }
     ensures untouched { live.store ≡ None → disk.new ≡ disk.old }
+    ensures storeless { live.store ≡ None → result.1 ≢ given.NoDisk }
     ensures sink { K.faults out.old ≤ K.faults out.new }
     ensures disk { IfTold result (λ _. (D.history disk.old).faults ≤ (D.history disk.new).faults) }
     ensures cause { IsGivenCause result.1 (Rose (K.faults out.old) (K.faults out.new)) (Rose (D.history disk.old).faults (D.history disk.new).faults) }

@@ -1,5 +1,5 @@
 // The next checkpoint behind a batch, where one is due.
-ghost use Rattle.std.specs.Prelude.{◌≡◌, ◌≤◌, None, true, [], List, IfErr, IfSome, OnOk};
+ghost use Rattle.std.specs.Prelude.{◌≡◌, ◌≤◌, None, true, [], List, IfErr, IfSome, IsOk, OnOk};
 ghost use Rattle.aria_base.specs.Faults.{Rose};
 ghost use Rattle.batch_engine.specs.Engines.{most_numbered, state_in};
 ghost use Rattle.disk_model.specs.Histories.{LeavesAll};
@@ -35,6 +35,7 @@ pub(crate) fn rotate_where_due<D: Disk>(
     ensures holds { OnOk result ((c : Checkpoint) (later : List Batch) → Holds (D.history disk.old) (plan_of live.old) (state_of live.old) live.old.store c later → HoldsTurned (due_by live.old.checkpoint (state_of live.old).batches live.old.store) (D.history disk.new) (plan_of live.old) (state_of live.old) live.new.store c later) }
     ensures images { (c : Checkpoint) (later : List Batch) → Holds (D.history disk.old) (plan_of live.old) (state_of live.old) live.old.store c later → LeavesAll (D.history disk.old) (D.history disk.new) (ReopensTo (plan_of live.old) (state_of live.old)) }
     ensures untouched { live.old.store ≡ None → disk.new ≡ disk.old }
+    ensures storeless { live.old.store ≡ None → IsOk result }
     ensures disk { OnOk result ((D.history disk.old).faults ≤ (D.history disk.new).faults) }
     ensures cause { IfErr result (λ why. IsUntold why ⊥ (Rose (D.history disk.old).faults (D.history disk.new).faults)) }
 {

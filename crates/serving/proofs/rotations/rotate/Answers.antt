@@ -1,12 +1,10 @@
-use Rattle.std.proofs.Common.{◌≡◌, ◌≤◌, ap, sym, subst, ℕ, true, List}
+use Rattle.std.proofs.Common.{◌≡◌, ◌≤◌, sym, subst, ℕ, true, List}
 use Rattle.std.specs.List.{All}
 use Rattle.aria_base.specs.Orders.{Database}
 use Rattle.aria_base.specs.Schemas.{IsConsistent}
 use Rattle.aria_base.specs.declared.calls.Request.{Request}
-use Rattle.batch_core.specs.Serial.{RiseWithin}
 use Rattle.batch_engine.specs.Engines.{most_numbered}
 use Rattle.proc_lang.specs.Catalogs.{Plan, takes}
-use Rattle.slot_images.specs.Images.{MayCarry}
 use Rattle.store_files.specs.Stores.{next_head}
 use Rattle.serving.proofs.Storing.{carries, rotate_held, rotate_leaves}
 use Rattle.serving.proofs.rotations.rotate.Goals as goal

@@ -1,6 +1,5 @@
-use Rattle.std.proofs.Common.{◌≡◌, ◌∙◌, Bool, true, arith}
+use Rattle.std.proofs.Common.{◌≡◌, ◌∙◌, true, arith}
 use Rattle.serving.specs.Lives.{plan_of, state_of}
-use Rattle.serving.specs.Stored.{due_by}
 use Rattle.serving.proofs.Served.{due_here, still_leaves, turned_holds, turned_images, turned_is}
 use Rattle.serving.proofs.rotations.rotate_where_due.Goals as goal
 
@@ -12,7 +11,7 @@ pub returns-clause-holds : goal.returns-clause-holds
 returns-clause-holds g c =
     let on : c.rotation_due.result ≡ true = grind (arith, c.if-not-rotation_due.false) in
     let due = due_here c.args.live.now c.first-engine.result.now c.first-engine.ensures.first c.in-Some.store c.in-Some.is c.rotation_due.result c.batches.result c.log_len.result
-        c.rotation_due.ensures c.batches.ensures c.log_len.ensures in
+    c.rotation_due.ensures c.batches.ensures c.log_len.ensures in
     turned_holds c.args.live.now c.first-engine.result.now c.first-engine.ensures.first c.in-Some.store c.in-Some.is c.rotate.result
     (g.D.Disk.history c.args.disk.now) (g.D.Disk.history c.rotate.new.disk) c.rotate.new.store (due ∙ on) c.rotate.ensures.holds
 
@@ -20,7 +19,7 @@ pub returns-clause-turned : goal.returns-clause-turned
 returns-clause-turned g c =
     let on : c.rotation_due.result ≡ true = grind (arith, c.if-not-rotation_due.false) in
     let due = due_here c.args.live.now c.first-engine.result.now c.first-engine.ensures.first c.in-Some.store c.in-Some.is c.rotation_due.result c.batches.result c.log_len.result
-        c.rotation_due.ensures c.batches.ensures c.log_len.ensures in
+    c.rotation_due.ensures c.batches.ensures c.log_len.ensures in
     turned_is c.args.live.now c.first-engine.result.now c.first-engine.ensures.first c.in-Some.store c.in-Some.is c.rotate.result c.rotate.new.store (due ∙ on) c.rotate.ensures.turned
 
 pub returns-clause-images : goal.returns-clause-images
