@@ -1,4 +1,4 @@
-// The audit of order entry, and summaries of workloads, through the top call.
+// The audit of order entry, the check of reports, and summaries of workloads, through the top call.
 use crate::runs::{Case, Row, all_end, run};
 use aria_base::Free;
 use aria_top::{DONE, FAILS};
@@ -50,6 +50,23 @@ const AUDITS: [Row; 8] = [
     ),
 ];
 
+/// A report that holds, one with a wrong reply, and none at all.
+const CHECKS: [Row; 3] = [
+    (
+        "check",
+        "catalog bank\nrow acct 1 = 10\ntx add 1 5\nend 1\nreport\nbatch 1\n1 ok 15\norder 1\nend 1\nstate 1\nrow acct 1 = 15\nend state\n",
+        DONE,
+        "check holds\n",
+    ),
+    (
+        "check",
+        "catalog bank\nrow acct 1 = 10\ntx add 1 5\nend 1\nreport\nbatch 1\n1 ok 16\norder 1\nend 1\nstate 1\nrow acct 1 = 16\nend state\n",
+        FAILS,
+        "check fails 2\nwanted 1 ok 15\nfound 1 ok 16\n",
+    ),
+    ("check", "", FAILS, "check fails 1\nwanted state 0\nfound\n"),
+];
+
 /// Workloads that read alone, so that nobody waits and every column stays 0.
 const BENCHES: [Row; 2] = [
     (
@@ -75,6 +92,11 @@ const CONTENDED: [&str; 2] = [
 #[test]
 fn audits_find_the_first_failure(rt: HostRuntime) -> Result<(), Fail> {
     all_end(&rt, &AUDITS)
+}
+
+#[test]
+fn reports_are_checked(rt: HostRuntime) -> Result<(), Fail> {
+    all_end(&rt, &CHECKS)
 }
 
 #[test]
