@@ -1,0 +1,99 @@
+-- What the end of a head comes to, by whether a gate was open.
+use Rattle.std.proofs.Common.{◌≡◌, ◌≢◌, ◌∙◌, ◌⊎◌, inl, inr, sym, subst, refl, ℕ, Bool, true, false, List, Option, Some, None}
+use Rattle.std.specs.Prelude.{not, ◌&&◌, if◌then◌else◌, Result, Ok, Err, IfSome}
+use Rattle.std.specs.Option.{IsSomeAnd}
+use Rattle.answer_text.specs.Notices.{ready_text, refused_text}
+use Rattle.answer_text.specs.declared.notices.Refused.TheVariants.{StoreExists}
+use Rattle.checkpoint.specs.Slots.{is_open}
+use Rattle.command_words.specs.declared.settings.Init.{Init}
+use Rattle.disk_model.proofs.Spans.{still_none}
+use Rattle.disk_model.specs.Files.{File}
+use Rattle.disk_model.specs.Histories.{History, current, Still}
+use Rattle.script_course.proofs.Turns.{front_none}
+use Rattle.script_course.specs.Courses.{Out}
+use Rattle.script_course.specs.Served.{Finishes}
+use Rattle.script_course.specs.declared.stops.Stop.{Stop}
+use Rattle.script_course.specs.declared.stops.Stop.TheVariants as stop
+use Rattle.script_places.specs.declared.places.Place.{Place}
+use Rattle.script_text.specs.declared.refusals.Kind8.{Kind8}
+use Rattle.store_files.specs.Attachments.{IsTaken}
+use Rattle.aria_store.specs.Causes.{HasGate}
+use Rattle.store_commands.specs.Inits.{Ends, closed_by, on_end, store_out}
+use Rattle.store_commands.specs.declared.drafts.Draft.{Draft}
+use Rattle.store_commands.specs.declared.statuses.TheConstants.{DONE, REFUSED_STORE}
+
+-- ---- the gates
+
+gate : (told : Option File) → IfSome told (λ f. is_open f.seen ≡ false) ⊎ IsSomeAnd told (λ f. is_open f.seen ≡ true)
+gate None = inl tt
+gate (Some f) = elim (is_open f.seen) as (λ b. (b ≡ false) ⊎ (b ≡ true)) [ true ↦ inr refl | false ↦ inl refl ]
+
+some_is : (told : Option File) → IsSomeAnd told (λ f. is_open f.seen ≡ true) → IfSome told (λ f. is_open f.seen ≡ true)
+some_is None h = absurd h
+some_is (Some f) h = h
+
+abbrev Looked : History → Type 0
+Looked disk = (taken : Bool) × IsTaken disk taken × (taken ≡ true → HasGate disk)
+
+-- a gate is open, or both are closed; where a file is not told, either is true of it
+pub looked : (disk : History) → Looked disk
+looked disk = elim (gate (current disk 0)) [
+  | inr first ↦ (true, inl (some_is (current disk 0) first), λ e. inl first)
+  | inl shut ↦ elim (gate (current disk 1)) [
+    | inr second ↦ (true, inr (some_is (current disk 1) second), λ e. inr second)
+    | inl both ↦ (false, (shut, both), λ e. absurd (cc e))
+  ]
+]
+
+-- ---- a head that was read to its end
+
+abbrev choice : Bool → Out
+choice refused =
+    if refused then (record { bytes = refused_text StoreExists; status = REFUSED_STORE }) else (record { bytes = ready_text; status = DONE })
+
+forgiven : (taken over : Bool) → over ≡ true → taken && not over ≡ false
+forgiven true over e = rw e refl
+forgiven false over e = refl
+
+kept : (over : Bool) → over ≡ false → true && not over ≡ true
+kept over e = rw e refl
+
+module _ (settings : Init) (was is : History) (old new : Option (List ℕ)) (result : Result ℕ Stop) where
+  abbrev By : Bool → Type 0
+  By refused = Finishes (choice refused) old new result × ((choice refused).status ≢ DONE → Still was is)
+
+  ends_by : (taken : Bool) → IsTaken was taken → By (taken && not settings.over) → Ends (store_out settings) was is old new result
+  ends_by taken looks by = record { taken = taken; looked = looks; finishes = by.0; unwritten = by.1 }
+
+  made_by : (over : Bool) → settings.over ≡ over → (settings.over ≡ false → IsTaken was false) → By false → Ends (store_out settings) was is old new result
+  made_by true e free by = let l = looked was in ends_by l.0 l.1 (subst By (sym (forgiven l.0 settings.over e)) by)
+  made_by false e free by = ends_by false (free e) by
+
+  -- the store was made
+  pub ends_made : (settings.over ≡ false → IsTaken was false) → Finishes (choice false) old new result → Ends (store_out settings) was is old new result
+  ends_made free all = made_by settings.over refl free (all, λ other. absurd (other refl))
+
+  -- there was one that may not be written over
+  pub ends_kept : settings.over ≡ false → IsTaken was true → Still was is → Finishes (choice true) old new result → Ends (store_out settings) was is old new result
+  ends_kept off taken still all = ends_by true taken (subst By (sym (kept settings.over off)) (all, λ other. still))
+
+  cut_by : (taken over : Bool) → (taken ≡ true → HasGate was) → (over ≡ false → HasGate was → Still was is) → ((refused : Bool) → Finishes (choice refused) old new result)
+      → By (taken && not over)
+  cut_by true true open_gate unwritten all = (all false, λ other. absurd (other refl))
+  cut_by true false open_gate unwritten all = (all true, λ other. unwritten refl (open_gate refl))
+  cut_by false over open_gate unwritten all = (all false, λ other. absurd (other refl))
+
+  -- it was cut off
+  pub ends_cut : (settings.over ≡ false → HasGate was → Still was is) → ((refused : Bool) → Finishes (choice refused) old new result) → Ends (store_out settings) was is old new result
+  ends_cut unwritten all = let l = looked was in ends_by l.0 l.1 (cut_by l.0 settings.over l.2 unwritten all)
+
+-- ---- the end of a head
+
+-- the end is refused, or it was cut off before the store was looked at
+pub ends_untouched : (out : Bool → Out) (was : History) (old new : Option (List ℕ)) (result : Result ℕ Stop) → ((taken : Bool) → Finishes (out taken) old new result) → Ends out was was old new result
+ends_untouched out was old new result all = let l = looked was in record { taken = l.0; looked = l.1; finishes = all l.0; unwritten = λ other. still_none was }
+
+pub ends_closed : (settings : Init) (d : Draft) (closed : Result Place Kind8) (place : Place) (was is : History) (old new : Option (List ℕ)) (result : Result ℕ Stop) → closed ≡ Ok place
+    → Ends (store_out settings) was is old new result → Ends (λ taken. closed_by settings taken d closed) was is old new result
+ends_closed settings d closed place was is old new result e ends =
+    subst (λ (r : Result Place Kind8). Ends (λ taken. closed_by settings taken d r) was is old new result) (sym e) ends
