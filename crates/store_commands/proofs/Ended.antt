@@ -10,15 +10,19 @@ use Rattle.disk_model.proofs.Spans.{still_none}
 use Rattle.disk_model.specs.Files.{File}
 use Rattle.disk_model.specs.Histories.{History, current, Still}
 use Rattle.script_course.proofs.Turns.{front_none}
-use Rattle.script_course.specs.Courses.{Out}
-use Rattle.script_course.specs.Served.{Finishes}
+use Rattle.script_course.specs.Courses.{Out, Stops, status_of}
+use Rattle.script_course.specs.Served.{Finishes, Serves}
 use Rattle.script_course.specs.declared.stops.Stop.{Stop}
 use Rattle.script_course.specs.declared.stops.Stop.TheVariants as stop
 use Rattle.script_places.specs.declared.places.Place.{Place}
+use Rattle.script_places.specs.Places.{closing}
+use Rattle.script_text.specs.Lines.{line_after}
 use Rattle.script_text.specs.declared.refusals.Kind8.{Kind8}
+use Rattle.script_text.specs.declared.refusals.Refusal.{Refusal}
+use Rattle.answer_text.specs.Refusals.{refusal_text}
 use Rattle.store_files.specs.Attachments.{IsTaken}
 use Rattle.aria_store.specs.Causes.{HasGate}
-use Rattle.store_commands.specs.Inits.{Ends, closed_by, on_end, store_out}
+use Rattle.store_commands.specs.Inits.{Ends, Leaves, closed_by, on_end, store_out}
 use Rattle.store_commands.specs.declared.drafts.Draft.{Draft}
 use Rattle.store_commands.specs.declared.statuses.TheConstants.{DONE, REFUSED_STORE}
 
@@ -47,7 +51,7 @@ looked disk = elim (gate (current disk 0)) [
 
 -- ---- a head that was read to its end
 
-abbrev choice : Bool → Out
+abbrev pub choice : Bool → Out
 choice refused =
     if refused then (record { bytes = refused_text StoreExists; status = REFUSED_STORE }) else (record { bytes = ready_text; status = DONE })
 
@@ -93,7 +97,33 @@ module _ (settings : Init) (was is : History) (old new : Option (List ℕ)) (res
 pub ends_untouched : (out : Bool → Out) (was : History) (old new : Option (List ℕ)) (result : Result ℕ Stop) → ((taken : Bool) → Finishes (out taken) old new result) → Ends out was was old new result
 ends_untouched out was old new result all = let l = looked was in record { taken = l.0; looked = l.1; finishes = all l.0; unwritten = λ other. still_none was }
 
-pub ends_closed : (settings : Init) (d : Draft) (closed : Result Place Kind8) (place : Place) (was is : History) (old new : Option (List ℕ)) (result : Result ℕ Stop) → closed ≡ Ok place
-    → Ends (store_out settings) was is old new result → Ends (λ taken. closed_by settings taken d closed) was is old new result
-ends_closed settings d closed place was is old new result e ends =
-    subst (λ (r : Result Place Kind8). Ends (λ taken. closed_by settings taken d r) was is old new result) (sym e) ends
+served : (bytes : List ℕ) (old new : Option (List ℕ)) (result : Result ℕ Stop) → Serves (Stops bytes) old new result
+    → Finishes (record { bytes = bytes; status = status_of stop.Refused }) old new result
+served bytes old new (Ok n) h = absurd h
+served bytes old new (Err stop.Refused) h = (refl, h)
+served bytes old new (Err stop.NoMemory) h = h
+served bytes old new (Err stop.NoWrite) h = h
+served bytes old new (Err stop.NoDisk) h = h
+served bytes old new (Err stop.NoRead) h = absurd h
+
+pub refused_all : (settings : Init) (d : Draft) (refusal : Refusal) (old new : Option (List ℕ)) (result : Result ℕ Stop) → refusal.line ≡ line_after d.place.lines
+    → closing d.place ≡ Err refusal.kind → Serves (Stops (refusal_text refusal)) old new result → (taken : Bool) → Finishes (on_end settings taken d) old new result
+refused_all settings d refusal old new result at is serves taken =
+    subst (λ (r : Result Place Kind8). Finishes (closed_by settings taken d r) old new result) (sym is)
+    (subst (λ (n : ℕ). Finishes (record { bytes = refusal_text (record { line = n; kind = refusal.kind }); status = status_of stop.Refused }) old new result) at
+    (served (refusal_text refusal) old new result serves))
+
+-- ---- what is left of the disk
+
+pub leaves_made : {D : Type 0} (history : D → History) (was is : D) (old new : Option (List ℕ)) (result : Result ℕ Stop) → Finishes (choice false) old new result → result ≢ Err stop.NoRead
+    → Leaves history was is result
+leaves_made history was is old new (Ok ending) all read = λ e. let wrong : DONE ≡ REFUSED_STORE = all.0 ∙ e in absurd (cc wrong)
+leaves_made history was is old new (Err stop.Refused) all read = let wrong : DONE ≡ status_of stop.Refused = all.0 in absurd (cc wrong)
+leaves_made history was is old new (Err stop.NoMemory) all read = tt
+leaves_made history was is old new (Err stop.NoWrite) all read = tt
+leaves_made history was is old new (Err stop.NoDisk) all read = tt
+leaves_made history was is old new (Err stop.NoRead) all read = absurd (read refl)
+
+pub ready_given : (bytes : List ℕ) (old new : Option (List ℕ)) (result : Result ℕ Stop) → bytes ≡ ready_text → Finishes (record { bytes = bytes; status = DONE }) old new result
+    → Finishes (choice false) old new result
+ready_given bytes old new result is all = subst (λ (l : List ℕ). Finishes (record { bytes = l; status = DONE }) old new result) is all

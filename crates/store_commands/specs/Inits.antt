@@ -71,12 +71,12 @@ pub record IsMade (settings : Init) (left : Option (List ℕ)) (disk : History) 
   pub said : IfSome left (λ text. said_by text ≡ Some values)
   pub holds : IsMadeOf settings values disk
 
--- Where all was done the store is made. Where no store was made, and memory wanted, nothing was written; and where the head was
--- not read to its end, no call was made on the disk.
+-- Where a store stood that may not be written over, nothing was written; and where the head was not read to its end, no call was
+-- made on the disk.
 abbrev pub StoppedOn : {D : Type 0} → (D → History) → D → D → Stop → Type 0
 StoppedOn history old new stop.Refused = new ≡ old
 StoppedOn history old new stop.NoRead = new ≡ old
-StoppedOn history old new stop.NoMemory = Still (history old) (history new)
+StoppedOn history old new stop.NoMemory = Unit {0}
 StoppedOn history old new stop.NoWrite = Unit {0}
 StoppedOn history old new stop.NoDisk = Unit {0}
 

@@ -21,7 +21,6 @@ use aria_store::{Image, Store, StoreRefused};
 use command_words::Init;
 use disk_model::Disk;
 use proc_lang::Catalog;
-
 use run_commands::{LONGEST_LINE, MOST_BYTES};
 use script_course::{Stop, end_with, read_through, refuse};
 use script_places::{Head, closes};
