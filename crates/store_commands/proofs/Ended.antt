@@ -9,21 +9,13 @@ use Rattle.command_words.specs.declared.settings.Init.{Init}
 use Rattle.disk_model.proofs.Spans.{still_none}
 use Rattle.disk_model.specs.Files.{File}
 use Rattle.disk_model.specs.Histories.{History, current, Still}
-use Rattle.script_course.proofs.Turns.{front_none}
-use Rattle.script_course.specs.Courses.{Out, Stops, status_of}
-use Rattle.script_course.specs.Served.{Finishes, Serves}
+use Rattle.script_course.specs.Courses.{Out, status_of}
+use Rattle.script_course.specs.Served.{Finishes}
 use Rattle.script_course.specs.declared.stops.Stop.{Stop}
 use Rattle.script_course.specs.declared.stops.Stop.TheVariants as stop
-use Rattle.script_places.specs.declared.places.Place.{Place}
-use Rattle.script_places.specs.Places.{closing}
-use Rattle.script_text.specs.Lines.{line_after}
-use Rattle.script_text.specs.declared.refusals.Kind8.{Kind8}
-use Rattle.script_text.specs.declared.refusals.Refusal.{Refusal}
-use Rattle.answer_text.specs.Refusals.{refusal_text}
 use Rattle.store_files.specs.Attachments.{IsTaken}
 use Rattle.aria_store.specs.Causes.{HasGate}
-use Rattle.store_commands.specs.Inits.{Ends, Leaves, closed_by, on_end, store_out}
-use Rattle.store_commands.specs.declared.drafts.Draft.{Draft}
+use Rattle.store_commands.specs.Inits.{Ends, Leaves, store_out}
 use Rattle.store_commands.specs.declared.statuses.TheConstants.{DONE, REFUSED_STORE}
 
 -- ---- the gates
@@ -96,22 +88,6 @@ module _ (settings : Init) (was is : History) (old new : Option (List ℕ)) (res
 -- the end is refused, or it was cut off before the store was looked at
 pub ends_untouched : (out : Bool → Out) (was : History) (old new : Option (List ℕ)) (result : Result ℕ Stop) → ((taken : Bool) → Finishes (out taken) old new result) → Ends out was was old new result
 ends_untouched out was old new result all = let l = looked was in record { taken = l.0; looked = l.1; finishes = all l.0; unwritten = λ other. still_none was }
-
-served : (bytes : List ℕ) (old new : Option (List ℕ)) (result : Result ℕ Stop) → Serves (Stops bytes) old new result
-    → Finishes (record { bytes = bytes; status = status_of stop.Refused }) old new result
-served bytes old new (Ok n) h = absurd h
-served bytes old new (Err stop.Refused) h = (refl, h)
-served bytes old new (Err stop.NoMemory) h = h
-served bytes old new (Err stop.NoWrite) h = h
-served bytes old new (Err stop.NoDisk) h = h
-served bytes old new (Err stop.NoRead) h = absurd h
-
-pub refused_all : (settings : Init) (d : Draft) (refusal : Refusal) (old new : Option (List ℕ)) (result : Result ℕ Stop) → refusal.line ≡ line_after d.place.lines
-    → closing d.place ≡ Err refusal.kind → Serves (Stops (refusal_text refusal)) old new result → (taken : Bool) → Finishes (on_end settings taken d) old new result
-refused_all settings d refusal old new result at is serves taken =
-    subst (λ (r : Result Place Kind8). Finishes (closed_by settings taken d r) old new result) (sym is)
-    (subst (λ (n : ℕ). Finishes (record { bytes = refusal_text (record { line = n; kind = refusal.kind }); status = status_of stop.Refused }) old new result) at
-    (served (refusal_text refusal) old new result serves))
 
 -- ---- what is left of the disk
 

@@ -1,5 +1,5 @@
 -- A head as a whole: what was read of it, and its end.
-use Rattle.std.proofs.Common.{◌≡◌, ◌≢◌, subst, ap, sym, refl, ℕ, Bool, List, Option, Some, None}
+use Rattle.std.proofs.Common.{◌≡◌, ◌≢◌, subst, ap, sym, ℕ, Bool, List, Option, Some, None}
 use Rattle.std.specs.Prelude.{Result, Ok, Err, IfSome}
 use Rattle.std.specs.Option.{IsSomeAnd}
 use Rattle.aria_base.specs.Orders.{Database}
@@ -10,7 +10,7 @@ use Rattle.proc_lang.specs.Catalogs.{Plan}
 use Rattle.script_course.proofs.Ends.{completes_on, completes_cut}
 use Rattle.script_course.proofs.Turns.{front_none}
 use Rattle.script_course.specs.Courses.{Course, Goes, Stops, ended, told, told_whole}
-use Rattle.script_course.specs.Served.{Comes, Completes, Finishes, IsGoing, Reaches}
+use Rattle.script_course.specs.Served.{Comes, IsGoing, Reaches}
 use Rattle.script_course.specs.declared.stops.Stop.{Stop}
 use Rattle.script_course.specs.declared.stops.Stop.TheVariants as stop
 use Rattle.script_places.specs.Places.{closing}

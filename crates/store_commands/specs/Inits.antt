@@ -1,5 +1,5 @@
 -- The command `init`: what it prints, and what it leaves of the disk.
-use Rattle.std.specs.Prelude.{◌≡◌, ◌≢◌, ℕ, Bool, true, false, not, ◌&&◌, if◌then◌else◌, List, [], Option, Some, Result, Ok, Err, IfSome}
+use Rattle.std.specs.Prelude.{◌≡◌, ◌≢◌, ℕ, Bool, not, ◌&&◌, if◌then◌else◌, List, [], Option, Some, Result, Ok, Err, IfSome}
 use Rattle.aria_base.specs.Orders.{Database}
 use Rattle.answer_text.specs.Notices.{ready_text, refused_text}
 use Rattle.answer_text.specs.declared.notices.Refused.TheVariants.{StoreExists}

@@ -1,7 +1,9 @@
+use Rattle.std.proofs.Common.{rules, Bool}
 use Rattle.script_course.proofs.Turns.{front_none}
+use Rattle.script_course.specs.Served.{Finishes}
 use Rattle.store_commands.specs.Inits.{on_end}
 use Rattle.store_commands.proofs.Drafted.{closed_under}
-use Rattle.store_commands.proofs.Ended.{ends_untouched, refused_all}
+use Rattle.store_commands.proofs.Ended.{ends_untouched}
 use Rattle.store_commands.proofs.inits.close.Goals as goal
 
 pub make-requires-clause-rows : goal.make-requires-clause-rows
@@ -15,6 +17,5 @@ returns-in-Err-Memory-clause-ends g c =
 
 pub returns-clause-ends : goal.returns-clause-ends
 returns-clause-ends g c =
-    ends_untouched (λ taken. on_end c.args.settings.now taken c.args.last) (g.D.Disk.history c.args.disk.now) (g.K.Sink.given c.args.out.now) (g.K.Sink.given c.refuse.new.out) c.refuse.result
-    (refused_all c.args.settings.now c.args.last c.in-Err-Line.refusal (g.K.Sink.given c.args.out.now) (g.K.Sink.given c.refuse.new.out) c.refuse.result
-    c.in-Err-Line.ensures.0 c.in-Err-Line.ensures.1 c.refuse.ensures.serves)
+    let all : (taken : Bool) → Finishes (on_end c.args.settings.now taken c.args.last) (g.K.Sink.given c.args.out.now) (g.K.Sink.given c.refuse.new.out) c.refuse.result = λ taken. search rules in
+    ends_untouched (λ taken. on_end c.args.settings.now taken c.args.last) (g.D.Disk.history c.args.disk.now) (g.K.Sink.given c.args.out.now) (g.K.Sink.given c.refuse.new.out) c.refuse.result all

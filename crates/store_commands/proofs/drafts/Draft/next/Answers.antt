@@ -1,5 +1,5 @@
 use Rattle.std.proofs.Common.{sym, subst}
-use Rattle.store_commands.specs.Drafts.{IsFitting, MayDo, done, no_counts}
+use Rattle.store_commands.specs.Drafts.{IsFitting, MayDo, no_counts}
 use Rattle.store_commands.specs.declared.drafts.Draft.{Draft}
 use Rattle.store_commands.proofs.Drafted.{done_fits, may_do}
 use Rattle.store_commands.proofs.drafts.Draft.next.Goals as goal
