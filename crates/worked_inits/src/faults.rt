@@ -34,7 +34,14 @@ fn a_sink_that_fails_is_named(rt: HostRuntime) -> Result<(), Fail> {
         ..smooth(HEAD)
     };
     ends(&rt, &USUAL, &case, &mut disk, 4, "")?;
-    ends(&rt, &USUAL, &smooth(HEAD), &mut disk, 6, "refused store exists\n")?;
+    ends(
+        &rt,
+        &USUAL,
+        &smooth(HEAD),
+        &mut disk,
+        6,
+        "refused store exists\n",
+    )?;
     ends(&rt, &USUAL, &case, &mut disk, 4, "")?;
     let mut disk = empty_disk(alloc, 0)?;
     let case = Case {

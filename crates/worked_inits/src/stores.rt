@@ -8,13 +8,14 @@ use std::process::Abort;
 use std::test::Fail;
 
 const READY: &str = "ready\n";
+
 const EXISTS: &str = "refused store exists\n";
 
 /// A checkpoint's 40 bytes in front of a body of 39 bytes: the gate, the letters, format 2, rule and
 /// fallback, generation 1, no batches, no requests, and the body's length.
 const FRONT: [u8; 40] = [
-    1, 65, 82, 73, 65, 2, 1, 101, 1, 0, 0, 0, 0, 0, 0, 0, 0, 0, 0, 0, 0, 0, 0, 0, 0, 0, 0, 0, 0, 0, 0,
-    0, 39, 0, 0, 0, 0, 0, 0, 0,
+    1, 65, 82, 73, 65, 2, 1, 101, 1, 0, 0, 0, 0, 0, 0, 0, 0, 0, 0, 0, 0, 0, 0, 0, 0, 0, 0, 0, 0, 0,
+    0, 0, 39, 0, 0, 0, 0, 0, 0, 0,
 ];
 
 /// The body of no tables, no procedures and no rows.
@@ -23,6 +24,7 @@ const BODY: &str = "catalog text\n:{\"procs\":[],\"tables\":[]}\n";
 /// A head whose catalogue is a text and whose rows are out of order, and the body of its checkpoint.
 const SEATS: &str =
     "catalog text\n:{\"tables\":[{\"name\":\"t\",\"key\":[\"int\"],\n:\"cols\":[\"int\"]}],\"procs\":[]}\n\nrow t 2 = 5\nrow t 1 = 4\nrow t 2 = 6";
+
 const SEATS_BODY: &str =
     "catalog text\n:{\"procs\":[],\"tables\":[{\"cols\":[\"int\"],\"key\":[\"int\"],\"name\":\"t\"}]}\nrow t 1 = 4\nrow t 2 = 6\n";
 
@@ -127,7 +129,10 @@ const REFUSED: [(&str, &str); 12] = [
     ("catalog bank\nsettings plain 1\n", "refused 2 place\n"),
     ("catalog bank\nreport\n", "refused 2 place\n"),
     ("catalog text\n:{", "refused 3 catalog json\n"),
-    ("catalog bank\nrow acct 1 = 1\nrow acct 2 = \t", "refused 3 byte\n"),
+    (
+        "catalog bank\nrow acct 1 = 1\nrow acct 2 = \t",
+        "refused 3 byte\n",
+    ),
 ];
 
 #[test]
