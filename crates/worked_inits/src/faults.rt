@@ -60,12 +60,14 @@ fn a_disk_that_fails_is_named(rt: HostRuntime) -> Result<(), Fail> {
     for settings in [USUAL, OVER] {
         let mut smoothly = empty_disk(alloc, 0)?;
         ends(&rt, &settings, &smooth(HEAD), &mut smoothly, 0, READY)?;
-        for failing in 1..smoothly.calls() + 1 {
+        let calls = smoothly.calls();
+        for before in 0..calls {
+            let failing = before + 1;
             let mut disk = empty_disk(alloc, failing)?;
             ends(&rt, &settings, &smooth(HEAD), &mut disk, 5, "")?;
             same(&rt, &failing, &disk.calls(), &failing);
         }
-        let mut disk = empty_disk(alloc, smoothly.calls() + 1)?;
+        let mut disk = empty_disk(alloc, calls.saturating_add(1))?;
         let (status, _) = outcome(alloc, &settings, &smooth(HEAD), &mut disk)?;
         same(&rt, &"the last call", &status, &0);
     }
