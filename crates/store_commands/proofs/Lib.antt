@@ -1,0 +1,3 @@
+mod Drafted
+mod Ended
+mod Whole

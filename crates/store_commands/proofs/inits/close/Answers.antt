@@ -1,0 +1,21 @@
+use Rattle.std.proofs.Common.{rules, Bool}
+use Rattle.script_course.proofs.Turns.{front_none}
+use Rattle.script_course.specs.Served.{Finishes}
+use Rattle.store_commands.specs.Inits.{on_end}
+use Rattle.store_commands.proofs.Drafted.{closed_under}
+use Rattle.store_commands.proofs.Ended.{ends_untouched}
+use Rattle.store_commands.proofs.inits.close.Goals as goal
+
+pub make-requires-clause-rows : goal.make-requires-clause-rows
+make-requires-clause-rows g c =
+    closed_under c.args.last.place.head c.in-Ok.place.head c.args.last.tables c.requires.fitting (c.closes.ensures c.args.last.place c.in-Ok.place c.in-Ok.ensures)
+
+pub returns-in-Err-Memory-clause-ends : goal.returns-in-Err-Memory-clause-ends
+returns-in-Err-Memory-clause-ends g c =
+    ends_untouched (λ taken. on_end c.args.settings.now taken c.args.last) (g.D.Disk.history c.args.disk.now) (g.K.Sink.given c.args.out.now) (g.K.Sink.given c.args.out.now) _
+    (λ taken. front_none (g.K.Sink.given c.args.out.now) (on_end c.args.settings.now taken c.args.last).bytes)
+
+pub returns-clause-ends : goal.returns-clause-ends
+returns-clause-ends g c =
+    let all : (taken : Bool) → Finishes (on_end c.args.settings.now taken c.args.last) (g.K.Sink.given c.args.out.now) (g.K.Sink.given c.refuse.new.out) c.refuse.result = λ taken. search rules in
+    ends_untouched (λ taken. on_end c.args.settings.now taken c.args.last) (g.D.Disk.history c.args.disk.now) (g.K.Sink.given c.args.out.now) (g.K.Sink.given c.refuse.new.out) c.refuse.result all

@@ -1,0 +1,100 @@
+// A new database between two lines of its head.
+ghost use Rattle.std.specs.Prelude.{◌≡◌, IfOk};
+ghost use Rattle.store_commands.specs.Drafts as drafts;
+ghost use Rattle.store_commands.specs.Drafts.{IsFitting, MayDo, Moves};
+
+use aria_base::{Memory, Sink};
+use script_course::{Reads, Stop, refuse};
+use script_places::{Counts, Deed, Mode, Place, follows};
+use script_text::LinesRefused;
+use std::alloc::Global;
+use tbl_rows::Tables;
+
+/// A new database between two lines of its head.
+#[derive(Drop)]
+pub struct Draft {
+    /// Where the reading stands.
+    pub place: Place,
+    /// The rows so far.
+    pub tables: Tables,
+}
+
+/// No batch was run.
+const NO_COUNTS: Counts = Counts {
+    batches: 0,
+    requests: 0,
+    waiting: 0,
+};
+
+impl Draft {
+    /// Before the first line.
+    pub(crate) fn start(alloc: Global) -> Result<Draft, Memory>
+        ensures { IfOk result (λ draft. draft ≡ drafts.start) }
+    {
+        let tables = Tables::new(alloc)?;
+        let place = Place::start(Mode::Init);
+        Ok(Draft { place, tables })
+    }
+
+    /// With what a line asks for. A head has no batches, so that all that is not refused and is no row is
+    /// nothing, or the catalogue's.
+    fn with(self, deed: Deed) -> Result<Draft, Memory>
+        requires { MayDo self deed }
+        ensures done { IfOk result (λ next. next ≡ drafts.done self deed) }
+    {
+        let Draft { place, mut tables } = self;
+        match deed {
+            Deed::Put(key, row) => {
+                tables.put(key, row)?;
+                Ok(Draft { place, tables })
+            }
+            Deed::Nothing
+            | Deed::Call(_)
+            | Deed::Set { .. }
+            | Deed::Keep(_)
+            | Deed::Run
+            | Deed::Tell => Ok(Draft { place, tables }),
+        }
+    }
+
+    /// Behind the next line, which prints nothing; or the refusal of the line.
+    fn next(self, alloc: Global, line: &[u8]) -> Result<Draft, LinesRefused>
+        requires { IsFitting self }
+        ensures moves { Moves (drafts.on_line self line.now) result }
+        ensures fitting { IfOk result IsFitting }
+    {
+        let Draft { place, tables } = self;
+        let (place, deed) = place.ask(alloc, NO_COUNTS, line)?;
+        follows();
+        let behind = Draft { place, tables };
+        let next = behind.with(deed)?;
+        Ok(next)
+    }
+}
+
+impl Reads<()> for Draft {
+    ghost on_line = { drafts.on_line };
+
+    // Its rows fit its catalogue.
+    ghost held = { λ draft _ _. IsFitting draft };
+
+    ghost left = { λ _ _ _ _. Unit {0} };
+
+    ghost disk_faults = { λ _. 0 };
+
+    ghost leaves = { λ _ _ _ _ _ _ _ _. tt };
+
+    fn line<K: Sink>(
+        self,
+        alloc: Global,
+        line: &[u8],
+        out: &mut K,
+        _disk: &mut (),
+    ) -> Result<Self, Stop> {
+        match self.next(alloc, line) {
+            Ok(next) => Ok(next),
+            Err(LinesRefused::Memory) => Err(Stop::NoMemory),
+            Err(LinesRefused::Line(refusal)) => refuse(alloc, &refusal, out),
+        }
+    }
+}
