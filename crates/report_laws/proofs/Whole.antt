@@ -220,10 +220,10 @@ module _ (plan : Plan) (each shut : Bool) (shuts : each ≡ false → shut ≡ t
         ap (λ b. cond b (going n state at listed) (Ok (reading_at at state listed))) drained
 
     -- how the drains end is said of whether a listing was read last in the end
-    turned : (drains : List Handed) (state : State) (r : Result ℕ Flaw) (listed b c : Bool) → each ≡ b → shut ≡ c → (each ≡ true → listed ≡ true)
+    turned : (drains : List Handed) (state : State) (r : Result ℕ Flaw) (listed b : Bool) → each ≡ b → (each ≡ true → listed ≡ true)
         → Closes text (listed_drains plan each listed drains || shut) state r → Closes text (listed_drains plan each each drains || shut) state r
-    turned drains state r listed true c e k l h = subst (λ b. Closes text (listed_drains plan each b drains || shut) state r) (l e ∙ sym e) h
-    turned drains state r listed false c e k l h =
+    turned drains state r listed true e l h = subst (λ b. Closes text (listed_drains plan each b drains || shut) state r) (l e ∙ sym e) h
+    turned drains state r listed false e l h =
         let last : shut ≡ true = shuts e in
         subst (λ c. Closes text (listed_drains plan each each drains || c) state r) (sym last)
         (shut_either text state r (listed_drains plan each listed drains) (listed_drains plan each each drains)
@@ -249,7 +249,7 @@ module _ (plan : Plan) (each shut : Bool) (shuts : each ≡ false → shut ≡ t
         (subst (λ calls. Ends (check.answered plan text (reading_at at state listed) calls >>= go)) d.0
         (answered Ends state handed numbered numbers at listed (λ listed. rest_drains listed behind more) go
         (drains_tail behind more)
-        (λ l k m v g. turned more last (go (reading_at m behind l)) l each shut refl refl k
+        (λ l k m v g. turned more last (go (reading_at m behind l)) l each refl k
         (drains_end n more behind m l (omega (arith, enough)) (keeps_numbers (run_of plan) state handed numbered) numbers d.2 v g))
         w h)))
 
