@@ -16,7 +16,7 @@ use Rattle.script_course.specs.declared.stops.Stop.TheVariants as stop
 use Rattle.store_files.specs.Attachments.{IsTaken}
 use Rattle.aria_store.specs.Causes.{HasGate}
 use Rattle.store_commands.specs.Inits.{Ends, Leaves, store_out}
-use Rattle.store_commands.specs.declared.statuses.TheConstants.{DONE, REFUSED_STORE}
+use Rattle.script_course.specs.declared.statuses.TheConstants.{DONE, STORE_REFUSED}
 
 -- ---- the gates
 
@@ -45,7 +45,7 @@ looked disk = elim (gate (current disk 0)) [
 
 abbrev pub choice : Bool → Out
 choice refused =
-    if refused then (record { bytes = refused_text StoreExists; status = REFUSED_STORE }) else (record { bytes = ready_text; status = DONE })
+    if refused then (record { bytes = refused_text StoreExists; status = STORE_REFUSED }) else (record { bytes = ready_text; status = DONE })
 
 forgiven : (taken over : Bool) → over ≡ true → taken && not over ≡ false
 forgiven true over e = rw e refl
@@ -93,7 +93,7 @@ ends_untouched out was old new result all = let l = looked was in record { taken
 
 pub leaves_made : {D : Type 0} (history : D → History) (was is : D) (old new : Option (List ℕ)) (result : Result ℕ Stop) → Finishes (choice false) old new result → result ≢ Err stop.NoRead
     → Leaves history was is result
-leaves_made history was is old new (Ok ending) all read = λ e. let wrong : DONE ≡ REFUSED_STORE = all.0 ∙ e in absurd (cc wrong)
+leaves_made history was is old new (Ok ending) all read = λ e. let wrong : DONE ≡ STORE_REFUSED = all.0 ∙ e in absurd (cc wrong)
 leaves_made history was is old new (Err stop.Refused) all read = let wrong : DONE ≡ status_of stop.Refused = all.0 in absurd (cc wrong)
 leaves_made history was is old new (Err stop.NoMemory) all read = tt
 leaves_made history was is old new (Err stop.NoWrite) all read = tt

@@ -18,7 +18,7 @@ use Rattle.run_commands.specs.Outs.{no_line}
 use Rattle.store_commands.specs.Drafts.{on_line, read_of, said_by, start, told_of, values_by, values_of}
 use Rattle.store_commands.specs.Inits.{Ends, Inits, IsMade, IsMadeOf, on_end, out_of}
 use Rattle.store_commands.specs.declared.drafts.Draft.{Draft}
-use Rattle.store_commands.specs.declared.statuses.TheConstants.{DONE}
+use Rattle.script_course.specs.declared.statuses.TheConstants.{DONE}
 use Rattle.store_commands.proofs.Ended.{looked}
 
 module _ (settings : Init) (taken : Bool) (S : Type 0) where

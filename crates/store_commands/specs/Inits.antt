@@ -20,14 +20,14 @@ use Rattle.store_files.specs.Attachments.{IsTaken}
 use Rattle.aria_store.specs.Stands.{Kept, Stands}
 use Rattle.store_commands.specs.Drafts.{on_line, said_by, start, told_of}
 use Rattle.store_commands.specs.declared.drafts.Draft.{Draft}
-use Rattle.store_commands.specs.declared.statuses.TheConstants.{DONE, REFUSED_STORE}
+use Rattle.script_course.specs.declared.statuses.TheConstants.{DONE, STORE_REFUSED}
 
 -- ---- what is printed
 
 -- A head that is read to its end makes a store, unless there is one that may not be written over.
 abbrev pub store_out : Init → Bool → Out
 store_out settings taken =
-    if taken && not settings.over then (record { bytes = refused_text StoreExists; status = REFUSED_STORE })
+    if taken && not settings.over then (record { bytes = refused_text StoreExists; status = STORE_REFUSED })
     else (record { bytes = ready_text; status = DONE })
 
 -- the end of the head, unless it is refused
@@ -81,7 +81,7 @@ StoppedOn history old new stop.NoWrite = Unit {0}
 StoppedOn history old new stop.NoDisk = Unit {0}
 
 abbrev pub Leaves : {D : Type 0} → (D → History) → D → D → Result ℕ Stop → Type 0
-Leaves history old new (Ok ending) = ending ≡ REFUSED_STORE → Still (history old) (history new)
+Leaves history old new (Ok ending) = ending ≡ STORE_REFUSED → Still (history old) (history new)
 Leaves history old new (Err why) = StoppedOn history old new why
 
 -- ---- the command

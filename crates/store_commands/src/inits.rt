@@ -11,10 +11,9 @@ ghost use Rattle.slot_images.specs.Said.{checkpoint_in};
 ghost use Rattle.script_places.specs.Places.{closing};
 ghost use Rattle.store_commands.specs.Drafts.{IsFitting, values_by};
 ghost use Rattle.store_commands.specs.Inits.{Ends, Inits, IsMade, IsMadeOf, Leaves, first_checkpoint, on_end, store_out};
-ghost use Rattle.store_commands.specs.declared.statuses.TheConstants as status;
+ghost use Rattle.script_course.specs.declared.statuses.TheConstants as status;
 
 use crate::drafts::Draft;
-use crate::statuses::{DONE, REFUSED_STORE};
 use answer_text::{Refused, ready_line, refused_line};
 use aria_base::{Schema, Sink, Source};
 use aria_store::{Image, Store, StoreRefused};
@@ -22,7 +21,7 @@ use command_words::Init;
 use disk_model::Disk;
 use proc_lang::Catalog;
 use run_commands::{LONGEST_LINE, MOST_BYTES};
-use script_course::{Stop, end_with, read_through, refuse};
+use script_course::{DONE, STORE_REFUSED, Stop, end_with, read_through, refuse};
 use script_places::{Head, closes};
 use script_text::LinesRefused;
 use std::alloc::Global;
@@ -50,7 +49,7 @@ pub fn init<S: Source, K: Sink, D: Disk>(
     ensures leaves { Leaves D.history disk.old disk.new result }
 
     // Where nothing was in the way, the store is made or refused, and the input was read to its end.
-    ensures status { IfOk result (λ ending. (ending ≡ status.DONE) ⊎ (ending ≡ status.REFUSED_STORE)) }
+    ensures status { IfOk result (λ ending. (ending ≡ status.DONE) ⊎ (ending ≡ status.STORE_REFUSED)) }
     ensures end { IfOk result (λ _. IsAtEnd (S.left input.new)) }
 
     // Each stop for a fault has its cause.
@@ -80,7 +79,7 @@ fn close<K: Sink, D: Disk>(
     ensures ends { Ends (λ taken. on_end settings.now taken last) (D.history disk.old) (D.history disk.new) (K.given out.old) (K.given out.new) result }
     ensures made { result ≡ Ok status.DONE → IsSomeAnd (values_by last (closing last.place)) (λ values. IsMadeOf settings.now values (D.history disk.new)) }
     ensures leaves { Leaves D.history disk.old disk.new result }
-    ensures status { IfOk result (λ ending. (ending ≡ status.DONE) ⊎ (ending ≡ status.REFUSED_STORE)) }
+    ensures status { IfOk result (λ ending. (ending ≡ status.DONE) ⊎ (ending ≡ status.STORE_REFUSED)) }
     ensures read { result ≢ Err stop.NoRead }
     ensures sink { K.faults out.old ≤ K.faults out.new }
     ensures cause { IfErr result (λ stop. IsCause stop (Rose (K.faults out.old) (K.faults out.new)) (Rose (D.history disk.old).faults (D.history disk.new).faults)) }
@@ -108,7 +107,7 @@ fn make<K: Sink, D: Disk>(
     ensures ends { Ends (store_out settings.now) (D.history disk.old) (D.history disk.new) (K.given out.old) (K.given out.new) result }
     ensures made { result ≡ Ok status.DONE → IsMadeOf settings.now (plan_in head, tables) (D.history disk.new) }
     ensures leaves { Leaves D.history disk.old disk.new result }
-    ensures status { IfOk result (λ ending. (ending ≡ status.DONE) ⊎ (ending ≡ status.REFUSED_STORE)) }
+    ensures status { IfOk result (λ ending. (ending ≡ status.DONE) ⊎ (ending ≡ status.STORE_REFUSED)) }
     ensures read { result ≢ Err stop.NoRead }
     ensures sink { K.faults out.old ≤ K.faults out.new }
     ensures cause { IfErr result (λ stop. IsCause stop (Rose (K.faults out.old) (K.faults out.new)) (Rose (D.history disk.old).faults (D.history disk.new).faults)) }
@@ -117,7 +116,7 @@ fn make<K: Sink, D: Disk>(
     match Store::create(alloc, disk, settings.over, &image) {
         Ok(_) => end_with(DONE, ready_line(), out),
         Err(StoreRefused::Exists) => {
-            end_with(REFUSED_STORE, refused_line(Refused::StoreExists), out)
+            end_with(STORE_REFUSED, refused_line(Refused::StoreExists), out)
         }
         Err(StoreRefused::Memory) => Err(Stop::NoMemory),
         Err(StoreRefused::DiskFault) => Err(Stop::NoDisk),

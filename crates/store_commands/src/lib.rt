@@ -14,7 +14,5 @@
 
 mod drafts;
 mod inits;
-mod statuses;
 
 pub use inits::init;
-pub use statuses::{DONE, REFUSED_STORE};
