@@ -1,5 +1,5 @@
 -- A line by what it asks for.
-use Rattle.std.proofs.Common.{◌≡◌, ◌∙◌, sym, ap, subst, refl, ℕ, ℤ, ◌+◌, ◌≤◌, Bool, true, false, not, ◌&&◌, ◌||◌, cond, List, [], ◌∷◌, ◌++◌, length, Option, Some, None, nat_lt, nat_le}
+use Rattle.std.proofs.Common.{◌≡◌, subst, refl, ℕ, ℤ, ◌+◌, ◌≤◌, Bool, true, false, not, ◌&&◌, ◌||◌, cond, List, [], ◌++◌, length, Option, Some, None, nat_lt, nat_le}
 use Rattle.std.proofs.lemmas.Bool.{leb-true}
 use Rattle.std.specs.Prelude.{Result, Ok, Err, codes, bytes_eq, ◌==◌}
 use Rattle.aria_base.specs.Orders.{Cells}
@@ -8,7 +8,6 @@ use Rattle.aria_base.specs.declared.keys.Part.{Part}
 use Rattle.aria_base.specs.declared.limits.TheConstants.{GREATEST_NUMBER, MOST_REQUESTS}
 use Rattle.proc_lang.specs.Catalogs.{Plan}
 use Rattle.cat_builtin.specs.Builtins.{builtin_named}
-use Rattle.cat_text.specs.Texts.{catalog_of}
 use Rattle.script_text.specs.Fits.{and_then, placed_row, placed_call, placed_settings}
 use Rattle.script_text.specs.Forms.{said}
 use Rattle.script_text.specs.declared.items.Item.{Item}
@@ -16,7 +15,7 @@ use Rattle.script_text.specs.declared.items.Item.TheVariants as item
 use Rattle.script_text.specs.declared.refusals.CatFault.TheVariants.{Long}
 use Rattle.script_text.specs.declared.refusals.Kind8.{Kind8}
 use Rattle.script_text.specs.declared.refusals.Kind8.TheVariants.{Site, Name, Batch, Gap, Numbers, Catalog}
-use Rattle.script_places.specs.Places.{Asked, asked, at_call, at_catalog, at_end, at_item, at_piece, at_report, at_row, at_settings, behind_text, by_head, calls, closed, ends, found, has_batches, has_catalog, in_text, is_audit, is_byte, is_check, is_unnamed, item_in_text, next_line, puts, read_text, refused_in_text, runs, sets, under, within_text, without_head}
+use Rattle.script_places.specs.Places.{Asked, asked, at_call, at_catalog, at_end, at_item, at_piece, at_report, at_row, at_settings, behind_text, by_head, calls, closed, ends, found, has_batches, has_catalog, in_text, is_audit, is_byte, is_check, is_unnamed, item_in_text, next_line, puts, read_text, refused_in_text, runs, sets, under, without_head}
 use Rattle.script_places.specs.declared.deeds.Deed.{Deed}
 use Rattle.script_places.specs.declared.deeds.Deed.TheVariants as deed
 use Rattle.script_places.specs.declared.heads.Head.{Head}

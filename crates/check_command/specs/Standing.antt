@@ -1,6 +1,5 @@
 -- What is true of a script and its report between two lines.
-use Rattle.std.specs.Prelude.{◌≡◌, ◌≤◌, ◌+◌, ℕ, List, [], map, length, Result, Ok, Err}
-use Rattle.aria_base.specs.declared.calls.Call.{Call}
+use Rattle.std.specs.Prelude.{◌≡◌, ◌≤◌, ◌+◌, ℕ, [], map, length, Result, Ok, Err}
 use Rattle.aria_base.specs.declared.limits.TheConstants.{GREATEST_NUMBER}
 use Rattle.answer_text.specs.Refusals.{refusal_text}
 use Rattle.script_course.specs.Courses.{Course, Goes, Stops}
