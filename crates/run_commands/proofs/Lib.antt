@@ -5,3 +5,6 @@ pub mod Ending
 pub mod Moved
 pub mod Asked
 pub mod Whole
+pub mod Told
+pub mod Kept
+pub mod Ran

@@ -1,14 +1,12 @@
 -- What is true of a script between two of its lines, and behind a line of what it asks for.
-use Rattle.std.specs.Prelude.{◌≡◌, ◌≤◌, ◌<◌, ◌+◌, ℕ, Bool, true, List, [], length, Result, Ok, Err}
+use Rattle.std.specs.Prelude.{◌≡◌, ◌≤◌, ◌<◌, ◌+◌, ℕ, Bool, true, List, [], length}
 use Rattle.std.specs.List.{All}
 use Rattle.aria_base.specs.Orders.{Cells}
 use Rattle.aria_base.specs.Schemas.{Fits}
 use Rattle.aria_base.specs.declared.calls.Call.{Call}
 use Rattle.aria_base.specs.declared.keys.Key.{Key}
 use Rattle.aria_base.specs.declared.limits.TheConstants.{GREATEST_NUMBER, MOST_REQUESTS}
-use Rattle.answer_text.specs.Refusals.{refusal_text}
 use Rattle.proc_lang.specs.Catalogs.{takes}
-use Rattle.script_course.specs.Courses.{Course, Goes, Stops}
 use Rattle.script_places.specs.Follows.{IsReadyWith}
 use Rattle.script_places.specs.declared.deeds.Deed.{Deed}
 use Rattle.script_places.specs.declared.deeds.Deed.TheVariants as deed
@@ -17,10 +15,8 @@ use Rattle.script_places.specs.declared.heads.Head.TheVariants as head
 use Rattle.script_places.specs.declared.places.Mode.TheVariants as mode
 use Rattle.script_places.specs.declared.places.Place.{Place}
 use Rattle.script_text.specs.declared.fits.TheConstants.{MOST_PERCENT}
-use Rattle.script_text.specs.declared.refusals.LinesRefused.{LinesRefused}
-use Rattle.script_text.specs.declared.refusals.LinesRefused.TheVariants.{Memory, Line}
-use Rattle.run_commands.specs.Bases.{IsBounded, IsUnder, IsBlank, IsHead, IsListed, state_in}
-use Rattle.run_commands.specs.Onces.{Doing}
+use Rattle.run_commands.specs.Bases.{IsBounded, IsUnder, IsBlank, IsHead, IsListed, state_in, store_in}
+use Rattle.run_commands.specs.Onces.{Doing, Running}
 use Rattle.run_commands.specs.declared.bases.Base.{Base}
 use Rattle.run_commands.specs.declared.bases.Base.TheVariants as base
 use Rattle.run_commands.specs.declared.works.Work.{Work}
@@ -28,6 +24,10 @@ use Rattle.run_commands.specs.declared.works.Work.{Work}
 -- a script as its output sees it: without replicas and workers
 abbrev pub doing_of : Place → Work → Doing
 doing_of place work = record { place = place; calls = work.calls.items; state = state_in work.base; each = work.each }
+
+-- with its store
+abbrev pub running_of : Place → Work → Running
+running_of place work = record { doing = doing_of place work; store = store_in work.base }
 
 -- before the catalogue is there, there is no row and no call; then both are of it
 abbrev pub IsOf : Head → List Call → Base → Type 0
@@ -93,11 +93,3 @@ MayDo place work (deed.Call call) = MayCall place work call
 MayDo place work (deed.Set rule percent) = MaySet place work percent
 MayDo place work (deed.Keep number) = MayClose place work
 MayDo place work deed.Run = MayRun place work
-
--- ---- a line
-
--- a course goes on with this text and this state, or the refusal is what it prints
-abbrev pub Moves : {V : Type 0} → (V → List ℕ) → Course Doing → Result (Doing × V) LinesRefused → Type 0
-Moves items course (Ok r) = course ≡ Goes (items r.1) r.0
-Moves items course (Err Memory) = Unit {0}
-Moves items course (Err (Line refusal)) = course ≡ Stops (refusal_text refusal)

@@ -2,18 +2,14 @@
 ghost use Rattle.std.specs.Prelude.{◌≡◌, ◌≤◌, IfOk};
 ghost use Rattle.script_places.specs.Follows.{IsReadyWith};
 ghost use Rattle.answer_text.specs.States.{state_text};
-ghost use Rattle.aria_base.specs.Schemas.{IsConsistent};
-ghost use Rattle.serving.specs.Lives.{listing, no_plan, plan_of, state_of};
-ghost use Rattle.run_commands.specs.declared.bases.Base.TheVariants as base;
-ghost use Rattle.run_commands.specs.Bases.{IsSettled, IsBegun, IsBounded, IsHead, IsListed, IsNamed, IsUnder, counts_of, plan_in, put_in, set_in, settings_with, state_in};
+ghost use Rattle.serving.specs.Lives.{listing, no_plan};
+ghost use Rattle.run_commands.specs.Bases.{IsBegun, IsBounded, IsHead, IsListed, IsNamed, IsUnder, counts_of, plan_in, put_in, set_in, settings_with, state_in};
 
 use answer_text::print_state;
 use aria_base::{Key, Memory, Row, Schema};
-use batch_engine::Engine;
 use batch_rules::verdicts::Rule;
 use dep_rules::Config;
 use proc_lang::Catalog;
-use replica_run::Replicas;
 use script_places::{Counts, Head};
 use serving::Live;
 use std::alloc::Global;
@@ -91,7 +87,8 @@ impl Base {
         match self {
             Base::Rows(tables, config) => {
                 let catalog = catalog_in(alloc, head)?;
-                begin(alloc, catalog, tables, config, replicas, each)
+                let none = Vec::new(alloc);
+                Live::begin(alloc, catalog, tables, none, 0, 0, config, replicas, each)
             }
             Base::Runs(live) => Ok(live),
         }
@@ -120,33 +117,6 @@ fn list_rows(alloc: Global, tables: &Tables, head: &Head) -> Result<Vec<u8>, Mem
             print_state(alloc, &catalog, tables, 0)
         }
     }
-}
-
-/// The database of these rows, in so many replicas.
-fn begin(
-    alloc: Global,
-    catalog: Catalog,
-    tables: Tables,
-    config: Config,
-    replicas: u32,
-    each: bool,
-) -> Result<Live, Memory>
-    requires engines { (1 ≤ replicas) × (replicas ≤ 8) }
-    requires consistent { IsConsistent catalog.tables tables }
-    requires settled { IsSettled config }
-    ensures plan { IfOk result (λ live. plan_of live ≡ catalog) }
-    ensures state { IfOk result (λ live. state_of live ≡ state_in (base.Rows tables config)) }
-    ensures config { IfOk result (λ live. live.config ≡ config) }
-    ensures each { IfOk result (λ live. live.each ≡ each) }
-{
-    let engine = Engine::begin(catalog, tables, Vec::new(alloc), 0, 0);
-    let replicas = Replicas::begin(alloc, engine, replicas)?;
-    Ok(Live {
-        replicas,
-        config,
-        each,
-        checkpoint: 0,
-    })
 }
 
 /// The settings with this rule and this percentage.

@@ -1,0 +1,38 @@
+-- What a disk holds while a script runs over it.
+use Rattle.std.specs.Prelude.{◌≡◌, ◌≤◌, ◌<◌, ◌%◌, ℕ, List, Option}
+use Rattle.std.specs.Io.KnownBytes.{Appends}
+use Rattle.aria_store.specs.Stands.{Kept}
+use Rattle.batch_core.specs.Steps.{State}
+use Rattle.disk_model.specs.Histories.{History, LeavesAll, MayLeave}
+use Rattle.image_text.specs.Payloads.{Batch}
+use Rattle.proc_lang.specs.Catalogs.{Plan}
+use Rattle.serving.specs.Stored.{Holds, ReopensTo}
+use Rattle.slot_images.specs.Images.{Checkpoint}
+
+-- these four files are the text of a state that passes, whatever was given then
+pub record ReopensToPassed (passes : State → List ℕ → Type 0) (plan : Plan) (images : ℕ → List ℕ) : Type 0 where
+  pub state : State
+  pub given : List ℕ
+  pub passed : passes state given
+  pub reopens : ReopensTo plan state images
+
+-- and that passes with just these bytes given
+pub record ReopensAsGiven (passes : State → List ℕ → Type 0) (plan : Plan) (old new : Option (List ℕ)) (images : ℕ → List ℕ) : Type 0 where
+  pub state : State
+  pub given : List ℕ
+  pub passed : passes state given
+  pub appends : Appends old new given
+  pub reopens : ReopensTo plan state images
+
+-- A stop at any moment leaves a state that passes; and a stop now one that passes with what was given.
+pub record Keeps (passes : State → List ℕ → Type 0) (plan : Plan) (old new : History) (given_old given_new : Option (List ℕ)) : Type 0 where
+  pub images : LeavesAll old new (ReopensToPassed passes plan)
+  pub exit : (images : ℕ → List ℕ) → MayLeave new new.now images → ReopensAsGiven passes plan given_old given_new images
+
+-- Some checkpoint and batches behind it are this state, and each batch past the first so many whose number this option divides is in
+-- the checkpoint.
+pub record HoldsState (first checkpoint : ℕ) (disk : History) (plan : Plan) (state : State) (store : Option Kept) : Type 0 where
+  pub c : Checkpoint
+  pub later : List Batch
+  pub holds : Holds disk plan state store c later
+  pub laid : (number : ℕ) → 0 < checkpoint → first < number → number ≤ state.batches → number % checkpoint ≡ 0 → number ≤ c.head.batches
