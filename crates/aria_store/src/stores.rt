@@ -164,6 +164,7 @@ impl Store {
         ensures rests { OnOk result (Rests (D.history disk.new) self.new.files) }
         ensures known { OnOk result (self.new ≡ with_batch self.old (length (payload_text catalog.now (record { rule = rule; fallback = fallback; calls = calls.now }))) rule fallback) }
         ensures open { OnOk result (self.old.files.closed ≡ None) }
+        ensures faults { OnOk result ((D.history disk.old).faults ≤ (D.history disk.new).faults) }
         ensures refused { IfErr result (WriteCause D.history disk.old disk.new self.old self.new) }
     {
         if let Some(faults) = self.files.closed() {
@@ -207,6 +208,7 @@ impl Store {
         ensures rests { OnOk result (Rests (D.history disk.new) self.new.files) }
         ensures known { OnOk result (self.new ≡ new_store (next_head self.old.files.head config.now.rule config.now.fallback batches requests)) }
         ensures open { OnOk result (self.old.files.closed ≡ None) }
+        ensures faults { OnOk result ((D.history disk.old).faults ≤ (D.history disk.new).faults) }
         ensures refused { IfErr result (WriteCause D.history disk.old disk.new self.old self.new) }
     {
         if let Some(faults) = self.closed() {

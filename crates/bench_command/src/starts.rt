@@ -6,9 +6,7 @@ ghost use Rattle.workloads.specs.Generators as load;
 ghost use Rattle.bench_command.specs.Benches.{head_state};
 
 use aria_base::Memory;
-use batch_engine::Engine;
 use dep_rules::Config;
-use replica_run::Replicas;
 use serving::Live;
 use std::alloc::Global;
 use workloads::Generator;
@@ -29,12 +27,8 @@ pub(crate) fn begin(
     ensures runnable { IfOk result IsRunnable }
 {
     let (catalog, tables) = generator.head(alloc)?;
-    let engine = Engine::begin(catalog, tables, Vec::new(alloc), 0, 0);
-    let replicas = Replicas::begin(alloc, engine, replicas)?;
-    Ok(Live {
-        replicas,
-        config,
-        each: false,
-        checkpoint: 0,
-    })
+    let none = Vec::new(alloc);
+    Live::begin(
+        alloc, catalog, tables, none, 0, 0, config, replicas, false,
+    )
 }

@@ -95,7 +95,7 @@ pub handed_is : (live : Live) (calls : List Call) → next_handed live calls ≡
 handed_is live calls = first_handed live.config calls live.replicas
 
 abbrev with_engines : Live → List Between → Live
-with_engines before engines = record { replicas = engines; config = before.config; each = before.each; checkpoint = before.checkpoint }
+with_engines before engines = record { store = before.store; replicas = engines; config = before.config; each = before.each; checkpoint = before.checkpoint }
 
 pub next_after : (before : Live) (calls : List Call) (engines : List Between) (first : Between) (found : Answer) → MayServe before calls → slice_get before.replicas 0 ≡ Some first
     → All (λ engine. unmarked engine ≡ unmarked first) before.replicas → AllZip (IsAfter before.config calls) before.replicas engines

@@ -1,3 +1,4 @@
 pub mod Lives
 pub mod Given
 pub mod Drains
+pub mod Stored

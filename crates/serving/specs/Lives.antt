@@ -2,7 +2,9 @@
 use Rattle.std.specs.Prelude.{◌≡◌, ◌≤◌, ◌<◌, ◌+◌, ℕ, Bool, true, if◌then◌else◌, List, [], ◌∷◌, ◌++◌, length}
 use Rattle.std.specs.List.{All}
 use Rattle.std.specs.FinMap as fin
+use Rattle.aria_base.specs.Orders.{Database}
 use Rattle.aria_base.specs.declared.calls.Call.{Call}
+use Rattle.aria_base.specs.declared.calls.Request.{Request}
 use Rattle.aria_base.specs.declared.limits.TheConstants.{MOST_REQUESTS}
 use Rattle.answer_text.specs.Answers.{answer_text}
 use Rattle.answer_text.specs.States.{state_text}
@@ -21,9 +23,14 @@ use Rattle.serving.specs.declared.lives.Live.{Live}
 abbrev pub no_plan : Plan
 no_plan = record { tables = []; procs = [] }
 
--- the state of no rows before the first batch, with these settings
+-- the state of these rows, requests that wait, and counts, with these settings
+abbrev pub begun_state : Config → Database → List Request → ℕ → ℕ → State
+begun_state config rows waiting batches requests =
+    record { rule = config.rule; percent = config.fallback; rows = rows; waiting = waiting; batches = batches; requests = requests }
+
+-- the state of no rows before the first batch
 abbrev pub blank : Config → State
-blank config = record { rule = config.rule; percent = config.fallback; rows = fin.empty; waiting = []; batches = 0; requests = 0 }
+blank config = begun_state config fin.empty [] 0 0
 
 abbrev pub plan_in : List Between → Plan
 plan_in [] = no_plan

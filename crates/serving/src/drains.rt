@@ -26,6 +26,7 @@ pub fn drain<K: Sink, P: Pace + Sync, R: Threads + Sync>(
     requires { IsRunnable start }
     ensures serves { Serves (drains (plan_of start) start.each line (state_of start)) (K.given out.old) (K.given out.new) (state_result result) }
     ensures like { IfOk result (IsLike start) }
+    ensures store { IfOk result (λ live. live.store ≡ start.store) }
     ensures drained { IfOk result (λ live. (state_of live).waiting ≡ []) }
     ensures sink { K.faults out.old ≤ K.faults out.new }
     ensures cause { IfErr result (λ stop. IsCause stop (Rose (K.faults out.old) (K.faults out.new)) ⊥) }
@@ -55,6 +56,7 @@ fn drain_one<K: Sink, P: Pace + Sync, R: Threads + Sync>(
     requires { IsRunnable live }
     ensures serves { Serves (one_drained (plan_of live) live.each line (state_of live)) (K.given out.old) (K.given out.new) (state_result result) }
     ensures like { IfOk result (IsLike live) }
+    ensures store { IfOk result (λ next. next.store ≡ live.store) }
     ensures fewer { IfOk result (λ next. 0 < length (state_of live).waiting → length (state_of next).waiting < length (state_of live).waiting) }
     ensures sink { K.faults out.old ≤ K.faults out.new }
     ensures cause { IfErr result (λ stop. IsCause stop (Rose (K.faults out.old) (K.faults out.new)) ⊥) }

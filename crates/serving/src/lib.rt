@@ -1,22 +1,26 @@
 //! A database that is served: its replicas with their settings, the next batch with the text that it
 //! prints, and the batches that run what waits when no new calls come.
 //!
-//! A [`Live`] has no store yet: it serves in memory alone, and no call is made on a disk.
+//! A [`Live`] may have a store: [`serve_batch`] then adds each batch to the log before it gives a byte
+//! of its answer, and lays a checkpoint behind it where one is due.
 //!
 //! ```text
-//! calls ──> Live::next ──> Replicas (replica_run) ──> answer ──> text (answer_text)
-//!                                                                  │
-//!            serve_batch, drain ───────────────────────────────> Sink
+//!                             ┌──> Store (aria_store): append, behind the answer rotate where due
+//! calls ──> serve_batch ──────┤
+//!                             └──> Live::next ──> Replicas (replica_run) ──> answer ──> text ──> Sink
 //! ```
 //!
-//! In `specs/`: `Lives` says what a batch prints and leaves, `Given` what a sink was given of it, and
-//! `Drains` what the requests that wait come to.
+//! In `specs/`: `Lives` says what a batch prints and leaves, `Given` what a sink was given of it,
+//! `Stored` what a disk holds of the database, and `Drains` what the requests that wait come to.
 #![tactic(auto)]
 
 mod batches;
 mod drains;
 mod lives;
+mod logs;
+mod rotations;
 
 pub use batches::{Given, serve_batch};
 pub use drains::drain;
 pub use lives::Live;
+pub use rotations::MOST_LOG;

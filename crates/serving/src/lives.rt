@@ -1,30 +1,74 @@
 // The database that is served, and its next batch.
-ghost use Rattle.std.specs.Prelude.{◌≡◌, ◌≤◌, IfOk, if◌then◌else◌, [], ◌++◌, length};
+ghost use Rattle.std.specs.Prelude.{◌≡◌, ◌≤◌, IfOk, None, if◌then◌else◌, [], ◌++◌, length};
 ghost use Rattle.answer_text.specs.Answers.{answer_text};
-ghost use Rattle.serving.specs.Lives.{IsNext, MayServe, listing, next_answer, next_text, plan_of, state_of};
+ghost use Rattle.batch_engine.specs.Engines.{IsReady};
+ghost use Rattle.serving.specs.Lives.{IsNext, IsRunnable, MayServe, begun_state, listing, next_answer, next_text, plan_of, state_of};
 
 use answer_text::{append_state, print_answer, print_state};
-use aria_base::{Call, Memory, Pace};
+use aria_base::{Call, Memory, Pace, Request};
+use aria_store::Store;
 use batch_core::Answer;
+use batch_engine::Engine;
 use dep_rules::Config;
+use proc_lang::Catalog;
 use replica_run::Replicas;
 use std::alloc::Global;
 use std::thread::Threads;
+use tbl_rows::Tables;
 
 /// A database that is served.
 #[derive(Drop)]
 pub struct Live {
+    /// The store, where its batches outlive the program.
+    pub store: Option<Store>,
     /// The engines.
     pub replicas: Replicas,
     /// The settings of the next batch.
     pub config: Config,
     /// Whether the rows are listed behind each answer.
     pub each: bool,
-    /// Behind how many batches each a checkpoint is laid, 0 for never. It has no effect in memory.
+    /// Behind how many batches each a checkpoint is laid, 0 for never. It has no effect without a store.
     pub checkpoint: u32,
 }
 
 impl Live {
+    /// The database with these rows, requests that wait, and counts, in so many replicas and by these
+    /// settings. It has no store, and lays no checkpoints.
+    pub fn begin(
+        alloc: Global,
+        catalog: Catalog,
+        tables: Tables,
+        carried: Vec<Request>,
+        batches: u64,
+        requests: u64,
+        config: Config,
+        replicas: u32,
+        each: bool,
+    ) -> Result<Live, Memory>
+        requires ready { IsReady catalog tables carried.items batches requests }
+        requires fallback { config.fallback ≤ 101 }
+        requires workers { (1 ≤ config.workers) × (config.workers ≤ 64) }
+        requires replicas { (1 ≤ replicas) × (replicas ≤ 8) }
+        ensures plan { IfOk result (λ live. plan_of live ≡ catalog) }
+        ensures state { IfOk result (λ live. state_of live ≡ begun_state config tables carried.items batches requests) }
+        ensures count { IfOk result (λ live. length live.replicas ≡ replicas) }
+        ensures config { IfOk result (λ live. live.config ≡ config) }
+        ensures each { IfOk result (λ live. live.each ≡ each) }
+        ensures checkpoint { IfOk result (λ live. live.checkpoint ≡ 0) }
+        ensures store { IfOk result (λ live. live.store ≡ None) }
+        ensures runnable { IfOk result IsRunnable }
+    {
+        let engine = Engine::begin(catalog, tables, carried, batches, requests);
+        let replicas = Replicas::begin(alloc, engine, replicas)?;
+        Ok(Live {
+            store: None,
+            replicas,
+            config,
+            each,
+            checkpoint: 0,
+        })
+    }
+
     /// Runs the next batch, of what waits and these calls, on all replicas. The text is the answer and,
     /// where each answer has one, the listing. After want of memory the database is gone.
     pub fn next<P: Pace + Sync, R: Threads + Sync>(
@@ -36,6 +80,7 @@ impl Live {
     ) -> Result<(Live, Vec<u8>), Memory>
         requires { MayServe self new.items }
         ensures next { IfOk result (λ r. IsNext self new.items r.0) }
+        ensures store { IfOk result (λ r. r.0.store ≡ self.store) }
         ensures text { IfOk result (λ r. r.1.items ≡ next_text self new.items) }
     {
         let (next, answer) = self.run(rt, alloc, new, pace)?;
@@ -53,11 +98,13 @@ impl Live {
     ) -> Result<(Live, Answer), Memory>
         requires { MayServe self new.items }
         ensures next { IfOk result (λ r. IsNext self new.items r.0) }
+        ensures store { IfOk result (λ r. r.0.store ≡ self.store) }
         ensures answer { IfOk result (λ r. r.1 ≡ next_answer self new.items) }
     {
         // What the first engine is, all are.
         let _first = self.replicas.first();
         let Live {
+            store,
             replicas,
             config,
             each,
@@ -65,6 +112,7 @@ impl Live {
         } = self;
         let (replicas, answer) = replicas.run_batch(rt, alloc, new, &config, pace)?;
         let next = Live {
+            store,
             replicas,
             config,
             each,

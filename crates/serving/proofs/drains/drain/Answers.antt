@@ -1,4 +1,4 @@
-use Rattle.std.proofs.Common.{◌≡◌, ◌-◌, ◌==◌, ◌<◌, true, false, length, arith}
+use Rattle.std.proofs.Common.{◌≡◌, ◌∙◌, ◌-◌, ◌==◌, ◌<◌, true, false, length, arith}
 use Rattle.std.specs.Prelude.{Ok, Err}
 use Rattle.serving.specs.Lives.{plan_of, state_of}
 use Rattle.serving.proofs.Drained.{like_on, next_cut, next_leads, quiet}
@@ -26,6 +26,7 @@ loop-preserved g c =
     let less = c.in-Ok.ensures.fewer (omega (arith, c.waiting.ensures, c.if-waiting-eq0.false)) in
     record {
       sink = omega (arith, c.drain_one.ensures.sink, c.loop.invariant.sink);
+      store = c.in-Ok.ensures.store ∙ c.loop.invariant.store;
       like = like_on c.args.start c.loop.live c.in-Ok.next c.loop.invariant.like c.in-Ok.ensures.like;
       left = omega (arith, less, c.loop.invariant.left);
       leads = λ new result h. c.loop.invariant.leads new result

@@ -57,3 +57,9 @@ pub returns-clause-known : goal.returns-clause-known
 returns-clause-known g c =
     append_known c.self.inside.files c.args.self.now (ap (λ (s : Kept). s.files) c.self.view_is) c.append.new.self c.deref.result.now _
     (c.deref.ensures.value ∙ c.in_ok-payload.ensures.text) c.args.rule c.args.fallback c.in_ok-append.ensures.known
+
+pub returns-clause-faults : goal.returns-clause-faults
+returns-clause-faults g c =
+    let none = c.in_ok-append.ensures.open in
+    let rests = subst (λ (f : Stored). f.closed ≡ None → Rests (g.D.Disk.history c.args.disk.now) f) (sym (ap (λ (s : Kept). s.files) c.self.view_is)) c.requires.rests none in
+    (c.append.ensures.images none rests.body rests.log rests.holds).faults

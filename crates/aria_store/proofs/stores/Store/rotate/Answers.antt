@@ -61,3 +61,9 @@ pub returns-clause-known : goal.returns-clause-known
 returns-clause-known g c =
     rotate_known c.self.inside.files c.args.self.now (ap (λ (s : Kept). s.files) c.self.view_is) c.rotate.new.self c.args.config.now.rule
     c.args.config.now.fallback c.args.batches c.args.requests c.in_ok-rotate.ensures.known
+
+pub returns-clause-faults : goal.returns-clause-faults
+returns-clause-faults g c =
+    let none = c.in_ok-rotate.ensures.open in
+    let rests = subst (λ (f : Stored). f.closed ≡ None → Rests (g.D.Disk.history c.args.disk.now) f) (sym (ap (λ (s : Kept). s.files) c.self.view_is)) c.requires.rests none in
+    (c.rotate.ensures.images none rests.body rests.log rests.holds).faults

@@ -1,0 +1,106 @@
+-- What a store holds is the state of the database, batch by batch.
+use Rattle.std.proofs.Common.{◌≡◌, ◌∙◌, ◌⊎◌, inl, inr, sym, ap, subst, refl, ℕ, ◌+◌, ◌<◌, ◌≤◌, List, [], ◌∷◌, ◌++◌, length, map, Option, Some, None, arith}
+use Rattle.aria_base.specs.declared.calls.Call.{Call}
+use Rattle.aria_base.specs.declared.calls.Request.{Request}
+use Rattle.aria_base.specs.declared.keys.Key.{Key}
+use Rattle.aria_base.specs.declared.limits.TheConstants.{MOST_REQUESTS}
+use Rattle.aria_base.specs.Orders.{Cells, Database}
+use Rattle.batch_core.specs.Steps.{State, Handed, step, run}
+use Rattle.batch_engine.specs.Engines.{Between, state_in, most_numbered}
+use Rattle.batch_rules.specs.Trees.{Tree}
+use Rattle.dep_rules.specs.declared.configs.Config.{Config}
+use Rattle.disk_model.specs.Histories.{History, MayLeave, LeavesAll}
+use Rattle.disk_model.proofs.Spans.{leaves_more}
+use Rattle.image_text.specs.Payloads.{Batch}
+use Rattle.proc_lang.specs.Catalogs.{Plan, run_of}
+use Rattle.proc_lang.specs.declared.ends.End.{End}
+use Rattle.slot_images.specs.Images.{Checkpoint}
+use Rattle.aria_store.specs.Records.{requests_after}
+use Rattle.aria_store.specs.Reopens.{Reopens, Found}
+use Rattle.aria_store.specs.Stands.{Kept, Stands, MayAdd, next_checkpoint}
+use Rattle.aria_store.proofs.Founds.{found_now}
+use Rattle.serving.specs.Stored.{IsHeld, LeavesState, ReopensTo, ReopensToEither, batch_of, handed_in, state_at, state_behind, told_by}
+
+-- ---- batches behind a checkpoint
+
+module _ (tree : Request → Tree Key Cells End) where
+  batches_behind : (state : State) (later : List Batch) → (run tree state (map handed_in later)).batches ≡ state.batches + length later
+  batches_behind state [] = omega arith
+  batches_behind state (batch ∷ later) =
+      let on = batches_behind (step tree state (handed_in batch)) later in
+      omega (arith, on)
+
+  requests_behind : (state : State) (later : List Batch) → (run tree state (map handed_in later)).requests ≡ requests_after state.requests later
+  requests_behind state [] = refl
+  requests_behind state (batch ∷ later) = requests_behind (step tree state (handed_in batch)) later
+
+  run_added : (state : State) (later : List Batch) (batch : Batch)
+      → run tree state (map handed_in (later ++ batch ∷ [])) ≡ step tree (run tree state (map handed_in later)) (handed_in batch)
+  run_added state [] batch = refl
+  run_added state (first ∷ later) batch = run_added (step tree state (handed_in first)) later batch
+
+-- ---- what is held is what is found
+
+module _ (disk : History) (plan : Plan) (state : State) (store : Kept) (c : Checkpoint) (later : List Batch) (h : IsHeld disk plan state store c later) where
+  pub held_reopens : (images : ℕ → List ℕ) → Reopens images (Found c later) → ReopensTo plan state images
+  held_reopens images found = record { c = c; later = later; reopens = found; plan_is = h.plan_is; state_is = h.state_is }
+
+  pub held_leaves : LeavesState disk plan state
+  held_leaves images left = held_reopens images (found_now disk store c later h.stands images left)
+
+-- ---- a batch more
+
+module _ (old : History) (plan : Plan) (state : State) (store : Kept) (handed : Handed) (c : Checkpoint) (later : List Batch)
+    (h : IsHeld old plan (told_by (Some store) state) store c later) where
+  abbrev After : State
+  After = step (run_of plan) state handed
+
+  pub may_add : length handed.calls ≤ MOST_REQUESTS → state.batches < most_numbered → state.requests + length handed.calls ≤ most_numbered
+      → MayAdd plan (length handed.calls) c later
+  may_add few batches requests =
+      let ran : (state_behind c later).batches ≡ state.batches = ap (λ (s : State). s.batches) h.state_is in
+      let given : (state_behind c later).requests ≡ state.requests = ap (λ (s : State). s.requests) h.state_is in
+      let ran_by = batches_behind (run_of c.plan) (state_at c) later in
+      let given_by = requests_behind (run_of c.plan) (state_at c) later in
+      record {
+        catalog = sym h.plan_is;
+        within = record { few = few; batches = omega (arith, ran, ran_by, batches); requests = omega (arith, given, given_by, requests) };
+      }
+
+  added_state : state_behind c (later ++ batch_of handed ∷ []) ≡ After
+  added_state = run_added (run_of c.plan) (state_at c) later (batch_of handed)
+      ∙ ap (λ (s : State). step (run_of c.plan) s handed) h.state_is
+      ∙ ap (λ (p : Plan). step (run_of p) state handed) h.plan_is
+
+  pub log_held : (new : History) (now : Kept) → Stands new now c (later ++ batch_of handed ∷ []) → IsHeld new plan After now c (later ++ batch_of handed ∷ [])
+  log_held new now stands = record { stands = stands; plan_is = h.plan_is; state_is = added_state }
+
+  pub log_leaves : (new : History) → LeavesAll old new (λ images. Reopens images (Found c later) ⊎ Reopens images (Found c (later ++ batch_of handed ∷ [])))
+      → LeavesAll old new (ReopensToEither plan (told_by (Some store) state) After)
+  log_leaves new all =
+      leaves_more old new (λ images. Reopens images (Found c later) ⊎ Reopens images (Found c (later ++ batch_of handed ∷ []))) (ReopensToEither plan (told_by (Some store) state) After) all (λ images either. elim either [
+        | inl was ↦ inl (held_reopens old plan (told_by (Some store) state) store c later h images was)
+        | inr is ↦ inr (record { c = c; later = later ++ batch_of handed ∷ []; reopens = is; plan_is = h.plan_is; state_is = added_state })
+      ])
+
+-- ---- the next checkpoint
+
+module _ (was : Kept) (engine : Between) (config : Config) (plan : Plan) (rows : Database) (held : List Request) (batches requests : ℕ)
+    (p : plan ≡ engine.plan) (r : rows ≡ engine.rows) (k : held ≡ engine.carried) (b : batches ≡ engine.batches) (q : requests ≡ engine.requests) where
+  abbrev Next : Checkpoint
+  Next = next_checkpoint was config.rule config.fallback batches requests (plan, rows, held)
+
+  next_state_is : state_behind Next [] ≡ state_in config engine
+  next_state_is = λ i. record { rule = config.rule; percent = config.fallback; rows = r i; waiting = k i; batches = b i; requests = q i }
+
+  pub rotate_held : (new : History) (now : Kept) → Stands new now Next [] → (d : Checkpoint) × IsHeld new engine.plan (state_in config engine) now d []
+  rotate_held new now stands = (Next, record { stands = stands; plan_is = p; state_is = next_state_is })
+
+  pub rotate_leaves : (old new : History) (c : Checkpoint) (later : List Batch) → IsHeld old engine.plan (state_in config engine) was c later
+      → LeavesAll old new (λ images. Reopens images (Found c later) ⊎ Reopens images (Found Next []))
+      → LeavesAll old new (ReopensTo engine.plan (state_in config engine))
+  rotate_leaves old new c later h all =
+      leaves_more old new (λ images. Reopens images (Found c later) ⊎ Reopens images (Found Next [])) (ReopensTo engine.plan (state_in config engine)) all (λ images either. elim either [
+        | inl was_there ↦ held_reopens old engine.plan (state_in config engine) was c later h images was_there
+        | inr is ↦ record { c = Next; later = []; reopens = is; plan_is = p; state_is = next_state_is }
+      ])

@@ -1,0 +1,91 @@
+// The next checkpoint behind a batch, where one is due.
+ghost use Rattle.std.specs.Prelude.{◌≡◌, ◌≤◌, None, [], List, true, IfErr, IsOk, IfSome, OnOk};
+ghost use Rattle.aria_base.specs.Faults.{Rose};
+ghost use Rattle.batch_engine.specs.Engines.{most_numbered, state_in};
+ghost use Rattle.disk_model.specs.Histories.{LeavesAll};
+ghost use Rattle.image_text.specs.Payloads.{Batch};
+ghost use Rattle.slot_images.specs.Images.{Checkpoint};
+ghost use Rattle.serving.specs.Given.{IsUntold};
+ghost use Rattle.serving.specs.Lives.{IsRunnable, plan_of, state_of};
+ghost use Rattle.serving.specs.Stored.{Holds, HoldsTurned, IsHeld, IsLogging, GoesOn, HasTaken, ReopensTo, due_by, is_due, turned, turned_by};
+
+use crate::batches::Given;
+use crate::lives::Live;
+use crate::logs::why_untold;
+use aria_store::Store;
+use batch_engine::Engine;
+use dep_rules::Config;
+use disk_model::Disk;
+use std::alloc::Global;
+
+/// How many bytes a log may have between two batches: behind a longer one a checkpoint is laid.
+pub const MOST_LOG: u64 = 1 << 28;
+
+/// Lays the next checkpoint with an empty log, where there is a store and one is due behind the batch
+/// that was run last.
+pub(crate) fn rotate_where_due<D: Disk>(
+    live: &mut Live,
+    alloc: Global,
+    disk: &mut D,
+) -> Result<(), Given>
+    requires runnable { IsRunnable live.old }
+    requires taken { IfSome live.old.store (HasTaken (D.history disk.old) (state_of live.old).batches) }
+    ensures turned { OnOk result (live.new ≡ record live.old { store = turned_by (due_by live.old.checkpoint (state_of live.old).batches live.old.store) (state_of live.old) live.old.store }) }
+    ensures logging { OnOk result (IsLogging (D.history disk.new) live.new) }
+    ensures holds { OnOk result ((c : Checkpoint) (later : List Batch) → Holds (D.history disk.old) (plan_of live.old) (state_of live.old) live.old.store c later → HoldsTurned (due_by live.old.checkpoint (state_of live.old).batches live.old.store) (D.history disk.new) (plan_of live.old) (state_of live.old) live.new.store c later) }
+    ensures images { (c : Checkpoint) (later : List Batch) → Holds (D.history disk.old) (plan_of live.old) (state_of live.old) live.old.store c later → LeavesAll (D.history disk.old) (D.history disk.new) (ReopensTo (plan_of live.old) (state_of live.old)) }
+    ensures untouched { live.old.store ≡ None → disk.new ≡ disk.old }
+    ensures storeless { live.old.store ≡ None → IsOk result }
+    ensures disk { OnOk result ((D.history disk.old).faults ≤ (D.history disk.new).faults) }
+    ensures cause { IfErr result (λ why. IsUntold why ⊥ (Rose (D.history disk.old).faults (D.history disk.new).faults)) }
+{
+    let Some(store) = &mut live.store else {
+        return Ok(());
+    };
+    let engine = live.replicas.first();
+    if !rotation_due(live.checkpoint, engine.batches(), store.log_len()) {
+        return Ok(());
+    }
+    rotate(store, alloc, engine, &live.config, disk)
+}
+
+/// Whether a checkpoint is due behind the batch with this number, where the log has so many bytes.
+fn rotation_due(checkpoint: u32, number: u64, bytes: u64) -> bool
+    ensures { result ≡ is_due checkpoint number bytes }
+{
+    (0 < checkpoint && number % u64::from(checkpoint) == 0) || MOST_LOG < bytes
+}
+
+/// Lays the checkpoint of this engine, whose last batch was run by these settings.
+fn rotate<D: Disk>(
+    store: &mut Store,
+    alloc: Global,
+    engine: &Engine,
+    config: &Config,
+    disk: &mut D,
+) -> Result<(), Given>
+    requires taken { HasTaken (D.history disk.old) engine.now.batches store.old }
+    requires fallback { config.now.fallback ≤ 101 }
+    ensures turned { OnOk result (store.new ≡ turned true (state_in config.now engine.now) store.old) }
+    ensures goes_on { OnOk result (GoesOn (D.history disk.new) engine.now.batches store.new) }
+    ensures holds { OnOk result ((d : Checkpoint) × IsHeld (D.history disk.new) engine.now.plan (state_in config.now engine.now) store.new d []) }
+    ensures images { (c : Checkpoint) (later : List Batch) → IsHeld (D.history disk.old) engine.now.plan (state_in config.now engine.now) store.old c later → LeavesAll (D.history disk.old) (D.history disk.new) (ReopensTo engine.now.plan (state_in config.now engine.now)) }
+    ensures disk { OnOk result ((D.history disk.old).faults ≤ (D.history disk.new).faults) }
+    ensures cause { IfErr result (λ why. IsUntold why ⊥ (Rose (D.history disk.old).faults (D.history disk.new).faults)) }
+{
+    let (batches, requests) = (engine.batches(), engine.requests());
+    let laid = store.rotate(
+        alloc,
+        disk,
+        engine.catalog(),
+        engine.tables(),
+        engine.carried(),
+        batches,
+        requests,
+        config,
+    );
+    match laid {
+        Ok(()) => Ok(()),
+        Err(refused) => Err(why_untold(refused)),
+    }
+}
