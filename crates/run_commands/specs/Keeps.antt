@@ -1,13 +1,15 @@
 -- What a disk holds while a script runs over it.
-use Rattle.std.specs.Prelude.{◌≡◌, ◌≤◌, ◌<◌, ◌%◌, ℕ, List, Option}
+use Rattle.std.specs.Prelude.{◌≡◌, ◌≤◌, ◌<◌, ◌%◌, ℕ, List, Option, IfSome}
 use Rattle.std.specs.Io.KnownBytes.{Appends}
 use Rattle.aria_store.specs.Stands.{Kept}
 use Rattle.batch_core.specs.Steps.{State}
 use Rattle.disk_model.specs.Histories.{History, LeavesAll, MayLeave}
 use Rattle.image_text.specs.Payloads.{Batch}
 use Rattle.proc_lang.specs.Catalogs.{Plan}
-use Rattle.serving.specs.Stored.{Holds, ReopensTo}
+use Rattle.serving.specs.Stored.{GoesOn, HasLines, Holds, ReopensTo, told_by}
 use Rattle.slot_images.specs.Images.{Checkpoint}
+use Rattle.run_commands.specs.Bases.{plan_in}
+use Rattle.run_commands.specs.Onces.{Running}
 
 -- these four files are the text of a state that passes, whatever was given then
 pub record ReopensToPassed (passes : State → List ℕ → Type 0) (plan : Plan) (images : ℕ → List ℕ) : Type 0 where
@@ -36,3 +38,12 @@ pub record HoldsState (first checkpoint : ℕ) (disk : History) (plan : Plan) (s
   pub later : List Batch
   pub holds : Holds disk plan state store c later
   pub laid : (number : ℕ) → 0 < checkpoint → first < number → number ≤ state.batches → number % checkpoint ≡ 0 → number ≤ c.head.batches
+
+-- where a script has a store, that may take a batch, and each open call has a line that goes into its log
+pub record IsOpen (disk : History) (script : Running) : Type 0 where
+  pub logging : IfSome script.store (GoesOn disk script.doing.state.batches)
+  pub lines : IfSome script.store (λ _. HasLines (plan_in script.doing.place.head) script.doing.calls)
+
+-- the state that its store holds: settings that no batch follows are in none
+abbrev pub held_of : Running → State
+held_of script = told_by script.store script.doing.state

@@ -1,15 +1,20 @@
 // A script between two of its lines, and the next line.
-ghost use Rattle.std.specs.Prelude.{◌≡◌, ◌≢◌, ◌≤◌, None, IfOk, IfErr};
+ghost use Rattle.std.specs.Prelude.{◌≡◌, ◌≢◌, ◌≤◌, ℕ, List, [], ◌∷◌, None, IfOk, IfErr, IsSomeAnd};
 ghost use Rattle.aria_base.specs.Faults.{Rose};
 ghost use Rattle.answer_text.specs.Notices.{kept_text};
 ghost use Rattle.script_course.specs.Causes.{IsCause};
 ghost use Rattle.script_course.specs.Courses.{Goes};
 ghost use Rattle.script_course.specs.Served.{Serves};
 ghost use Rattle.serving.specs.declared.batches.Given.TheVariants as given;
-ghost use Rattle.run_commands.specs.Bases.{IsSettled, store_in};
-ghost use Rattle.run_commands.specs.Onces.{behind_batch, doing_result, done, on_line, text_of, with_call, with_row, with_settings, without_calls};
+ghost use Rattle.image_text.specs.Payloads.{Batch};
+ghost use Rattle.serving.specs.Stored.{Holds};
+ghost use Rattle.slot_images.specs.Images.{Checkpoint};
+ghost use Rattle.run_commands.specs.Bases.{IsSettled, plan_in, state_in, store_in};
+ghost use Rattle.run_commands.specs.Keeps.{IsOpen, Keeps, held_of};
+ghost use Rattle.run_commands.specs.Onces.{Doing, behind_batch, doing_result, done, on_line, text_of, with_call, with_row, with_settings, without_calls};
 ghost use Rattle.run_commands.specs.Outs.{start_by};
 ghost use Rattle.run_commands.specs.Stops.{IsStopFor};
+ghost use Rattle.run_commands.specs.Passes.{Line, PassesTurns};
 ghost use Rattle.run_commands.specs.Standing.{MayCall, MayClose, MayDo, MayPut, MayRun, MaySet, Stands, doing_of, running_of};
 
 use crate::bases::Base;
@@ -102,6 +107,7 @@ impl Script {
 
 impl Work {
     /// Does what a line asks for, at the place behind it, and gives what that prints.
+    #[tactic(auto, using(crate::proofs::Ran::open_without))]
     fn with<K: Sink, D: Disk, P: Pace + Sync, R: Threads + Sync>(
         self,
         rt: &R,
@@ -241,12 +247,18 @@ impl Work {
         pace: &P,
     ) -> Result<Script, Stop>
         requires may { MayRun place self }
-        requires store { store_in self.base ≡ None }
+        requires open { IsOpen (D.history disk.old) (running_of place self) }
         ensures serves { Serves (Goes (text_of (doing_of place self)) (behind_batch (doing_of place self))) (K.given out.old) (K.given out.new) (doing_result result) }
-        ensures store { IfOk result (λ script. script.store ≡ None) }
-        ensures untouched { disk.new ≡ disk.old }
+        ensures open { IfOk result (IsOpen (D.history disk.new)) }
+
+        // A stop at any moment leaves the state before or behind it; and a stop now, what was given of its text.
+        ensures keeps { (c : Checkpoint) (later : List Batch) (before : Doing) (line : List ℕ) → Holds (D.history disk.old) (plan_in place.head) (held_of (running_of place self)) (store_in self.base) c later
+            → before.state ≡ state_in self.base → on_line before line ≡ Goes (text_of (doing_of place self)) (behind_batch (doing_of place self))
+            → Keeps (PassesTurns (Line line ∷ []) before (held_of (running_of place self))) (plan_in place.head) (D.history disk.old) (D.history disk.new) (K.given out.old) (K.given out.new) }
+        ensures store { store_in self.base ≡ None → IfOk result (λ script. script.store ≡ None) }
+        ensures untouched { store_in self.base ≡ None → disk.new ≡ disk.old }
         ensures sink { K.faults out.old ≤ K.faults out.new }
-        ensures cause { IfErr result (λ stop. IsCause stop (Rose (K.faults out.old) (K.faults out.new)) ⊥) }
+        ensures cause { IfErr result (λ stop. IsCause stop (Rose (K.faults out.old) (K.faults out.new)) (IsSomeAnd (store_in self.base) (λ _. Rose (D.history disk.old).faults (D.history disk.new).faults))) }
     {
         let Work {
             calls,
