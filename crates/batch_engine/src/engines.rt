@@ -125,6 +125,13 @@ impl Engine {
         Ok((engine, answer))
     }
 
+    /// Does nothing: a caller knows behind it what is true of every engine.
+    pub fn ready(&self)
+        ensures { IsReady self.now.plan self.now.rows self.now.carried self.now.batches self.now.requests }
+    {
+        let _ = &self.batches;
+    }
+
     /// How many new calls the next batch may have. No memory.
     pub fn room(&self) -> u32
         ensures { result ≡ MOST_REQUESTS - length self.now.carried }

@@ -28,7 +28,5 @@ pub(crate) fn begin(
 {
     let (catalog, tables) = generator.head(alloc)?;
     let none = Vec::new(alloc);
-    Live::begin(
-        alloc, catalog, tables, none, 0, 0, config, replicas, false,
-    )
+    Live::begin(alloc, catalog, tables, none, 0, 0, config, replicas, false)
 }

@@ -8,3 +8,4 @@ pub mod Whole
 pub mod Told
 pub mod Kept
 pub mod Ran
+pub mod Stepped

@@ -73,7 +73,7 @@ pub held_leaves_all : (disk : History) (plan : Plan) (state : State) (store : Op
 held_leaves_all disk plan state None c later h = absurd h
 held_leaves_all disk plan state (Some store) c later h = held_leaves disk plan state store c later h
 
-no_lines : (plan : Plan) (calls : List Call) (store : Option Kept) → calls ≡ [] → IfSome store (λ _. HasLines plan calls)
+pub no_lines : (plan : Plan) (calls : List Call) (store : Option Kept) → calls ≡ [] → IfSome store (λ _. HasLines plan calls)
 no_lines plan calls None e = tt
 no_lines plan calls (Some store) e = subst (λ (l : List Call). HasLines plan l) (sym e) (All-nil (λ (call : Call). length (line_of_call plan call) ≤ 4096))
 

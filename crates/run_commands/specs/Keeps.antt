@@ -1,11 +1,14 @@
 -- What a disk holds while a script runs over it.
-use Rattle.std.specs.Prelude.{◌≡◌, ◌≤◌, ◌<◌, ◌%◌, ℕ, List, Option, IfSome}
+use Rattle.std.specs.Prelude.{◌≡◌, ◌≤◌, ◌<◌, ◌%◌, ℕ, List, length, Option, IfSome}
 use Rattle.std.specs.Io.KnownBytes.{Appends}
 use Rattle.aria_store.specs.Stands.{Kept}
 use Rattle.batch_core.specs.Steps.{State}
 use Rattle.disk_model.specs.Histories.{History, LeavesAll, MayLeave}
+use Rattle.image_text.specs.Exactly.{line_of_call}
 use Rattle.image_text.specs.Payloads.{Batch}
 use Rattle.proc_lang.specs.Catalogs.{Plan}
+use Rattle.script_places.specs.declared.deeds.Deed.{Deed}
+use Rattle.script_places.specs.declared.deeds.Deed.TheVariants as deed
 use Rattle.serving.specs.Stored.{GoesOn, HasLines, Holds, ReopensTo, told_by}
 use Rattle.slot_images.specs.Images.{Checkpoint}
 use Rattle.run_commands.specs.Bases.{plan_in}
@@ -47,3 +50,13 @@ pub record IsOpen (disk : History) (script : Running) : Type 0 where
 -- the state that its store holds: settings that no batch follows are in none
 abbrev pub held_of : Running → State
 held_of script = told_by script.store script.doing.state
+
+-- a call that is asked for has a line that goes into a log
+abbrev pub IsShort : Plan → Deed → Type 0
+IsShort plan (deed.Call call) = length (line_of_call plan call) ≤ 4096
+IsShort plan deed.Run = Unit {0}
+IsShort plan deed.Nothing = Unit {0}
+IsShort plan deed.Tell = Unit {0}
+IsShort plan (deed.Put key row) = Unit {0}
+IsShort plan (deed.Set rule percent) = Unit {0}
+IsShort plan (deed.Keep number) = Unit {0}

@@ -1,5 +1,5 @@
 -- What is true of a script between two of its lines, and behind a line of what it asks for.
-use Rattle.std.specs.Prelude.{◌≡◌, ◌≤◌, ◌<◌, ◌+◌, ℕ, Bool, true, List, [], length}
+use Rattle.std.specs.Prelude.{◌≡◌, ◌≤◌, ◌<◌, ◌+◌, ℕ, Bool, true, false, List, [], length}
 use Rattle.std.specs.List.{All}
 use Rattle.aria_base.specs.Orders.{Cells}
 use Rattle.aria_base.specs.Schemas.{Fits}
@@ -84,6 +84,16 @@ pub record MayRun (place : Place) (work : Work) : Type 0 where
   pub room : length (state_in work.base).waiting + length work.calls.items ≤ MOST_REQUESTS
   pub batches : (state_in work.base).batches < GREATEST_NUMBER
   pub requests : (state_in work.base).requests + length work.calls.items ≤ GREATEST_NUMBER
+
+-- whether a batch is asked for
+abbrev pub runs_batch : Deed → Bool
+runs_batch deed.Run = true
+runs_batch deed.Nothing = false
+runs_batch deed.Tell = false
+runs_batch (deed.Put key row) = false
+runs_batch (deed.Call call) = false
+runs_batch (deed.Set rule percent) = false
+runs_batch (deed.Keep number) = false
 
 abbrev pub MayDo : Place → Work → Deed → Type 0
 MayDo place work deed.Nothing = Stands place work

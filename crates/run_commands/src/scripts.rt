@@ -1,5 +1,5 @@
 // A script between two of its lines, and the next line.
-ghost use Rattle.std.specs.Prelude.{◌≡◌, ◌≢◌, ◌≤◌, ℕ, List, [], ◌∷◌, None, IfOk, IfErr, IsSomeAnd};
+ghost use Rattle.std.specs.Prelude.{◌≡◌, ◌≢◌, ◌≤◌, ℕ, List, [], ◌∷◌, None, false, IfOk, IfErr, IfSome, IsSomeAnd};
 ghost use Rattle.aria_base.specs.Faults.{Rose};
 ghost use Rattle.answer_text.specs.Notices.{kept_text};
 ghost use Rattle.script_course.specs.Causes.{IsCause};
@@ -10,12 +10,12 @@ ghost use Rattle.image_text.specs.Payloads.{Batch};
 ghost use Rattle.serving.specs.Stored.{Holds};
 ghost use Rattle.slot_images.specs.Images.{Checkpoint};
 ghost use Rattle.run_commands.specs.Bases.{IsSettled, plan_in, state_in, store_in};
-ghost use Rattle.run_commands.specs.Keeps.{IsOpen, Keeps, held_of};
+ghost use Rattle.run_commands.specs.Keeps.{IsOpen, IsShort, Keeps, held_of};
 ghost use Rattle.run_commands.specs.Onces.{Doing, behind_batch, doing_result, done, on_line, text_of, with_call, with_row, with_settings, without_calls};
 ghost use Rattle.run_commands.specs.Outs.{start_by};
 ghost use Rattle.run_commands.specs.Stops.{IsStopFor};
 ghost use Rattle.run_commands.specs.Passes.{Line, PassesTurns};
-ghost use Rattle.run_commands.specs.Standing.{MayCall, MayClose, MayDo, MayPut, MayRun, MaySet, Stands, doing_of, running_of};
+ghost use Rattle.run_commands.specs.Standing.{MayCall, MayClose, MayDo, MayPut, MayRun, MaySet, Stands, doing_of, running_of, runs_batch};
 
 use crate::bases::Base;
 use crate::works::Work;
@@ -74,7 +74,7 @@ impl Script {
     }
 
     /// Takes the next line, and gives what it prints. The answer is the script behind it.
-    #[tactic(auto, using(crate::proofs::Moved::moved_to, crate::proofs::Moved::not_moved))]
+    #[tactic(auto, using(crate::proofs::Moved::moved_to, crate::proofs::Moved::not_moved, crate::proofs::Ran::open_without, crate::proofs::Stepped::short_without))]
     pub fn serve<K: Sink, D: Disk, P: Pace + Sync, R: Threads + Sync>(
         self,
         rt: &R,
@@ -107,7 +107,6 @@ impl Script {
 
 impl Work {
     /// Does what a line asks for, at the place behind it, and gives what that prints.
-    #[tactic(auto, using(crate::proofs::Ran::open_without))]
     fn with<K: Sink, D: Disk, P: Pace + Sync, R: Threads + Sync>(
         self,
         rt: &R,
@@ -119,10 +118,38 @@ impl Work {
         pace: &P,
     ) -> Result<Script, Stop>
         requires may { MayDo place self deed }
-        requires store { store_in self.base ≡ None }
+        requires open { IsOpen (D.history disk.old) (running_of place self) }
+        requires short { IfSome (store_in self.base) (λ _. IsShort (plan_in place.head) deed) }
         ensures serves { Serves (done (doing_of place self) deed) (K.given out.old) (K.given out.new) (doing_result result) }
-        ensures store { IfOk result (λ script. script.store ≡ None) }
-        ensures untouched { disk.new ≡ disk.old }
+        ensures open { IfOk result (IsOpen (D.history disk.new)) }
+
+        // A stop at any moment leaves the state before or behind it; and a stop now, what was given of its text.
+        ensures keeps { (c : Checkpoint) (later : List Batch) (before : Doing) (line : List ℕ) → Holds (D.history disk.old) (plan_in place.head) (held_of (running_of place self)) (store_in self.base) c later
+            → before.state ≡ state_in self.base → on_line before line ≡ done (doing_of place self) deed
+            → Keeps (PassesTurns (Line line ∷ []) before (held_of (running_of place self))) (plan_in place.head) (D.history disk.old) (D.history disk.new) (K.given out.old) (K.given out.new) }
+        ensures store { store_in self.base ≡ None → IfOk result (λ script. script.store ≡ None) }
+        ensures untouched { store_in self.base ≡ None → disk.new ≡ disk.old }
+        ensures sink { K.faults out.old ≤ K.faults out.new }
+        ensures cause { IfErr result (λ stop. IsCause stop (Rose (K.faults out.old) (K.faults out.new)) (IsSomeAnd (store_in self.base) (λ _. Rose (D.history disk.old).faults (D.history disk.new).faults))) }
+    {
+        if runs_batch(&deed) {
+            return self.run(rt, alloc, place, out, disk, pace);
+        }
+        return self.quietly(alloc, place, deed, out);
+    }
+
+    /// Does what a line asks for that runs no batch. The disk is not touched.
+    fn quietly<K: Sink>(
+        self,
+        alloc: Global,
+        place: Place,
+        deed: Deed,
+        out: &mut K,
+    ) -> Result<Script, Stop>
+        requires may { MayDo place self deed }
+        requires quiet { runs_batch deed ≡ false }
+        ensures serves { Serves (done (doing_of place self) deed) (K.given out.old) (K.given out.new) (doing_result result) }
+        ensures store { IfOk result (λ script. script.store ≡ store_in self.base) }
         ensures sink { K.faults out.old ≤ K.faults out.new }
         ensures cause { IfErr result (λ stop. IsCause stop (Rose (K.faults out.old) (K.faults out.new)) ⊥) }
     {
@@ -138,7 +165,7 @@ impl Work {
             },
             Deed::Set { rule, percent } => Ok(self.set(place, rule, percent)),
             Deed::Keep(number) => self.keep(alloc, place, number, out),
-            Deed::Run => self.run(rt, alloc, place, out, disk, pace),
+            Deed::Run => unreachable!(),
         }
     }
 
@@ -282,6 +309,21 @@ impl Work {
             }
             None => return Err(why_stopped(given)),
         }
+    }
+}
+
+/// Whether a batch is asked for.
+fn runs_batch(deed: &Deed) -> bool
+    ensures { result ≡ runs_batch deed.now }
+{
+    match deed {
+        Deed::Run => true,
+        Deed::Nothing
+        | Deed::Tell
+        | Deed::Put(_, _)
+        | Deed::Call(_)
+        | Deed::Set { .. }
+        | Deed::Keep(_) => false,
     }
 }
 

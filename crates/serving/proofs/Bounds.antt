@@ -1,6 +1,5 @@
 -- The bounds of a database stay from batch to batch, and fewer wait where no new calls come.
-use Rattle.std.proofs.Common.{◌≡◌, ◌∙◌, sym, ap, subst, refl, ℕ, suc, ◌+◌, ◌<◌, ◌≤◌, List, [], ◌∷◌, ◌++◌, length, not, true, arith}
-use Rattle.std.specs.List.{All, filter}
+use Rattle.std.proofs.Common.{◌≡◌, ◌∙◌, sym, ap, subst, refl, ℕ, suc, ◌+◌, ◌<◌, ◌≤◌, List, [], ◌∷◌, length, not, arith}
 use Rattle.std.proofs.lemmas.List.{length-append}
 use Rattle.std.proofs.lemmas.List.Filters.{length-filter_both}
 use Rattle.aria_base.specs.declared.calls.Call.{Call}
@@ -9,7 +8,7 @@ use Rattle.aria_base.specs.declared.limits.TheConstants.{MOST_REQUESTS}
 use Rattle.aria_base.specs.Orders.{Cells, Database}
 use Rattle.aria_base.specs.declared.keys.Key.{Key}
 use Rattle.batch_core.specs.Serial.{IsSerialAnswer, is_named}
-use Rattle.batch_core.specs.Steps.{State, Handed, numbered, list_of, step, answer}
+use Rattle.batch_core.specs.Steps.{State, Handed, numbered, list_of, step}
 use Rattle.batch_core.specs.declared.answers.Answer.{Answer}
 use Rattle.batch_core.proofs.Progress.{progress}
 use Rattle.batch_engine.specs.Engines.{most_numbered}

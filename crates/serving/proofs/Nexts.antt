@@ -1,5 +1,5 @@
 -- What a batch on all engines says of the database.
-use Rattle.std.proofs.Common.{◌≡◌, ◌∙◌, sym, ap, subst, refl, ℕ, ◌+◌, ◌<◌, ◌≤◌, List, [], ◌∷◌, ◌++◌, length, Some, true, arith}
+use Rattle.std.proofs.Common.{◌≡◌, sym, ap, subst, refl, ◌+◌, ◌<◌, ◌≤◌, List, [], ◌∷◌, length, Some, true, arith}
 use Rattle.std.specs.List.{All, AllZip, slice_get}
 use Rattle.std.proofs.lemmas.List.Elements.{All-head, All-weaker, length_all_zip}
 use Rattle.aria_base.specs.declared.calls.Call.{Call}

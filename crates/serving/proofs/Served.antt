@@ -1,27 +1,27 @@
 -- A batch in the log, its answer, and the checkpoint behind it, put together.
-use Rattle.std.proofs.Common.{◌≡◌, ◌∙◌, ◌⊎◌, inl, inr, sym, ap, subst, refl, ℕ, ◌≤◌, List, [], ◌∷◌, ◌++◌, length, Bool, Option, Some, None, IfSome, arith}
+use Rattle.std.proofs.Common.{◌≡◌, ◌∙◌, ◌⊎◌, inr, sym, ap, subst, ℕ, List, [], length, Bool, true, Option, Some, None, IfSome, arith}
+use Rattle.std.specs.Prelude.{Result, Ok, Err, OnOk}
 use Rattle.std.specs.List.{slice_get}
+use Rattle.std.proofs.KnownBytes.{Appends-nil}
+use Rattle.aria_base.specs.Streams.{AppendsFront}
 use Rattle.aria_base.specs.declared.calls.Call.{Call}
-use Rattle.aria_base.specs.Faults.{Rose}
 use Rattle.batch_core.specs.Steps.{State}
 use Rattle.batch_engine.specs.Engines.{Between, state_in}
-use Rattle.disk_model.specs.Histories.{History, MayLeave, LeavesAll}
-use Rattle.disk_model.proofs.Spans.{leaves_more, leaves_then}
+use Rattle.disk_model.specs.Histories.{History, LeavesAll}
+use Rattle.disk_model.proofs.Spans.{leaves_more, leaves_still, leaves_then, still_none}
 use Rattle.image_text.specs.Payloads.{Batch}
 use Rattle.proc_lang.specs.Catalogs.{Plan}
 use Rattle.slot_images.specs.Images.{Checkpoint}
-use Rattle.store_files.specs.declared.refusals.StoreRefused.{StoreRefused}
-use Rattle.store_files.specs.declared.refusals.StoreRefused.TheVariants as refused
-use Rattle.aria_store.specs.Causes.{WriteCause}
-use Rattle.aria_store.specs.Stands.{Kept, added}
-use Rattle.serving.specs.Given.{IsFor, IsOfWriting, IsUntold}
-use Rattle.serving.specs.Lives.{IsNext, IsRunnable, MayServe, first_state, next_state, next_text, plan_in, plan_of, state_of}
-use Rattle.serving.specs.Stored.{HasTaken, Holds, HoldsTurned, IsHeld, LeavesState, ReopensTo, ReopensToEither, due_by, logged, next_due, next_store, stored_state, turned_by}
+use Rattle.aria_store.specs.Reopens.{Reopens, Found}
+use Rattle.aria_store.specs.Stands.{Kept, MayAdd, Stands, added}
+use Rattle.serving.specs.Given.{IsUntold, Tells}
+use Rattle.serving.specs.Lives.{IsNext, MayServe, next_handed, next_state, plan_of, state_of}
+use Rattle.serving.specs.Stored.{GoesOn, Holds, HoldsTurned, IsHeld, IsLogging, LeavesState, ReopensTo, ReopensToEither, due_by, is_due, logged, next_due, stored_state, told_by, turned, turned_by}
 use Rattle.serving.specs.declared.batches.Given.{Given}
 use Rattle.serving.specs.declared.batches.Given.TheVariants as given
 use Rattle.serving.specs.declared.lives.Live.{Live}
 use Rattle.serving.proofs.Nexts.{plan_is, state_is}
-use Rattle.serving.proofs.Storing.{held_leaves}
+use Rattle.serving.proofs.Storing.{held_leaves, log_held, log_leaves, may_add}
 
 -- ---- the first engine stands for the database
 
@@ -39,36 +39,7 @@ of_first live first e P p =
     subst (λ (plan : Plan). P plan (state_in live.config first)) (plan_is live.replicas first e)
     (subst (λ (state : State). P (plan_of live) state) (state_is live.config live.replicas first e) p)
 
--- ---- what a store that is not closed answers
-
-module _ {D : Type 0} (history : D → History) (old new : D) (was is : Kept) (not_closed : was.files.closed ≡ None) where
-  pub of_writing : (why : StoreRefused) → WriteCause history old new was is why → IsOfWriting why
-  of_writing refused.Memory h = tt
-  of_writing refused.DiskFault h = tt
-  of_writing refused.NoStore h = h
-  of_writing refused.Exists h = h
-  of_writing (refused.Damaged file at) h = h
-  of_writing (refused.Closed faults) h = let other : None ≡ Some faults = sym not_closed ∙ h.2 in absurd cc
-
-  pub untold_for : (why : StoreRefused) (answer : Given) → WriteCause history old new was is why → IsFor why answer
-      → IsUntold answer ⊥ (Rose (history old).faults (history new).faults)
-  untold_for refused.Memory given.NoMemory h k = tt
-  untold_for refused.DiskFault given.NoDisk h k = h.0
-  untold_for refused.Memory given.Told h k = absurd k
-  untold_for refused.Memory given.NoWrite h k = absurd k
-  untold_for refused.Memory given.NoDisk h k = absurd k
-  untold_for refused.DiskFault given.Told h k = absurd k
-  untold_for refused.DiskFault given.NoMemory h k = absurd k
-  untold_for refused.DiskFault given.NoWrite h k = absurd k
-  untold_for refused.NoStore answer h k = absurd h
-  untold_for refused.Exists answer h k = absurd h
-  untold_for (refused.Damaged file at) answer h k = absurd h
-  untold_for (refused.Closed faults) answer h k = let other : None ≡ Some faults = sym not_closed ∙ h.2 in absurd cc
-
 -- ---- the database with its batch in the log is the same but for the store
-
-pub may_logged : (live : Live) (calls : List Call) → MayServe live calls → MayServe (logged live calls) calls
-may_logged live calls h = record { fit = h.fit; room = h.room; batches = h.batches; requests = h.requests; percent = h.percent; workers = h.workers }
 
 next_logged : (live : Live) (calls : List Call) (next : Live) → IsNext (logged live calls) calls next → IsNext live calls next
 next_logged live calls next h = record {
@@ -119,9 +90,6 @@ module _ (live mid next : Live) (calls : List Call) (log : mid ≡ logged live c
   to_live : (P : Plan → State → Type 0) → P (plan_of next) (state_of next) → P (plan_of live) (next_state live calls)
   to_live P p = subst (λ (state : State). P (plan_of live) state) own.state (subst (λ (plan : Plan). P plan (state_of next)) own.plan p)
 
-  pub taken_next : (disk : History) → IfSome mid.store (HasTaken disk (next_state live calls).batches) → IfSome next.store (HasTaken disk (state_of next).batches)
-  taken_next disk h = to_next (λ plan state store. IfSome store (HasTaken disk state.batches)) h
-
   module _ (after : Live) (turn : after ≡ record next { store = turned_by (due_by next.checkpoint (state_of next).batches next.store) (state_of next) next.store }) where
     pub next_after : IsNext live calls after
     next_after = subst (λ (l : Live). IsNext live calls l) (sym turn)
@@ -129,9 +97,6 @@ module _ (live mid next : Live) (calls : List Call) (log : mid ≡ logged live c
 
     due_next : due_by next.checkpoint (state_of next).batches next.store ≡ next_due live calls
     due_next = λ i. due_by (own.checkpoint i) (own.state i).batches (store_next i)
-
-    pub store_after : after.store ≡ next_store live calls
-    store_after = ap (λ (l : Live). l.store) turn ∙ (λ i. turned_by (due_next i) (own.state i) (store_next i))
 
     module _ (old log_disk new : History) (c : Checkpoint) (later : List Batch)
         (logs : Holds old (plan_of live) (stored_state live) live.store c later → Holds log_disk (plan_of live) (next_state live calls) mid.store c (added later live.config.rule live.config.fallback calls))
@@ -163,7 +128,89 @@ module _ (live mid next : Live) (calls : List Call) (log : mid ≡ logged live c
     pub left_after : LeavesState new (plan_of live) (next_state live calls)
     left_after images left = turned_leaves.each new.now turned_leaves.later (omega arith) images left
 
+-- ---- the batch in the log
+
+module _ (live : Live) (calls : List Call) (may : MayServe live calls) (store : Kept) (is : live.store ≡ Some store) (catalog : Plan) (p : catalog ≡ plan_of live)
+    (old : History) (c : Checkpoint) (later : List Batch) (h : Holds old (plan_of live) (stored_state live) live.store c later) where
+  here : IsHeld old (plan_of live) (told_by (Some store) (state_of live)) store c later
+  here = subst (λ (s : Option Kept). Holds old (plan_of live) (told_by s (state_of live)) s c later) is h
+
+  may_here : MayAdd catalog (length calls) c later
+  may_here = subst (λ (q : Plan). MayAdd q (length calls) c later) (sym p)
+      (may_add old (plan_of live) (state_of live) store (next_handed live calls) c later here (omega (arith, may.room)) may.batches may.requests)
+
+  pub logged_holds : (new : History) (now : Kept)
+      → (Stands old store c later → MayAdd catalog (length calls) c later → Stands new now c (added later live.config.rule live.config.fallback calls))
+      → IsHeld new (plan_of live) (next_state live calls) now c (added later live.config.rule live.config.fallback calls)
+  logged_holds new now stands =
+      log_held old (plan_of live) (state_of live) store (next_handed live calls) c later here new now (stands here.stands may_here)
+
+  pub logged_leaves : (new : History)
+      → (Stands old store c later → MayAdd catalog (length calls) c later
+      → LeavesAll old new (λ images. Reopens images (Found c later) ⊎ Reopens images (Found c (added later live.config.rule live.config.fallback calls))))
+      → LeavesAll old new (ReopensToEither (plan_of live) (stored_state live) (next_state live calls))
+  logged_leaves new all =
+      subst (λ (s : Option Kept). LeavesAll old new (ReopensToEither (plan_of live) (told_by s (state_of live)) (next_state live calls))) (sym is)
+      (log_leaves old (plan_of live) (state_of live) store (next_handed live calls) c later here new (all here.stands may_here))
+
+-- a database with a store may log where its store goes on
+pub open_store : (live : Live) (store : Kept) → live.store ≡ Some store → (disk : History) → IsLogging disk live → store.files.closed ≡ None
+open_store live store is disk h =
+    let goes : IfSome (Some store) (GoesOn disk (state_of live).batches) = subst (λ (s : Option Kept). IfSome s (GoesOn disk (state_of live).batches)) is h in
+    goes.open_yet
+
 -- what is held is what a stop now leaves
 pub holds_leaves : (disk : History) (plan : Plan) (state : State) (store : Option Kept) (c : Checkpoint) (later : List Batch) → Holds disk plan state store c later → LeavesState disk plan state
 holds_leaves disk plan state None c later h = absurd h
 holds_leaves disk plan state (Some store) c later h = held_leaves disk plan state store c later h
+
+-- ---- where no call is made, and where a checkpoint is laid
+
+pub still_leaves : (disk : History) (plan : Plan) (state : State) (store : Option Kept) (c : Checkpoint) (later : List Batch) → Holds disk plan state store c later
+    → LeavesAll disk disk (ReopensTo plan state)
+still_leaves disk plan state store c later h =
+    leaves_still disk disk (ReopensTo plan state) (still_none disk) (holds_leaves disk plan state store c later h)
+
+module _ (live : Live) (first : Between) (e : slice_get live.replicas 0 ≡ Some first) (store : Kept) (is : live.store ≡ Some store) where
+  pub due_here : (on : Bool) (number bytes : ℕ) → on ≡ is_due live.checkpoint number bytes → number ≡ first.batches → bytes ≡ store.files.at
+      → due_by live.checkpoint (state_of live).batches live.store ≡ on
+  due_here on number bytes told n b =
+      let count : (state_of live).batches ≡ first.batches = ap (λ (s : State). s.batches) (state_is live.config live.replicas first e) in
+      (λ i. due_by live.checkpoint (count i) (is i)) ∙ sym (told ∙ (λ i. is_due live.checkpoint (n i) (b i)))
+
+  pub turned_holds : {T E : Type 0} (result : Result T E) (old new : History) (now : Kept) → due_by live.checkpoint (state_of live).batches live.store ≡ true
+      → OnOk result ((d : Checkpoint) × IsHeld new first.plan (state_in live.config first) now d [])
+      → OnOk result ((c : Checkpoint) (later : List Batch) → Holds old (plan_of live) (state_of live) live.store c later
+      → HoldsTurned (due_by live.checkpoint (state_of live).batches live.store) new (plan_of live) (state_of live) (Some now) c later)
+  turned_holds (Ok done) old new now due h = λ c later held.
+      subst (λ (b : Bool). HoldsTurned b new (plan_of live) (state_of live) (Some now) c later) (sym due)
+      (h.0, first_is live first e (λ plan state. IsHeld new plan state now h.0 []) h.1)
+  turned_holds (Err why) old new now due h = tt
+
+  pub turned_is : {T E : Type 0} (result : Result T E) (now : Kept) → due_by live.checkpoint (state_of live).batches live.store ≡ true
+      → OnOk result (now ≡ turned true (state_in live.config first) store)
+      → OnOk result (with_store live (Some now) ≡ with_store live (turned_by (due_by live.checkpoint (state_of live).batches live.store) (state_of live) live.store))
+  turned_is (Ok done) now due h =
+      let same = state_is live.config live.replicas first e in
+      ap (λ (s : Option Kept). with_store live s) (ap (λ (k : Kept). Some k) h ∙ sym (λ i. turned_by (due i) (same i) (is i)))
+  turned_is (Err why) now due h = tt
+
+  pub turned_images : (old new : History) (c : Checkpoint) (later : List Batch)
+      → (IsHeld old first.plan (state_in live.config first) store c later → LeavesAll old new (ReopensTo first.plan (state_in live.config first)))
+      → Holds old (plan_of live) (state_of live) live.store c later → LeavesAll old new (ReopensTo (plan_of live) (state_of live))
+  turned_images old new c later all h =
+      first_is live first e (λ plan state. LeavesAll old new (ReopensTo plan state))
+      (all (of_first live first e (λ plan state. IsHeld old plan state store c later) (subst (λ (s : Option Kept). Holds old (plan_of live) (state_of live) s c later) is h)))
+
+-- ---- where it is not told
+
+module _ (text : List ℕ) (goes_on : Live → Type 0) (old new : Option (List ℕ)) where
+  pub untold_tells : (S D : Type 0) (why : Given) → IsUntold why S D → AppendsFront old new text → Tells text goes_on old new (None, why)
+  untold_tells S D given.Told h front = absurd h
+  untold_tells S D given.NoMemory h front = front
+  untold_tells S D given.NoWrite h front = front
+  untold_tells S D given.NoDisk h front = front
+
+-- nothing was given
+pub none_given : (now : Option (List ℕ)) (text : List ℕ) → AppendsFront now now text
+none_given now text = (0, Appends-nil now)

@@ -1,20 +1,21 @@
 -- What a store holds is the state of the database, batch by batch.
-use Rattle.std.proofs.Common.{◌≡◌, ◌∙◌, ◌⊎◌, inl, inr, sym, ap, subst, refl, ℕ, ◌+◌, ◌<◌, ◌≤◌, List, [], ◌∷◌, ◌++◌, length, map, Option, Some, None, arith}
-use Rattle.aria_base.specs.declared.calls.Call.{Call}
+use Rattle.std.proofs.Common.{◌≡◌, ◌∙◌, ◌⊎◌, inl, inr, sym, ap, subst, refl, ℕ, ◌+◌, ◌<◌, ◌≤◌, List, [], ◌∷◌, ◌++◌, length, map, Some, arith}
 use Rattle.aria_base.specs.declared.calls.Request.{Request}
 use Rattle.aria_base.specs.declared.keys.Key.{Key}
 use Rattle.aria_base.specs.declared.limits.TheConstants.{MOST_REQUESTS}
 use Rattle.aria_base.specs.Orders.{Cells, Database}
+use Rattle.batch_core.specs.Serial.{RiseWithin}
 use Rattle.batch_core.specs.Steps.{State, Handed, step, run}
-use Rattle.batch_engine.specs.Engines.{Between, state_in, most_numbered}
+use Rattle.batch_engine.specs.Engines.{Between, IsReady, state_in, most_numbered}
 use Rattle.batch_rules.specs.Trees.{Tree}
+use Rattle.checkpoint.specs.declared.heads.Head.{Head}
 use Rattle.dep_rules.specs.declared.configs.Config.{Config}
-use Rattle.disk_model.specs.Histories.{History, MayLeave, LeavesAll}
+use Rattle.disk_model.specs.Histories.{History, LeavesAll}
 use Rattle.disk_model.proofs.Spans.{leaves_more}
 use Rattle.image_text.specs.Payloads.{Batch}
 use Rattle.proc_lang.specs.Catalogs.{Plan, run_of}
 use Rattle.proc_lang.specs.declared.ends.End.{End}
-use Rattle.slot_images.specs.Images.{Checkpoint}
+use Rattle.slot_images.specs.Images.{Checkpoint, MayCarry}
 use Rattle.aria_store.specs.Records.{requests_after}
 use Rattle.aria_store.specs.Reopens.{Reopens, Found}
 use Rattle.aria_store.specs.Stands.{Kept, Stands, MayAdd, next_checkpoint}
@@ -84,6 +85,17 @@ module _ (old : History) (plan : Plan) (state : State) (store : Kept) (handed : 
       ])
 
 -- ---- the next checkpoint
+
+-- it may carry what the engine carries
+pub carries : (head : Head) (engine : Between) (held : List Request) → held ≡ engine.carried → head.requests ≡ engine.requests
+    → IsReady engine.plan engine.rows engine.carried engine.batches engine.requests → MayCarry head held
+carries head engine held k q ready =
+    let rise : RiseWithin (λ request. request.q) 0 held engine.requests =
+    subst (λ (list : List Request). RiseWithin (λ request. request.q) 0 list engine.requests) (sym k) ready.numbered in
+    record {
+      numbered = subst (λ (n : ℕ). RiseWithin (λ request. request.q) 0 held n) (sym q) rise;
+      few = subst (λ (list : List Request). length list ≤ MOST_REQUESTS) (sym k) ready.few;
+    }
 
 module _ (was : Kept) (engine : Between) (config : Config) (plan : Plan) (rows : Database) (held : List Request) (batches requests : ℕ)
     (p : plan ≡ engine.plan) (r : rows ≡ engine.rows) (k : held ≡ engine.carried) (b : batches ≡ engine.batches) (q : requests ≡ engine.requests) where

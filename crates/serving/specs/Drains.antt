@@ -1,5 +1,5 @@
 -- What the requests that wait come to without new calls.
-use Rattle.std.specs.Prelude.{ℕ, suc, zero, Bool, ◌==◌, nat_lt, if◌then◌else◌, List, [], length, Option, Result, Ok, Err}
+use Rattle.std.specs.Prelude.{ℕ, suc, zero, Bool, ◌==◌, nat_lt, if◌then◌else◌, [], length, Result, Ok, Err}
 use Rattle.answer_text.specs.Refusals.{refusal_text}
 use Rattle.batch_core.specs.Steps.{State, Handed, step}
 use Rattle.batch_engine.specs.Engines.{most_numbered}

@@ -1,5 +1,5 @@
 // The next checkpoint behind a batch, where one is due.
-ghost use Rattle.std.specs.Prelude.{◌≡◌, ◌≤◌, None, [], List, true, IfErr, IsOk, IfSome, OnOk};
+ghost use Rattle.std.specs.Prelude.{◌≡◌, ◌≤◌, None, true, [], List, IfErr, IfSome, IsOk, OnOk};
 ghost use Rattle.aria_base.specs.Faults.{Rose};
 ghost use Rattle.batch_engine.specs.Engines.{most_numbered, state_in};
 ghost use Rattle.disk_model.specs.Histories.{LeavesAll};
@@ -73,6 +73,7 @@ fn rotate<D: Disk>(
     ensures disk { OnOk result ((D.history disk.old).faults ≤ (D.history disk.new).faults) }
     ensures cause { IfErr result (λ why. IsUntold why ⊥ (Rose (D.history disk.old).faults (D.history disk.new).faults)) }
 {
+    engine.ready();
     let (batches, requests) = (engine.batches(), engine.requests());
     let laid = store.rotate(
         alloc,
