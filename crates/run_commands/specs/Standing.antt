@@ -8,11 +8,11 @@ use Rattle.aria_base.specs.declared.keys.Key.{Key}
 use Rattle.aria_base.specs.declared.limits.TheConstants.{GREATEST_NUMBER, MOST_REQUESTS}
 use Rattle.proc_lang.specs.Catalogs.{takes}
 use Rattle.script_places.specs.Follows.{IsReadyWith}
+use Rattle.script_places.specs.Places.{is_check}
 use Rattle.script_places.specs.declared.deeds.Deed.{Deed}
 use Rattle.script_places.specs.declared.deeds.Deed.TheVariants as deed
 use Rattle.script_places.specs.declared.heads.Head.{Head}
 use Rattle.script_places.specs.declared.heads.Head.TheVariants as head
-use Rattle.script_places.specs.declared.places.Mode.TheVariants as mode
 use Rattle.script_places.specs.declared.places.Place.{Place}
 use Rattle.script_text.specs.declared.fits.TheConstants.{MOST_PERCENT}
 use Rattle.run_commands.specs.Bases.{IsBounded, IsUnder, IsBlank, IsHead, IsListed, state_in, store_in}
@@ -42,7 +42,7 @@ HasEnded rows_ended (base.Runs live) = rows_ended ≡ true
 
 -- what holds whatever calls are open
 pub record Holds (place : Place) (work : Work) : Type 0 where
-  pub mode_kept : place.mode ≡ mode.Once
+  pub mode_kept : is_check place.mode ≡ false
   pub of_head : IsOf place.head work.calls.items work.base
   pub ended : HasEnded place.rows_ended work.base
   pub bounded : IsBounded work.base
