@@ -18,6 +18,7 @@ use aria_base::{Memory, Pace, Sink, Source};
 use audit_command::audit;
 use check_command::check_report;
 use command_words::{Bench, Once, Workload};
+use disk_model::Disk;
 use gen_command::generate;
 use run_commands::once;
 use script_course::{DONE, NO_MEMORY, READ_FAULT, REFUSED, WRITE_FAULT};
@@ -26,12 +27,13 @@ use std::thread::Threads;
 
 /// Runs `once`, and answers its status.
 #[tactic(auto, using(crate::proofs::Stopped::answered_end, crate::proofs::Stopped::front_end, crate::proofs::Stopped::front_cut, crate::proofs::Stopped::answered_cut, crate::proofs::Stopped::others_cut, crate::proofs::Stopped::read_cut, crate::proofs::Stopped::write_cut, crate::proofs::Stopped::never_ended, crate::proofs::Stopped::told_cut))]
-pub fn run_once<S: Source, K: Sink, P: Pace + Sync, R: Threads + Sync>(
+pub fn run_once<S: Source, K: Sink, D: Disk, P: Pace + Sync, R: Threads + Sync>(
     rt: &R,
     alloc: Global,
     settings: &Once,
     input: &mut S,
     out: &mut K,
+    disk: &mut D,
     pace: &P,
 ) -> u8
     requires { IsInRange settings.now }
@@ -42,9 +44,10 @@ pub fn run_once<S: Source, K: Sink, P: Pace + Sync, R: Threads + Sync>(
     ensures read { result ≡ READ_FAULT → Rose (S.faults input.old) (S.faults input.new) }
     ensures write { result ≡ WRITE_FAULT → Rose (K.faults out.old) (K.faults out.new) }
     ensures end { IsEnded result → IsAtEnd (S.left input.new) }
+    ensures disk { disk.new ≡ disk.old }
     ensures told { result ≡ READ_FAULT → IsToldOf (told_of settings.now) (S.left input.old) (S.left input.new) (K.given out.old) (K.given out.new) }
 {
-    match once(rt, alloc, settings, input, out, pace) {
+    match once(rt, alloc, settings, input, out, disk, pace) {
         Ok(status) => status,
         Err(stop) => stop.status(),
     }

@@ -64,19 +64,20 @@ pub fn aria<S: Source, K: Sink, D: Disk, P: Pace + Sync, R: Threads + Sync>(
     each_is_serial();
     one_output();
     match read_task(alloc, words) {
-        Ok(Some(task)) => return run_task(rt, alloc, &task, input, out, pace),
+        Ok(Some(task)) => return run_task(rt, alloc, &task, input, out, disk, pace),
         Ok(None) => return refuse_usage(out),
         Err(Memory) => return NO_MEMORY,
     }
 }
 
 /// Does what the words ask for, and answers its status.
-fn run_task<S: Source, K: Sink, P: Pace + Sync, R: Threads + Sync>(
+fn run_task<S: Source, K: Sink, D: Disk, P: Pace + Sync, R: Threads + Sync>(
     rt: &R,
     alloc: Global,
     task: &Task,
     input: &mut S,
     out: &mut K,
+    disk: &mut D,
     pace: &P,
 ) -> u8
     requires { IsInRange task.now }
@@ -90,9 +91,10 @@ fn run_task<S: Source, K: Sink, P: Pace + Sync, R: Threads + Sync>(
     ensures end { IsEnded result → reads (Some task.now) ≡ true → IsAtEnd (S.left input.new) }
     ensures told { result ≡ READ_FAULT → IsToldFor (Some task.now) (S.left input.old) (S.left input.new) (K.given out.old) (K.given out.new) }
     ensures untouched { reads (Some task.now) ≡ false → input.new ≡ input.old }
+    ensures disk { disk.new ≡ disk.old }
 {
     match task {
-        Task::Once(settings) => return run_once(rt, alloc, settings, input, out, pace),
+        Task::Once(settings) => return run_once(rt, alloc, settings, input, out, disk, pace),
         Task::Gen(settings) => return run_gen(alloc, settings, out),
         Task::Bench(settings) => return run_bench(rt, alloc, settings, out, pace),
         Task::Audit => return run_audit(alloc, input, out),

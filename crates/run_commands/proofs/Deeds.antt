@@ -222,7 +222,7 @@ module _ (place : Place) (work : Work) (before : Live) (begun : IsBegun place.he
       ∙ ap (λ (s : State). batch_text (plan_in place.head) work.each s (next_handed before calls)) begun.state
       ∙ ap (λ (h : Handed). batch_text (plan_in place.head) work.each state h) same_handed
 
-  state_is : next_state before calls ≡ step (run_of (plan_in place.head)) state (handed_at state calls)
+  pub state_is : next_state before calls ≡ step (run_of (plan_in place.head)) state (handed_at state calls)
   state_is =
       ap (λ (plan : Plan). step (run_of plan) (state_of before) (next_handed before calls)) begun.plan
       ∙ ap (λ (s : State). step (run_of (plan_in place.head)) s (next_handed before calls)) begun.state

@@ -5,3 +5,7 @@ pub mod Ending
 pub mod Moved
 pub mod Asked
 pub mod Whole
+pub mod Told
+pub mod Kept
+pub mod Ran
+pub mod Stepped

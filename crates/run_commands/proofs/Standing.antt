@@ -66,7 +66,7 @@ ended_on before after (base.Runs live) on h = on h
 module _ (p q : Place) (work : Work) where
   pub holds_on : q.mode ≡ p.mode → HeadStays p.head q.head → (p.rows_ended ≡ true → q.rows_ended ≡ true) → Holds p work → Holds q work
   holds_on mode stays rows h = record {
-    mode_kept = mode ∙ h.mode_kept;
+    mode_kept = ap is_check mode ∙ h.mode_kept;
     of_head = of_head_on p.head q.head work.calls.items work.base stays h.of_head;
     ended = ended_on p.rows_ended q.rows_ended work.base rows h.ended;
     bounded = h.bounded;
@@ -112,7 +112,7 @@ may_do p q work deed.Run s f = record {
   counted = f.allows.calls;
   rows = f.allows.rows;
   ready = f.allows.ready;
-  room = subst (λ n. length (state_in work.base).waiting + n ≤ MOST_REQUESTS) s.counted (f.allows.room (ap is_check s.holds.mode_kept));
+  room = subst (λ n. length (state_in work.base).waiting + n ≤ MOST_REQUESTS) s.counted (f.allows.room s.holds.mode_kept);
   batches = f.allows.batches;
   requests = subst (λ n. (state_in work.base).requests + n ≤ GREATEST_NUMBER) s.counted f.allows.requests;
 }

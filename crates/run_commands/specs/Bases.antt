@@ -1,8 +1,9 @@
 -- A database before its first batch, and from then on, as a state.
-use Rattle.std.specs.Prelude.{◌≡◌, ◌≤◌, ℕ, Bool, length, Result, Ok, Err}
+use Rattle.std.specs.Prelude.{◌≡◌, ◌≤◌, ℕ, Bool, length, Option, None, Result, Ok, Err}
 use Rattle.std.specs.FinMap as fin
 use Rattle.aria_base.specs.Orders.{Cells}
 use Rattle.aria_base.specs.Schemas.{IsConsistent}
+use Rattle.aria_store.specs.Stands.{Kept}
 use Rattle.aria_base.specs.declared.keys.Key.{Key}
 use Rattle.batch_core.specs.Steps.{State}
 use Rattle.batch_rules.specs.declared.verdicts.Rule.{Rule}
@@ -20,6 +21,11 @@ use Rattle.run_commands.specs.declared.bases.Base.TheVariants as base
 abbrev pub state_in : Base → State
 state_in (base.Rows tables config) = record (blank config) { rows = tables }
 state_in (base.Runs live) = state_of live
+
+-- its store; before the first batch there is none
+abbrev pub store_in : Base → Option Kept
+store_in (base.Rows tables config) = None
+store_in (base.Runs live) = live.store
 
 -- what decides about the end of a batch
 abbrev pub counts_of : State → Counts
@@ -90,4 +96,5 @@ pub record IsBegun (h : Head) (b : Base) (each : Bool) (live : Live) : Type 0 wh
   pub plan : plan_of live ≡ plan_in h
   pub state : state_of live ≡ state_in b
   pub listed : live.each ≡ each
+  pub store : live.store ≡ store_in b
   pub runnable : IsRunnable live

@@ -1,13 +1,15 @@
 -- How a script is kept as a ghost value.
-use Rattle.std.specs.Prelude.{Bool, List, refl}
-use Rattle.std.specs.Coded.{Coded, code_by, coded×, coded_list, coded_bool}
+use Rattle.std.specs.Prelude.{Bool, List, Option, refl}
+use Rattle.std.specs.Coded.{Coded, code_by, coded×, coded_list, coded_bool, coded_option}
 use Rattle.aria_base.specs.contracts.calls.Call as call
 use Rattle.aria_base.specs.declared.calls.Call.{Call}
+use Rattle.aria_store.specs.Stands.{Kept}
+use Rattle.aria_store.specs.contracts.stores.Store as store
 use Rattle.batch_core.specs.Codes.{state_code}
 use Rattle.batch_core.specs.Steps.{State}
 use Rattle.script_places.specs.contracts.places.Place as place
 use Rattle.script_places.specs.declared.places.Place.{Place}
-use Rattle.run_commands.specs.Onces.{Doing}
+use Rattle.run_commands.specs.Onces.{Doing, Running}
 
 abbrev pub doing_code : Coded Doing
 doing_code = code_by ((Place × List Call) × (State × Bool))
@@ -15,3 +17,7 @@ doing_code = code_by ((Place × List Call) × (State × Bool))
     (λ d. ((d.place, d.calls), (d.state, d.each)))
     (λ p. record { place = p.0.0; calls = p.0.1; state = p.1.0; each = p.1.1 })
     (λ _. refl)
+
+abbrev pub running_code : Coded Running
+running_code = code_by (Doing × Option Kept) (coded× doing_code (coded_option (store.the_row).coded))
+    (λ s. (s.doing, s.store)) (λ p. record { doing = p.0; store = p.1 }) (λ _. refl)

@@ -1,6 +1,9 @@
 pub mod Bases
 pub mod Codes
+pub mod Keeps
 pub mod Onces
 pub mod Outs
+pub mod Passes
 pub mod Serial
 pub mod Standing
+pub mod Stops

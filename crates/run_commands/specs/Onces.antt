@@ -1,9 +1,10 @@
 -- A script that is run while it is read: what each line prints, which state follows, and what the end prints.
-use Rattle.std.specs.Prelude.{ℕ, Bool, if◌then◌else◌, List, [], ◌∷◌, ◌++◌, Result, Ok, Err}
+use Rattle.std.specs.Prelude.{ℕ, Bool, if◌then◌else◌, List, [], ◌∷◌, ◌++◌, Option, Result, Ok, Err}
 use Rattle.std.specs.FinMap as fin
 use Rattle.aria_base.specs.Orders.{Cells}
 use Rattle.aria_base.specs.declared.calls.Call.{Call}
 use Rattle.aria_base.specs.declared.keys.Key.{Key}
+use Rattle.aria_store.specs.Stands.{Kept}
 use Rattle.answer_text.specs.Notices.{kept_text}
 use Rattle.answer_text.specs.Refusals.{refusal_text}
 use Rattle.batch_core.specs.Steps.{State, Handed, step}
@@ -11,6 +12,7 @@ use Rattle.batch_rules.specs.declared.verdicts.Rule.{Rule}
 use Rattle.proc_lang.specs.Catalogs.{Plan, run_of}
 use Rattle.script_course.specs.Courses.{Course, Goes, Stops, Out, ended, status_of}
 use Rattle.script_course.specs.declared.statuses.TheConstants.{DONE}
+use Rattle.script_course.specs.declared.stops.Stop.{Stop}
 use Rattle.script_course.specs.declared.stops.Stop.TheVariants as stop
 use Rattle.script_places.specs.Places.{Asked, asked, closing}
 use Rattle.script_places.specs.declared.deeds.Deed.{Deed}
@@ -29,6 +31,16 @@ pub record Doing : Type 0 where
   pub calls : List Call
   pub state : State
   pub each : Bool
+
+-- with its store; what is printed does not depend on that
+pub record Running : Type 0 where
+  pub doing : Doing
+  pub store : Option Kept
+
+-- a result by what is printed from then on
+abbrev pub doing_result : Result Running Stop → Result Doing Stop
+doing_result (Ok script) = Ok script.doing
+doing_result (Err why) = Err why
 
 -- ---- a line
 

@@ -1,26 +1,22 @@
 -- What is true of a script between two of its lines, and behind a line of what it asks for.
-use Rattle.std.specs.Prelude.{◌≡◌, ◌≤◌, ◌<◌, ◌+◌, ℕ, Bool, true, List, [], length, Result, Ok, Err}
+use Rattle.std.specs.Prelude.{◌≡◌, ◌≤◌, ◌<◌, ◌+◌, ℕ, Bool, true, false, List, [], length}
 use Rattle.std.specs.List.{All}
 use Rattle.aria_base.specs.Orders.{Cells}
 use Rattle.aria_base.specs.Schemas.{Fits}
 use Rattle.aria_base.specs.declared.calls.Call.{Call}
 use Rattle.aria_base.specs.declared.keys.Key.{Key}
 use Rattle.aria_base.specs.declared.limits.TheConstants.{GREATEST_NUMBER, MOST_REQUESTS}
-use Rattle.answer_text.specs.Refusals.{refusal_text}
 use Rattle.proc_lang.specs.Catalogs.{takes}
-use Rattle.script_course.specs.Courses.{Course, Goes, Stops}
 use Rattle.script_places.specs.Follows.{IsReadyWith}
+use Rattle.script_places.specs.Places.{is_check}
 use Rattle.script_places.specs.declared.deeds.Deed.{Deed}
 use Rattle.script_places.specs.declared.deeds.Deed.TheVariants as deed
 use Rattle.script_places.specs.declared.heads.Head.{Head}
 use Rattle.script_places.specs.declared.heads.Head.TheVariants as head
-use Rattle.script_places.specs.declared.places.Mode.TheVariants as mode
 use Rattle.script_places.specs.declared.places.Place.{Place}
 use Rattle.script_text.specs.declared.fits.TheConstants.{MOST_PERCENT}
-use Rattle.script_text.specs.declared.refusals.LinesRefused.{LinesRefused}
-use Rattle.script_text.specs.declared.refusals.LinesRefused.TheVariants.{Memory, Line}
-use Rattle.run_commands.specs.Bases.{IsBounded, IsUnder, IsBlank, IsHead, IsListed, state_in}
-use Rattle.run_commands.specs.Onces.{Doing}
+use Rattle.run_commands.specs.Bases.{IsBounded, IsUnder, IsBlank, IsHead, IsListed, state_in, store_in}
+use Rattle.run_commands.specs.Onces.{Doing, Running}
 use Rattle.run_commands.specs.declared.bases.Base.{Base}
 use Rattle.run_commands.specs.declared.bases.Base.TheVariants as base
 use Rattle.run_commands.specs.declared.works.Work.{Work}
@@ -28,6 +24,10 @@ use Rattle.run_commands.specs.declared.works.Work.{Work}
 -- a script as its output sees it: without replicas and workers
 abbrev pub doing_of : Place → Work → Doing
 doing_of place work = record { place = place; calls = work.calls.items; state = state_in work.base; each = work.each }
+
+-- with its store
+abbrev pub running_of : Place → Work → Running
+running_of place work = record { doing = doing_of place work; store = store_in work.base }
 
 -- before the catalogue is there, there is no row and no call; then both are of it
 abbrev pub IsOf : Head → List Call → Base → Type 0
@@ -42,7 +42,7 @@ HasEnded rows_ended (base.Runs live) = rows_ended ≡ true
 
 -- what holds whatever calls are open
 pub record Holds (place : Place) (work : Work) : Type 0 where
-  pub mode_kept : place.mode ≡ mode.Once
+  pub mode_kept : is_check place.mode ≡ false
   pub of_head : IsOf place.head work.calls.items work.base
   pub ended : HasEnded place.rows_ended work.base
   pub bounded : IsBounded work.base
@@ -85,6 +85,16 @@ pub record MayRun (place : Place) (work : Work) : Type 0 where
   pub batches : (state_in work.base).batches < GREATEST_NUMBER
   pub requests : (state_in work.base).requests + length work.calls.items ≤ GREATEST_NUMBER
 
+-- whether a batch is asked for
+abbrev pub runs_batch : Deed → Bool
+runs_batch deed.Run = true
+runs_batch deed.Nothing = false
+runs_batch deed.Tell = false
+runs_batch (deed.Put key row) = false
+runs_batch (deed.Call call) = false
+runs_batch (deed.Set rule percent) = false
+runs_batch (deed.Keep number) = false
+
 abbrev pub MayDo : Place → Work → Deed → Type 0
 MayDo place work deed.Nothing = Stands place work
 MayDo place work deed.Tell = Stands place work
@@ -93,11 +103,3 @@ MayDo place work (deed.Call call) = MayCall place work call
 MayDo place work (deed.Set rule percent) = MaySet place work percent
 MayDo place work (deed.Keep number) = MayClose place work
 MayDo place work deed.Run = MayRun place work
-
--- ---- a line
-
--- a course goes on with this text and this state, or the refusal is what it prints
-abbrev pub Moves : {V : Type 0} → (V → List ℕ) → Course Doing → Result (Doing × V) LinesRefused → Type 0
-Moves items course (Ok r) = course ≡ Goes (items r.1) r.0
-Moves items course (Err Memory) = Unit {0}
-Moves items course (Err (Line refusal)) = course ≡ Stops (refusal_text refusal)

@@ -2,10 +2,8 @@
 ghost use Rattle.std.specs.Prelude.{◌≡◌, ◌≤◌, IfOk};
 ghost use Rattle.script_places.specs.Follows.{IsReadyWith};
 ghost use Rattle.answer_text.specs.States.{state_text};
-ghost use Rattle.aria_base.specs.Schemas.{IsConsistent};
-ghost use Rattle.serving.specs.Lives.{listing, no_plan, plan_of, state_of};
-ghost use Rattle.run_commands.specs.declared.bases.Base.TheVariants as base;
-ghost use Rattle.run_commands.specs.Bases.{IsSettled, IsBegun, IsBounded, IsHead, IsListed, IsNamed, IsUnder, counts_of, plan_in, put_in, set_in, settings_with, state_in};
+ghost use Rattle.serving.specs.Lives.{listing, no_plan};
+ghost use Rattle.run_commands.specs.Bases.{IsBegun, IsBounded, IsHead, IsListed, IsNamed, IsUnder, counts_of, plan_in, put_in, set_in, settings_with, state_in};
 
 use answer_text::print_state;
 use aria_base::{Key, Memory, Row, Schema};

@@ -29,7 +29,7 @@ pub(crate) fn end_of<K: Sink, P: Pace + Sync, R: Threads + Sync>(
     out: &mut K,
     pace: &P,
 ) -> Result<u8, Stop>
-    ensures finishes { Finishes (on_end drains script) (K.given out.old) (K.given out.new) result }
+    ensures finishes { Finishes (on_end drains script.doing) (K.given out.old) (K.given out.new) result }
     ensures read { result ≢ Err stop.NoRead }
     ensures zero { IfOk result (λ status. status ≡ DONE) }
     ensures sink { K.faults out.old ≤ K.faults out.new }

@@ -5,11 +5,12 @@
 //! listed.
 //!
 //! ```text
-//! Source ──> loops ──line──> Place (script_places) ──> Deed ──> Script ──> Live (serving) ──> text ──> Sink
+//! Source ──> loops ──line──> Place (script_places) ──> Deed ──> Script ──> serve_batch (serving) ──> Sink, Disk
 //! ```
 //!
 //! In `specs/`: `Once` says what each line prints and which state follows, what the end prints, and with
-//! that the output of a whole script.
+//! that the output of a whole script. `Passes` says which states a store holds in turn while a script runs, and
+//! `Keeps` what its disk holds then; no command has a store yet.
 #![tactic(auto)]
 
 mod bases;

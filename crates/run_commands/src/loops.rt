@@ -3,19 +3,20 @@
 // A trait's method cannot start threads through a type parameter, so this loop stands beside the one of
 // `script_course` for commands that run no batches. What it comes to is said in the same words, and rests on
 // the same laws.
-ghost use Rattle.std.specs.Prelude.{◌≡◌, ◌≤◌, [], Some, IfOk, IfErr, IsErr};
+ghost use Rattle.std.specs.Prelude.{◌≡◌, ◌≤◌, [], None, Some, IfOk, IfErr, IsErr};
 ghost use Rattle.std.specs.Io.KnownBytes.{IsAtEnd};
 ghost use Rattle.aria_base.specs.Faults.{Rose};
 ghost use Rattle.script_text.specs.Lines.{last_line, scan};
 ghost use Rattle.script_course.specs.Causes.{IsCause, IsReadCause, IsTaken};
 ghost use Rattle.script_course.specs.Courses.{Goes, told, told_whole, with_fault, with_last, with_lines, with_scan};
 ghost use Rattle.script_course.specs.Served.{Comes, Serves};
-ghost use Rattle.run_commands.specs.Onces.{on_line};
+ghost use Rattle.run_commands.specs.Onces.{doing_result, on_line};
 ghost use Rattle.run_commands.specs.Outs.{no_line};
 
 use crate::scripts::Script;
 use aria_base::{Bytes, Memory, Pace, Sink, Source};
-use script_course::{PIECE, Stop, give, refuse};
+use disk_model::Disk;
+use script_course::{PIECE, Stop, refuse};
 use script_text::{Lines, LinesRefused, Refusal};
 use std::alloc::Global;
 use std::thread::Threads;
@@ -31,18 +32,23 @@ pub const LONGEST_LINE: u32 = 4_096;
 ///
 /// What comes first decides: a refused line, a fault, or want of memory ends all, and nothing is printed
 /// behind it but the line of a refusal. Where the source fails, just the lines that were whole are answered.
-pub(crate) fn read_script<S: Source, K: Sink, P: Pace + Sync, R: Threads + Sync>(
+pub(crate) fn read_script<S: Source, K: Sink, D: Disk, P: Pace + Sync, R: Threads + Sync>(
     rt: &R,
     alloc: Global,
     start: Script,
     input: &mut S,
     out: &mut K,
+    disk: &mut D,
     pace: &P,
 ) -> Result<Script, Stop>
+    requires { start.store ≡ None }
+
     // What was printed is what the text prints; where it was cut off, a front of it. Where the source
     // failed, it is all that the bytes that were taken tell, and no line of them was refused.
-    ensures comes { Comes (told on_line no_line start) (told_whole on_line no_line start) (S.left input.old) (S.left input.new) (K.given out.old) (K.given out.new) result }
+    ensures comes { Comes (told on_line no_line start.doing) (told_whole on_line no_line start.doing) (S.left input.old) (S.left input.new) (K.given out.old) (K.given out.new) (doing_result result) }
     ensures end { IfOk result (λ _. IsAtEnd (S.left input.new)) }
+    ensures store { IfOk result (λ next. next.store ≡ None) }
+    ensures untouched { disk.new ≡ disk.old }
 
     // Each stop for a fault has its cause.
     ensures source { S.faults input.old ≤ S.faults input.new }
@@ -57,9 +63,18 @@ pub(crate) fn read_script<S: Source, K: Sink, P: Pace + Sync, R: Threads + Sync>
             return Err(Stop::NoRead);
         };
         if count == 0 {
-            return finish(rt, alloc, script, lines, out, pace);
+            return finish(rt, alloc, script, lines, out, disk, pace);
         }
-        match take_piece(rt, alloc, script, &mut lines, &buffer[..count], out, pace) {
+        match take_piece(
+            rt,
+            alloc,
+            script,
+            &mut lines,
+            &buffer[..count],
+            out,
+            disk,
+            pace,
+        ) {
             Ok(next) => script = next,
             Err(stop) => return Err(stop),
         }
@@ -67,123 +82,104 @@ pub(crate) fn read_script<S: Source, K: Sink, P: Pace + Sync, R: Threads + Sync>
 }
 
 /// Takes the next bytes.
-fn take_piece<K: Sink, P: Pace + Sync, R: Threads + Sync>(
+fn take_piece<K: Sink, D: Disk, P: Pace + Sync, R: Threads + Sync>(
     rt: &R,
     alloc: Global,
     script: Script,
     lines: &mut Lines,
     piece: &[u8],
     out: &mut K,
+    disk: &mut D,
     pace: &P,
 ) -> Result<Script, Stop>
-    ensures serves { Serves (with_scan on_line (Goes [] script) (scan lines.old piece.now)) (K.given out.old) (K.given out.new) result }
+    requires { script.store ≡ None }
+    ensures serves { Serves (with_scan on_line (Goes [] script.doing) (scan lines.old piece.now)) (K.given out.old) (K.given out.new) (doing_result result) }
+    ensures store { IfOk result (λ next. next.store ≡ None) }
+    ensures untouched { disk.new ≡ disk.old }
     ensures taken { IfOk result (λ _. IsTaken (scan lines.old piece.now) lines.new) }
     ensures sink { K.faults out.old ≤ K.faults out.new }
     ensures cause { IfErr result (λ stop. IsCause stop (Rose (K.faults out.old) (K.faults out.new)) ⊥) }
 {
     match lines.feed(piece) {
-        Ok(done) => each_line(rt, alloc, script, &done, out, pace),
+        Ok(done) => each_line(rt, alloc, script, &done, out, disk, pace),
         Err(LinesRefused::Memory) => Err(Stop::NoMemory),
         Err(LinesRefused::Line(refusal)) => match lines.before(piece) {
-            Ok(done) => refuse_behind(rt, alloc, script, &done, &refusal, out, pace),
+            Ok(done) => refuse_behind(rt, alloc, script, &done, &refusal, out, disk, pace),
             Err(Memory) => Err(Stop::NoMemory),
         },
     }
 }
 
 /// The lines, and then the refusal of the next one.
-fn refuse_behind<K: Sink, P: Pace + Sync, R: Threads + Sync>(
+fn refuse_behind<K: Sink, D: Disk, P: Pace + Sync, R: Threads + Sync>(
     rt: &R,
     alloc: Global,
     script: Script,
     lines: &[Bytes],
     refusal: &Refusal,
     out: &mut K,
+    disk: &mut D,
     pace: &P,
 ) -> Result<Script, Stop>
-    ensures serves { Serves (with_fault (with_lines on_line (Goes [] script) lines.now) (Some refusal.now)) (K.given out.old) (K.given out.new) result }
+    requires { script.store ≡ None }
+    ensures serves { Serves (with_fault (with_lines on_line (Goes [] script.doing) lines.now) (Some refusal.now)) (K.given out.old) (K.given out.new) (doing_result result) }
+    ensures untouched { disk.new ≡ disk.old }
     ensures stops { IsErr result }
     ensures sink { K.faults out.old ≤ K.faults out.new }
     ensures cause { IfErr result (λ stop. IsCause stop (Rose (K.faults out.old) (K.faults out.new)) ⊥) }
 {
-    match each_line(rt, alloc, script, lines, out, pace) {
+    match each_line(rt, alloc, script, lines, out, disk, pace) {
         Ok(_) => return refuse(alloc, refusal, out),
         Err(stop) => return Err(stop),
     }
 }
 
 /// The last line, where no line feed completes it.
-fn finish<K: Sink, P: Pace + Sync, R: Threads + Sync>(
+fn finish<K: Sink, D: Disk, P: Pace + Sync, R: Threads + Sync>(
     rt: &R,
     alloc: Global,
     script: Script,
     lines: Lines,
     out: &mut K,
+    disk: &mut D,
     pace: &P,
 ) -> Result<Script, Stop>
-    ensures serves { Serves (with_last on_line (Goes [] script) (last_line lines)) (K.given out.old) (K.given out.new) result }
+    requires { script.store ≡ None }
+    ensures serves { Serves (with_last on_line (Goes [] script.doing) (last_line lines)) (K.given out.old) (K.given out.new) (doing_result result) }
+    ensures store { IfOk result (λ next. next.store ≡ None) }
+    ensures untouched { disk.new ≡ disk.old }
     ensures sink { K.faults out.old ≤ K.faults out.new }
     ensures cause { IfErr result (λ stop. IsCause stop (Rose (K.faults out.old) (K.faults out.new)) ⊥) }
 {
     match lines.finish() {
         None => Ok(script),
-        Some(last) => serve(rt, alloc, script, last.as_slice(), out, pace),
+        Some(last) => script.serve(rt, alloc, last.as_slice(), out, disk, pace),
     }
 }
 
 /// The lines, one after the other.
-fn each_line<K: Sink, P: Pace + Sync, R: Threads + Sync>(
+fn each_line<K: Sink, D: Disk, P: Pace + Sync, R: Threads + Sync>(
     rt: &R,
     alloc: Global,
     start: Script,
     lines: &[Bytes],
     out: &mut K,
+    disk: &mut D,
     pace: &P,
 ) -> Result<Script, Stop>
-    ensures serves { Serves (with_lines on_line (Goes [] start) lines.now) (K.given out.old) (K.given out.new) result }
+    requires { start.store ≡ None }
+    ensures serves { Serves (with_lines on_line (Goes [] start.doing) lines.now) (K.given out.old) (K.given out.new) (doing_result result) }
+    ensures store { IfOk result (λ next. next.store ≡ None) }
+    ensures untouched { disk.new ≡ disk.old }
     ensures sink { K.faults out.old ≤ K.faults out.new }
     ensures cause { IfErr result (λ stop. IsCause stop (Rose (K.faults out.old) (K.faults out.new)) ⊥) }
 {
     let mut script = start;
     for line in lines {
-        match serve(rt, alloc, script, line.as_slice(), out, pace) {
+        match script.serve(rt, alloc, line.as_slice(), out, disk, pace) {
             Ok(next) => script = next,
             Err(stop) => return Err(stop),
         }
     }
     Ok(script)
-}
-
-/// Takes the next line, and gives what it prints.
-#[tactic(auto, using(crate::proofs::Moved::moved_to, crate::proofs::Moved::not_moved))]
-fn serve<K: Sink, P: Pace + Sync, R: Threads + Sync>(
-    rt: &R,
-    alloc: Global,
-    script: Script,
-    line: &[u8],
-    out: &mut K,
-    pace: &P,
-) -> Result<Script, Stop>
-    ensures serves { Serves (on_line script line.now) (K.given out.old) (K.given out.new) result }
-    ensures sink { K.faults out.old ≤ K.faults out.new }
-    ensures cause { IfErr result (λ stop. IsCause stop (Rose (K.faults out.old) (K.faults out.new)) ⊥) }
-{
-    match script.next(rt, alloc, line, pace) {
-        Ok((script, text)) => return tell(script, &text, out),
-        Err(LinesRefused::Memory) => return Err(Stop::NoMemory),
-        Err(LinesRefused::Line(refusal)) => return refuse(alloc, &refusal, out),
-    }
-}
-
-/// Gives what a line prints, if anything, and goes on. No memory.
-#[tactic(auto, using(crate::proofs::Moved::moved_quiet))]
-fn tell<K: Sink>(next: Script, text: &[u8], out: &mut K) -> Result<Script, Stop>
-    ensures serves { Serves (Goes text.now next) (K.given out.old) (K.given out.new) result }
-    ensures sink { K.faults out.old ≤ K.faults out.new }
-    ensures cause { IfErr result (λ stop. IsCause stop (Rose (K.faults out.old) (K.faults out.new)) ⊥) }
-{
-    if text.is_empty() {
-        return Ok(next);
-    }
-    give(next, text, out)
 }

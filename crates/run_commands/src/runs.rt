@@ -1,5 +1,5 @@
 // The command `once`.
-ghost use Rattle.std.specs.Prelude.{◌≡◌, ◌≢◌, ◌≤◌, Ok, IfOk, IfErr};
+ghost use Rattle.std.specs.Prelude.{◌≡◌, ◌≤◌, Ok, IfOk, IfErr};
 ghost use Rattle.std.specs.Io.KnownBytes.{IsAtEnd};
 ghost use Rattle.aria_base.specs.Faults.{Rose};
 ghost use Rattle.script_course.specs.Causes.{IsReadCause};
@@ -12,6 +12,7 @@ use crate::scripts::Script;
 use aria_base::{Pace, Sink, Source};
 use command_words::{Listing, Once};
 use dep_rules::Config;
+use disk_model::Disk;
 use script_course::{DONE, Stop};
 use std::alloc::Global;
 use std::thread::Threads;
@@ -19,13 +20,14 @@ use std::thread::Threads;
 /// Runs the script that the source gives, and answers each batch as soon as its end is read. Where the
 /// source tells its bytes, what is printed is the output that they have, and the status is its status; where
 /// it was cut off, a front of it was printed, and where the source failed, all that the bytes so far tell.
-/// Neither workers nor replicas have a say in it.
-pub fn once<S: Source, K: Sink, P: Pace + Sync, R: Threads + Sync>(
+/// Neither workers nor replicas have a say in it. The disk is not touched.
+pub fn once<S: Source, K: Sink, D: Disk, P: Pace + Sync, R: Threads + Sync>(
     rt: &R,
     alloc: Global,
     settings: &Once,
     input: &mut S,
     out: &mut K,
+    disk: &mut D,
     pace: &P,
 ) -> Result<u8, Stop>
     requires { IsInRange settings.now }
@@ -34,6 +36,7 @@ pub fn once<S: Source, K: Sink, P: Pace + Sync, R: Threads + Sync>(
     // Where nothing was in the way, the answer is 0, and the input was read to its end.
     ensures zero { IfOk result (λ status. status ≡ DONE) }
     ensures end { IfOk result (λ _. IsAtEnd (S.left input.new)) }
+    ensures disk { disk.new ≡ disk.old }
 
     // Each stop for a fault has its cause.
     ensures source { S.faults input.old ≤ S.faults input.new }
@@ -49,7 +52,7 @@ pub fn once<S: Source, K: Sink, P: Pace + Sync, R: Threads + Sync>(
     let Ok(start) = Script::start(alloc, config, settings.replicas, each) else {
         return Err(Stop::NoMemory);
     };
-    match read_script(rt, alloc, start, input, out, pace) {
+    match read_script(rt, alloc, start, input, out, disk, pace) {
         Ok(last) => end_of(rt, alloc, last, settings.drain, out, pace),
         Err(stop) => Err(stop),
     }

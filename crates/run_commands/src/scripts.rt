@@ -1,20 +1,33 @@
 // A script between two of its lines, and the next line.
-ghost use Rattle.std.specs.Prelude.{◌≡◌, ◌≤◌, IfOk};
+ghost use Rattle.std.specs.Prelude.{◌≡◌, ◌≢◌, ◌≤◌, ℕ, List, [], ◌∷◌, None, false, IfOk, IfErr, IfSome, IsSomeAnd};
+ghost use Rattle.aria_base.specs.Faults.{Rose};
 ghost use Rattle.answer_text.specs.Notices.{kept_text};
+ghost use Rattle.script_course.specs.Causes.{IsCause};
 ghost use Rattle.script_course.specs.Courses.{Goes};
-ghost use Rattle.run_commands.specs.Bases.{IsSettled};
-ghost use Rattle.run_commands.specs.Onces.{behind_batch, done, on_line, text_of, with_call, with_row, with_settings, without_calls};
+ghost use Rattle.script_course.specs.Served.{Serves};
+ghost use Rattle.serving.specs.declared.batches.Given.TheVariants as given;
+ghost use Rattle.image_text.specs.Payloads.{Batch};
+ghost use Rattle.serving.specs.Stored.{Holds};
+ghost use Rattle.slot_images.specs.Images.{Checkpoint};
+ghost use Rattle.run_commands.specs.Bases.{IsSettled, plan_in, state_in, store_in};
+ghost use Rattle.run_commands.specs.Keeps.{IsOpen, IsShort, Keeps, held_of};
+ghost use Rattle.run_commands.specs.Onces.{Doing, behind_batch, doing_result, done, on_line, text_of, with_call, with_row, with_settings, without_calls};
 ghost use Rattle.run_commands.specs.Outs.{start_by};
-ghost use Rattle.run_commands.specs.Standing.{MayCall, MayClose, MayDo, MayPut, MayRun, MaySet, Moves, Stands, doing_of};
+ghost use Rattle.run_commands.specs.Stops.{IsStopFor};
+ghost use Rattle.run_commands.specs.Passes.{Line, PassesTurns};
+ghost use Rattle.run_commands.specs.Standing.{MayCall, MayClose, MayDo, MayPut, MayRun, MaySet, Stands, doing_of, running_of, runs_batch};
 
 use crate::bases::Base;
 use crate::works::Work;
 use answer_text::append_kept;
-use aria_base::{Call, Key, Memory, Pace, Row};
+use aria_base::{Call, Key, Memory, Pace, Row, Sink};
 use batch_rules::verdicts::Rule;
 use dep_rules::Config;
+use disk_model::Disk;
+use script_course::{Stop, give, refuse};
 use script_places::{Deed, Mode, Place, follows};
 use script_text::LinesRefused;
+use serving::{Given, serve_batch};
 use std::alloc::Global;
 use std::marker::Model;
 use std::thread::Threads;
@@ -28,25 +41,26 @@ pub(crate) struct Script {
 }
 
 impl Model for Script {
-    ghost use Rattle.run_commands.specs.Codes.{doing_code};
-    ghost use Rattle.run_commands.specs.Onces.{Doing};
-    ghost use Rattle.run_commands.specs.Standing.{Stands, doing_of};
+    ghost use Rattle.run_commands.specs.Codes.{running_code};
+    ghost use Rattle.run_commands.specs.Onces.{Running};
+    ghost use Rattle.run_commands.specs.Standing.{Stands, running_of};
 
-    ghost Value = { Doing };
+    ghost Value = { Running };
 
-    ghost coded = { doing_code };
+    ghost coded = { running_code };
 
-    ghost view = { λ s. doing_of s.place s.work };
+    ghost view = { λ s. running_of s.place s.work };
 
     ghost invariant = { λ s. Stands s.place s.work };
 }
 
 impl Script {
-    /// Before the first line.
+    /// Before the first line, without a store.
     pub fn start(alloc: Global, config: Config, replicas: u32, each: bool) -> Result<Script, Memory>
         requires settled { IsSettled config }
         requires engines { (1 ≤ replicas) × (replicas ≤ 8) }
-        ensures { IfOk result (λ script. script ≡ start_by config.rule config.fallback each) }
+        ensures doing { IfOk result (λ script. script.doing ≡ start_by config.rule config.fallback each) }
+        ensures store { IfOk result (λ script. script.store ≡ None) }
     {
         let tables = Tables::new(alloc)?;
         let work = Work {
@@ -59,55 +73,107 @@ impl Script {
         Ok(Script { place, work })
     }
 
-    /// Behind the next line, and what it prints; or the refusal of the line.
-    pub fn next<P: Pace + Sync, R: Threads + Sync>(
+    /// Takes the next line, and gives what it prints. The answer is the script behind it.
+    #[tactic(auto, using(crate::proofs::Moved::moved_to, crate::proofs::Moved::not_moved, crate::proofs::Ran::open_without, crate::proofs::Stepped::short_without))]
+    pub fn serve<K: Sink, D: Disk, P: Pace + Sync, R: Threads + Sync>(
         self,
         rt: &R,
         alloc: Global,
         line: &[u8],
+        out: &mut K,
+        disk: &mut D,
         pace: &P,
-    ) -> Result<(Script, Vec<u8>), LinesRefused>
-        ensures { Moves (λ text. text.items) (on_line self line.now) result }
+    ) -> Result<Script, Stop>
+        requires { self.store ≡ None }
+        ensures serves { Serves (on_line self.doing line.now) (K.given out.old) (K.given out.new) (doing_result result) }
+        ensures store { IfOk result (λ script. script.store ≡ None) }
+        ensures untouched { disk.new ≡ disk.old }
+        ensures sink { K.faults out.old ≤ K.faults out.new }
+        ensures cause { IfErr result (λ stop. IsCause stop (Rose (K.faults out.old) (K.faults out.new)) ⊥) }
     {
         let Script { place, work } = self;
         let counts = work.base.counts();
-        let (after, deed) = place.ask(alloc, counts, line)?;
-        follows();
-        let (script, text) = work.with(rt, alloc, after, deed, pace)?;
-        Ok((script, text))
+        match place.ask(alloc, counts, line) {
+            Ok(asked) => {
+                let (after, deed) = asked;
+                follows();
+                return work.with(rt, alloc, after, deed, out, disk, pace);
+            }
+            Err(LinesRefused::Memory) => return Err(Stop::NoMemory),
+            Err(LinesRefused::Line(refusal)) => return refuse(alloc, &refusal, out),
+        }
     }
 }
 
 impl Work {
-    /// What a line asks for, at the place behind it, and what that prints.
-    fn with<P: Pace + Sync, R: Threads + Sync>(
+    /// Does what a line asks for, at the place behind it, and gives what that prints.
+    fn with<K: Sink, D: Disk, P: Pace + Sync, R: Threads + Sync>(
         self,
         rt: &R,
         alloc: Global,
         place: Place,
         deed: Deed,
+        out: &mut K,
+        disk: &mut D,
         pace: &P,
-    ) -> Result<(Script, Vec<u8>), Memory>
-        requires { MayDo place self deed }
-        ensures { IfOk result (λ r. done (doing_of place self) deed ≡ Goes r.1.items r.0) }
+    ) -> Result<Script, Stop>
+        requires may { MayDo place self deed }
+        requires open { IsOpen (D.history disk.old) (running_of place self) }
+        requires short { IfSome (store_in self.base) (λ _. IsShort (plan_in place.head) deed) }
+        ensures serves { Serves (done (doing_of place self) deed) (K.given out.old) (K.given out.new) (doing_result result) }
+        ensures open { IfOk result (IsOpen (D.history disk.new)) }
+
+        // A stop at any moment leaves the state before or behind it; and a stop now, what was given of its text.
+        ensures keeps { (c : Checkpoint) (later : List Batch) (before : Doing) (line : List ℕ) → Holds (D.history disk.old) (plan_in place.head) (held_of (running_of place self)) (store_in self.base) c later
+            → before.state ≡ state_in self.base → on_line before line ≡ done (doing_of place self) deed
+            → Keeps (PassesTurns (Line line ∷ []) before (held_of (running_of place self))) (plan_in place.head) (D.history disk.old) (D.history disk.new) (K.given out.old) (K.given out.new) }
+        ensures store { store_in self.base ≡ None → IfOk result (λ script. script.store ≡ None) }
+        ensures untouched { store_in self.base ≡ None → disk.new ≡ disk.old }
+        ensures sink { K.faults out.old ≤ K.faults out.new }
+        ensures cause { IfErr result (λ stop. IsCause stop (Rose (K.faults out.old) (K.faults out.new)) (IsSomeAnd (store_in self.base) (λ _. Rose (D.history disk.old).faults (D.history disk.new).faults))) }
+    {
+        if runs_batch(&deed) {
+            return self.run(rt, alloc, place, out, disk, pace);
+        }
+        return self.quietly(alloc, place, deed, out);
+    }
+
+    /// Does what a line asks for that runs no batch. The disk is not touched.
+    fn quietly<K: Sink>(
+        self,
+        alloc: Global,
+        place: Place,
+        deed: Deed,
+        out: &mut K,
+    ) -> Result<Script, Stop>
+        requires may { MayDo place self deed }
+        requires quiet { runs_batch deed ≡ false }
+        ensures serves { Serves (done (doing_of place self) deed) (K.given out.old) (K.given out.new) (doing_result result) }
+        ensures store { IfOk result (λ script. script.store ≡ store_in self.base) }
+        ensures sink { K.faults out.old ≤ K.faults out.new }
+        ensures cause { IfErr result (λ stop. IsCause stop (Rose (K.faults out.old) (K.faults out.new)) ⊥) }
     {
         match deed {
-            Deed::Nothing | Deed::Tell => Ok((Script { place, work: self }, Vec::new(alloc))),
-            Deed::Put(key, row) => Ok((self.put(place, key, row)?, Vec::new(alloc))),
-            Deed::Call(call) => Ok((self.call(place, call)?, Vec::new(alloc))),
-            Deed::Set { rule, percent } => Ok((self.set(place, rule, percent), Vec::new(alloc))),
-            Deed::Keep(number) => {
-                let text = kept_line(alloc, number)?;
-                Ok((self.without_calls(alloc, place), text))
-            }
-            Deed::Run => self.run(rt, alloc, place, pace),
+            Deed::Nothing | Deed::Tell => Ok(Script { place, work: self }),
+            Deed::Put(key, row) => match self.put(place, key, row) {
+                Ok(script) => Ok(script),
+                Err(Memory) => Err(Stop::NoMemory),
+            },
+            Deed::Call(call) => match self.call(place, call) {
+                Ok(script) => Ok(script),
+                Err(Memory) => Err(Stop::NoMemory),
+            },
+            Deed::Set { rule, percent } => Ok(self.set(place, rule, percent)),
+            Deed::Keep(number) => self.keep(alloc, place, number, out),
+            Deed::Run => unreachable!(),
         }
     }
 
     /// The row stands at the key.
     fn put(self, place: Place, key: Key, row: Row) -> Result<Script, Memory>
         requires { MayPut place self key row }
-        ensures { IfOk result (λ script. script ≡ with_row (doing_of place self) key row) }
+        ensures doing { IfOk result (λ script. script.doing ≡ with_row (doing_of place self) key row) }
+        ensures store { IfOk result (λ script. script.store ≡ store_in self.base) }
     {
         let Work {
             calls,
@@ -127,7 +193,8 @@ impl Work {
     /// One call more.
     fn call(self, place: Place, call: Call) -> Result<Script, Memory>
         requires { MayCall place self call }
-        ensures { IfOk result (λ script. script ≡ with_call (doing_of place self) call) }
+        ensures doing { IfOk result (λ script. script.doing ≡ with_call (doing_of place self) call) }
+        ensures store { IfOk result (λ script. script.store ≡ store_in self.base) }
     {
         let mut work = self;
         work.calls.push(call)?;
@@ -137,7 +204,8 @@ impl Work {
     /// The settings of the next batch.
     fn set(self, place: Place, rule: Rule, percent: u32) -> Script
         requires { MaySet place self percent }
-        ensures { result ≡ with_settings (doing_of place self) rule percent }
+        ensures doing { result.doing ≡ with_settings (doing_of place self) rule percent }
+        ensures store { result.store ≡ store_in self.base }
     {
         let Work {
             calls,
@@ -154,10 +222,31 @@ impl Work {
         Script { place, work }
     }
 
+    /// Tells of a batch that was run before, and goes on without the open calls.
+    fn keep<K: Sink>(
+        self,
+        alloc: Global,
+        place: Place,
+        number: u64,
+        out: &mut K,
+    ) -> Result<Script, Stop>
+        requires { MayClose place self }
+        ensures serves { Serves (Goes (kept_text number) (without_calls (doing_of place self))) (K.given out.old) (K.given out.new) (doing_result result) }
+        ensures store { IfOk result (λ script. script.store ≡ store_in self.base) }
+        ensures sink { K.faults out.old ≤ K.faults out.new }
+        ensures cause { IfErr result (λ stop. IsCause stop (Rose (K.faults out.old) (K.faults out.new)) ⊥) }
+    {
+        match kept_line(alloc, number) {
+            Ok(text) => give(self.without_calls(alloc, place), &text, out),
+            Err(Memory) => Err(Stop::NoMemory),
+        }
+    }
+
     /// Without the open calls.
     fn without_calls(self, alloc: Global, place: Place) -> Script
         requires { MayClose place self }
-        ensures { result ≡ without_calls (doing_of place self) }
+        ensures doing { result.doing ≡ without_calls (doing_of place self) }
+        ensures store { result.store ≡ store_in self.base }
     {
         let Work {
             calls: _,
@@ -174,17 +263,29 @@ impl Work {
         Script { place, work }
     }
 
-    /// Behind the batch of the open calls, and its text.
-    fn run<P: Pace + Sync, R: Threads + Sync>(
+    /// Runs the batch of the open calls, and gives its text.
+    fn run<K: Sink, D: Disk, P: Pace + Sync, R: Threads + Sync>(
         self,
         rt: &R,
         alloc: Global,
         place: Place,
+        out: &mut K,
+        disk: &mut D,
         pace: &P,
-    ) -> Result<(Script, Vec<u8>), Memory>
-        requires { MayRun place self }
-        ensures next { IfOk result (λ r. r.0 ≡ behind_batch (doing_of place self)) }
-        ensures text { IfOk result (λ r. r.1.items ≡ text_of (doing_of place self)) }
+    ) -> Result<Script, Stop>
+        requires may { MayRun place self }
+        requires open { IsOpen (D.history disk.old) (running_of place self) }
+        ensures serves { Serves (Goes (text_of (doing_of place self)) (behind_batch (doing_of place self))) (K.given out.old) (K.given out.new) (doing_result result) }
+        ensures open { IfOk result (IsOpen (D.history disk.new)) }
+
+        // A stop at any moment leaves the state before or behind it; and a stop now, what was given of its text.
+        ensures keeps { (c : Checkpoint) (later : List Batch) (before : Doing) (line : List ℕ) → Holds (D.history disk.old) (plan_in place.head) (held_of (running_of place self)) (store_in self.base) c later
+            → before.state ≡ state_in self.base → on_line before line ≡ Goes (text_of (doing_of place self)) (behind_batch (doing_of place self))
+            → Keeps (PassesTurns (Line line ∷ []) before (held_of (running_of place self))) (plan_in place.head) (D.history disk.old) (D.history disk.new) (K.given out.old) (K.given out.new) }
+        ensures store { store_in self.base ≡ None → IfOk result (λ script. script.store ≡ None) }
+        ensures untouched { store_in self.base ≡ None → disk.new ≡ disk.old }
+        ensures sink { K.faults out.old ≤ K.faults out.new }
+        ensures cause { IfErr result (λ stop. IsCause stop (Rose (K.faults out.old) (K.faults out.new)) (IsSomeAnd (store_in self.base) (λ _. Rose (D.history disk.old).faults (D.history disk.new).faults))) }
     {
         let Work {
             calls,
@@ -192,15 +293,50 @@ impl Work {
             replicas,
             each,
         } = self;
-        let live = base.begun(alloc, &place.head, replicas, each)?;
-        let (live, text) = live.next(rt, alloc, calls, pace)?;
-        let work = Work {
-            calls: Vec::new(alloc),
-            base: Base::Runs(live),
-            replicas,
-            each,
+        let Ok(live) = base.begun(alloc, &place.head, replicas, each) else {
+            return Err(Stop::NoMemory);
         };
-        Ok((Script { place, work }, text))
+        let (next, given) = serve_batch(rt, alloc, live, calls, out, disk, pace);
+        match next {
+            Some(live) => {
+                let work = Work {
+                    calls: Vec::new(alloc),
+                    base: Base::Runs(live),
+                    replicas,
+                    each,
+                };
+                return Ok(Script { place, work });
+            }
+            None => return Err(why_stopped(given)),
+        }
+    }
+}
+
+/// Whether a batch is asked for.
+fn runs_batch(deed: &Deed) -> bool
+    ensures { result ≡ runs_batch deed.now }
+{
+    match deed {
+        Deed::Run => true,
+        Deed::Nothing
+        | Deed::Tell
+        | Deed::Put(_, _)
+        | Deed::Call(_)
+        | Deed::Set { .. }
+        | Deed::Keep(_) => false,
+    }
+}
+
+/// The stop for a batch that was not told.
+fn why_stopped(why: Given) -> Stop
+    requires { why ≢ given.Told }
+    ensures { IsStopFor why result }
+{
+    match why {
+        Given::NoMemory => Stop::NoMemory,
+        Given::NoWrite => Stop::NoWrite,
+        Given::NoDisk => Stop::NoDisk,
+        Given::Told => unreachable!(),
     }
 }
 

@@ -1,4 +1,4 @@
-use Rattle.std.proofs.Common.{◌≡◌, ◌+◌, drop, [], arith, refl}
+use Rattle.std.proofs.Common.{◌≡◌, ◌∙◌, ◌+◌, drop, [], arith, refl}
 use Rattle.std.specs.Prelude.{Ok, Err}
 use Rattle.std.proofs.KnownBytes.{Appends-nil}
 use Rattle.std.proofs.lemmas.List.{drop_all}
@@ -10,9 +10,11 @@ pub loop-line-preserved : goal.loop-line-preserved
 loop-line-preserved g c =
     let left = next_of c.args.lines.now c.loop-line.line-index c.line-item.result c.as_slice.result.now c.loop-line-test.true c.line-item.is c.as_slice.ensures in
     record {
+      store = c.in-Ok.ensures.store;
+      untouched = c.serve.ensures.untouched ∙ c.loop-line.invariant.untouched;
       sink = omega (arith, c.serve.ensures.sink, c.loop-line.invariant.sink);
       leads = λ new result h. c.loop-line.invariant.leads new result
-          (rw left (goes_on on_line c.loop-line.script c.in-Ok.next c.as_slice.result.now (drop (c.loop-line.line-index + 1) c.args.lines.now)
+          (rw left (goes_on on_line c.loop-line.script.doing c.in-Ok.next.doing c.as_slice.result.now (drop (c.loop-line.line-index + 1) c.args.lines.now)
           (g.K.Sink.given c.loop-line.out) (g.K.Sink.given c.serve.new.out) c.in-Ok.ensures.serves new result h));
     }
 
@@ -21,10 +23,10 @@ returns-in-Err-clause-serves g c =
     let left = next_of c.args.lines.now c.loop-line.line-index c.line-item.result c.as_slice.result.now c.loop-line-test.true c.line-item.is c.as_slice.ensures in
     let new = g.K.Sink.given c.serve.new.out in
     c.loop-line.invariant.leads new (Err c.in-Err.stop)
-    (rw left (stops_at on_line c.loop-line.script c.as_slice.result.now (drop (c.loop-line.line-index + 1) c.args.lines.now) (g.K.Sink.given c.loop-line.out) new c.in-Err.stop c.in-Err.ensures.serves))
+    (rw left (stops_at on_line c.loop-line.script.doing c.as_slice.result.now (drop (c.loop-line.line-index + 1) c.args.lines.now) (g.K.Sink.given c.loop-line.out) new c.in-Err.stop c.in-Err.ensures.serves))
 
 pub returns-clause-serves : goal.returns-clause-serves
 returns-clause-serves g c =
     let none : drop c.loop-line.line-index c.args.lines.now ≡ [] = drop_all c.loop-line.line-index c.args.lines.now (omega arith) in
     let now = g.K.Sink.given c.loop-line.out in
-    c.loop-line.invariant.leads now (Ok c.loop-line.script) (rw none (refl, Appends-nil now))
+    c.loop-line.invariant.leads now (Ok c.loop-line.script.doing) (rw none (refl, Appends-nil now))

@@ -1,14 +1,16 @@
 use Rattle.std.proofs.Common.{[]}
 use Rattle.script_course.specs.Courses.{Goes, with_lines}
 use Rattle.script_course.proofs.Turns.{refused_on, refused_cut}
-use Rattle.run_commands.specs.Onces.{on_line}
+use Rattle.answer_text.specs.Refusals.{refusal_text}
+use Rattle.run_commands.specs.Onces.{doing_result, on_line}
+use Rattle.run_commands.proofs.Moved.{refused_doing}
 use Rattle.run_commands.proofs.loops.refuse_behind.Goals as goal
 
 pub returns-in-Ok-clause-serves : goal.returns-in-Ok-clause-serves
 returns-in-Ok-clause-serves g c =
-    refused_on (with_lines on_line (Goes [] c.args.script) c.args.lines.now) c.in-Ok.field-0 c.args.refusal.now (g.K.Sink.given c.args.out.now) (g.K.Sink.given c.each_line.new.out) (g.K.Sink.given c.refuse.new.out)
-    c.refuse.result c.in-Ok.ensures.serves c.refuse.ensures.serves
+    refused_on (with_lines on_line (Goes [] c.args.script.doing) c.args.lines.now) c.in-Ok.field-0.doing c.args.refusal.now (g.K.Sink.given c.args.out.now) (g.K.Sink.given c.each_line.new.out) (g.K.Sink.given c.refuse.new.out)
+    (doing_result c.refuse.result) c.in-Ok.ensures.serves (refused_doing (refusal_text c.args.refusal.now) (g.K.Sink.given c.each_line.new.out) (g.K.Sink.given c.refuse.new.out) c.refuse.result c.refuse.ensures.serves)
 
 pub returns-in-Err-clause-serves : goal.returns-in-Err-clause-serves
 returns-in-Err-clause-serves g c =
-    refused_cut (with_lines on_line (Goes [] c.args.script) c.args.lines.now) c.args.refusal.now (g.K.Sink.given c.args.out.now) (g.K.Sink.given c.each_line.new.out) c.in-Err.stop c.in-Err.ensures.serves
+    refused_cut (with_lines on_line (Goes [] c.args.script.doing) c.args.lines.now) c.args.refusal.now (g.K.Sink.given c.args.out.now) (g.K.Sink.given c.each_line.new.out) c.in-Err.stop c.in-Err.ensures.serves

@@ -1,13 +1,77 @@
-use Rattle.std.proofs.Common.{refl, ◌∙◌}
+use Rattle.std.proofs.Common.{refl, subst, ℕ, List, [], ◌∷◌}
+use Rattle.std.proofs.KnownBytes.{Appends-nil}
+use Rattle.std.specs.Prelude.{Err}
+use Rattle.std.specs.Io.KnownBytes.{Appends}
+use Rattle.script_course.specs.Courses.{Goes}
+use Rattle.script_course.specs.Served.{Serves}
+use Rattle.serving.specs.Lives.{IsNext, next_text}
+use Rattle.run_commands.specs.Onces.{behind_batch}
+use Rattle.run_commands.specs.Bases.{plan_in, store_in}
+use Rattle.run_commands.specs.Keeps.{held_of}
+use Rattle.run_commands.specs.Passes.{Line, held_then, on_turn}
+use Rattle.run_commands.specs.Standing.{doing_of, running_of}
+use Rattle.serving.specs.Stored.{IsLogging}
 use Rattle.run_commands.specs.declared.bases.Base.TheVariants as base
 use Rattle.run_commands.specs.declared.works.Work.{Work}
 use Rattle.run_commands.proofs.Deeds.{behind_is, text_is}
+use Rattle.run_commands.proofs.Kept.{keeps_none}
+use Rattle.run_commands.proofs.Ran.{begun_holds, held_leaves_all, may_log, open_behind, ran_cut, ran_told}
+use Rattle.run_commands.proofs.Told.{cut_serves, if_told, told_all}
 use Rattle.run_commands.proofs.works.Work.run.Goals as goal
 
-pub returns-clause-next : goal.returns-clause-next
-returns-clause-next g c =
-    let next : Work = record { calls = c.new.result; base = base.Runs c.in_ok-live-2.live; replicas = c.args.self.replicas; each = c.args.self.each } in
-    behind_is c.args.place c.args.self c.in_ok-live.live c.in_ok-live.ensures next c.in_ok-live-2.live c.in_ok-live-2.ensures.next c.new.ensures.items refl refl
+pub returns-in-Some-clause-serves : goal.returns-in-Some-clause-serves
+returns-in-Some-clause-serves g c =
+    let old = g.K.Sink.given c.args.out.now in
+    let new = g.K.Sink.given c.serve_batch-next.new.out in
+    let calls = c.args.self.calls.items in
+    let next : Work = record { calls = c.new.result; base = base.Runs c.in-Some.live; replicas = c.args.self.replicas; each = c.args.self.each } in
+    let told = told_all (next_text c.in-Ok.live calls) (IsNext c.in-Ok.live calls) old new c.serve_batch-next.result c.in-Some.live c.in-Some.is c.serve_batch-next.ensures.tells in (
+      behind_is c.args.place c.args.self c.in-Ok.live c.in-Ok.ensures next c.in-Some.live told.1 c.new.ensures.items refl refl,
+      subst (λ (text : List ℕ). Appends old new text) (text_is c.args.place c.args.self c.in-Ok.live c.in-Ok.ensures) told.0,
+    )
 
-pub returns-clause-text : goal.returns-clause-text
-returns-clause-text g c = c.in_ok-live-2.ensures.text ∙ text_is c.args.place c.args.self c.in_ok-live.live c.in_ok-live.ensures
+pub returns-in-None-clause-serves : goal.returns-in-None-clause-serves
+returns-in-None-clause-serves g c =
+    let old = g.K.Sink.given c.args.out.now in
+    let new = g.K.Sink.given c.serve_batch-next.new.out in
+    let calls = c.args.self.calls.items in
+    let next = behind_batch (doing_of c.args.place c.args.self) in
+    subst (λ (text : List ℕ). Serves (Goes text next) old new (Err c.why_stopped.result)) (text_is c.args.place c.args.self c.in-Ok.live c.in-Ok.ensures)
+    (cut_serves (next_text c.in-Ok.live calls) (IsNext c.in-Ok.live calls) old new next c.serve_batch-next.result c.why_stopped.result c.in-None.is c.serve_batch-next.ensures.tells c.why_stopped.ensures)
+
+pub serve_batch-next-requires-clause-logs : goal.serve_batch-next-requires-clause-logs
+serve_batch-next-requires-clause-logs g c κs within =
+    may_log c.args.place c.args.self c.in-Ok.live c.in-Ok.ensures (g.D.Disk.history c.args.disk.now) c.requires.open
+
+pub returns-in-Some-clause-open : goal.returns-in-Some-clause-open
+returns-in-Some-clause-open g c =
+    let calls = c.args.self.calls.items in
+    let disk = g.D.Disk.history c.serve_batch-next.new.disk in
+    let next : Work = record { calls = c.new.result; base = base.Runs c.in-Some.live; replicas = c.args.self.replicas; each = c.args.self.each } in
+    open_behind disk c.args.place next c.in-Some.live refl c.new.ensures.items
+    (if_told (next_text c.in-Ok.live calls) (IsNext c.in-Ok.live calls) (g.K.Sink.given c.args.out.now) (g.K.Sink.given c.serve_batch-next.new.out) (IsLogging disk)
+    c.serve_batch-next.result c.in-Some.live c.in-Some.is c.serve_batch-next.ensures.tells c.serve_batch-next.ensures.logging)
+
+pub returns-in-Some-clause-keeps : goal.returns-in-Some-clause-keeps
+returns-in-Some-clause-keeps g c = λ ck later before line h same is.
+    let old = g.D.Disk.history c.args.disk.now in
+    let hl = begun_holds c.args.place c.args.self c.in-Ok.live c.in-Ok.ensures old ck later h in
+    ran_told c.args.place c.args.self c.in-Ok.live c.in-Ok.ensures line before same is old (g.D.Disk.history c.serve_batch-next.new.disk) (g.K.Sink.given c.args.out.now)
+    (g.K.Sink.given c.serve_batch-next.new.out) c.serve_batch-next.result c.serve_batch-next.ensures.tells (c.serve_batch-next.ensures.images ck later hl)
+    (c.serve_batch-next.ensures.answered ck later hl) c.in-Some.live c.in-Some.is
+
+pub returns-in-None-clause-keeps : goal.returns-in-None-clause-keeps
+returns-in-None-clause-keeps g c = λ ck later before line h same is.
+    let old = g.D.Disk.history c.args.disk.now in
+    let hl = begun_holds c.args.place c.args.self c.in-Ok.live c.in-Ok.ensures old ck later h in
+    ran_cut c.args.place c.args.self c.in-Ok.live c.in-Ok.ensures line before same is old (g.D.Disk.history c.serve_batch-next.new.disk) (g.K.Sink.given c.args.out.now)
+    (g.K.Sink.given c.serve_batch-next.new.out) c.serve_batch-next.result c.serve_batch-next.ensures.tells (c.serve_batch-next.ensures.images ck later hl)
+    (c.serve_batch-next.ensures.answered ck later hl) c.in-None.is
+
+pub returns-in_default-clause-keeps : goal.returns-in_default-clause-keeps
+returns-in_default-clause-keeps g c = λ ck later before line h same is.
+    let disk = g.D.Disk.history c.args.disk.now in
+    let plan = plan_in c.args.place.head in
+    let held = held_of (running_of c.args.place c.args.self) in
+    let now = g.K.Sink.given c.args.out.now in
+    keeps_none on_turn held_then plan (Line line ∷ []) before held disk now (Appends-nil now) (held_leaves_all disk plan held (store_in c.args.self.base) ck later h)

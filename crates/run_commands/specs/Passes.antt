@@ -1,0 +1,82 @@
+-- Which states a store holds in turn while a script runs, and what was given at those times. No store and no disk come into it.
+use Rattle.std.specs.Prelude.{◌≡◌, ◌⊎◌, ◌==◌, ℕ, if◌then◌else◌, List, [], ◌∷◌, ◌++◌, take, map}
+use Rattle.std.specs.Prelude.{Option, Some, None}
+use Rattle.answer_text.specs.Refusals.{refusal_text}
+use Rattle.batch_core.specs.Steps.{State}
+use Rattle.script_course.specs.Courses.{Course, Goes, Stops}
+use Rattle.script_text.specs.Lines.{Scan, last_line}
+use Rattle.script_text.specs.declared.refusals.Refusal.{Refusal}
+use Rattle.run_commands.specs.Onces.{Doing, on_line}
+
+-- ---- steps that print, one after the other
+
+-- this state is held, while some first of these bytes were given
+pub record IsHere (held : State) (bytes : List ℕ) (t : State) (given : List ℕ) : Type 0 where
+  pub state : t ≡ held
+  pub count : ℕ
+  pub front : given ≡ take count bytes
+
+-- these bytes were given, and the rest passes
+pub record IsBehind (bytes : List ℕ) (passes : State → List ℕ → Type 0) (t : State) (given : List ℕ) : Type 0 where
+  pub rest : List ℕ
+  pub first : given ≡ bytes ++ rest
+  pub passes_on : passes t rest
+
+-- `held_by held r next` is what is held behind a step from r to next, where held is held before it
+module _ {R X : Type 0} (on : R → X → Course R) (held_by : State → R → R → State) where
+  -- a step: before its first byte, what it leaves is held already; where it stops, nothing changes
+  abbrev pub PassesBy : R → State → (R → State → State → List ℕ → Type 0) → Course R → State → List ℕ → Type 0
+  PassesBy r held passes (Stops bytes) t given = IsHere held bytes t given
+  PassesBy r held passes (Goes bytes next) t given =
+      IsHere (held_by held r next) bytes t given ⊎ IsBehind bytes (passes next (held_by held r next)) t given
+
+  -- from r on, where `held` is held: at some time of these steps `t` is held, and `given` was given by them
+  abbrev pub Passes : List X → R → State → State → List ℕ → Type 0
+  Passes [] r held t given = IsHere held [] t given
+  Passes (x ∷ steps) r held t given = IsHere held [] t given ⊎ PassesBy r held (Passes steps) (on r x) t given
+
+  -- what is held behind them
+  abbrev pub held_by_step : R → State → (R → State → State) → Course R → State
+  held_by_step r held over (Stops bytes) = held
+  held_by_step r held over (Goes bytes next) = over next (held_by held r next)
+
+  abbrev pub held_over : List X → R → State → State
+  held_over [] r held = held
+  held_over (x ∷ steps) r held = held_by_step r held (held_over steps) (on r x)
+
+-- ---- the lines of a script
+
+-- Settings alone are in no store: what is held changes with the count of batches.
+abbrev pub held_then : State → Doing → Doing → State
+held_then held before after = if after.state.batches == before.state.batches then held else after.state
+
+-- what a text brings: lines, and one that passes a bound
+pub data Turn : Type 0 where
+  Line : List ℕ → Turn
+  Past : Refusal → Turn
+
+abbrev pub on_turn : Doing → Turn → Course Doing
+on_turn d (Line line) = on_line d line
+on_turn d (Past refusal) = Stops (refusal_text refusal)
+
+abbrev pub past : Option Refusal → List Turn
+past None = []
+past (Some refusal) = Past refusal ∷ []
+
+abbrev pub last : Option (List ℕ) → List Turn
+last None = []
+last (Some line) = Line line ∷ []
+
+-- the whole lines of what was read, up to the first byte that is past a bound; and the line at its end that no line feed completes
+abbrev pub turns : Scan → List Turn
+turns scan = map Line scan.lines ++ past scan.fault
+
+abbrev pub turns_whole : Scan → List Turn
+turns_whole scan = turns scan ++ last (last_line scan.feed)
+
+-- lines from here on, where this state is held
+abbrev pub PassesTurns : List Turn → Doing → State → State → List ℕ → Type 0
+PassesTurns steps d held t given = Passes on_turn held_then steps d held t given
+
+abbrev pub held_behind : List Turn → Doing → State → State
+held_behind steps d held = held_over on_turn held_then steps d held
