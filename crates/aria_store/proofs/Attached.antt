@@ -21,7 +21,7 @@ use Rattle.store_files.specs.declared.refusals.StoreRefused.TheVariants as of_st
 use Rattle.store_files.specs.Openings.{Opened, Taken, opened_of}
 use Rattle.store_files.specs.Holdings.{Holds, IsBehind, IsSettled}
 use Rattle.store_files.specs.Stores.{Stored, Rests}
-use Rattle.store_files.specs.Attachments.{as_store, Chosen, TakeCause}
+use Rattle.store_files.specs.Attachments.{as_store, Chosen, ReadsAlike, TakeCause, seen_of}
 use Rattle.store_files.proofs.Attaching.{seen_image, still_left, shown_in, contents_hold, attached_holds, attached_rests}
 use Rattle.store_files.proofs.Syncs.{rose_later}
 use Rattle.store_files.proofs.Whole.{opens}
@@ -54,6 +54,16 @@ pub later_answer : {X : Type 0} (a b c : History) → a.faults ≤ b.faults → 
     → IfErr r (AttachCause b c) → IfErr r (AttachCause a c)
 later_answer a b c le (Ok x) cause = cause
 later_answer a b c le (Err e) cause = attach_later a b c le e cause
+
+-- ---- a disk that tells its files
+
+some_on : (before after : Option File) → seen_of after ≡ seen_of before → IsSome before → IsSome after
+some_on None after same some = let no : false ≡ true = some in absurd (cc no)
+some_on (Some f) None same some = absurd (cc same)
+some_on (Some f) (Some g) same some = refl
+
+pub told_on : (old new : History) → ReadsAlike old new → IsTold old → IsTold new
+told_on old new alike told file low = some_on (current old file) (current new file) (alike file) (told file low)
 
 -- ---- the log
 

@@ -68,6 +68,7 @@ pub fn read_later<D: Disk>(
     requires requests { image.now.requests ≤ GREATEST_NUMBER }
     ensures later { IfOk result (λ r. IsLater (checkpoint_in image.now) (current (D.history disk.old) (2 + slot)) (batches_in r.0.items) r.1) }
     ensures file { IfOk result (λ r. r.1.file ≡ 2 + slot) }
+    ensures empty { IfOk result (λ r. r.1.batches ≡ 0 → r.1.at ≡ 0) }
     ensures still { Still (D.history disk.old) (D.history disk.new) }
     ensures refused { IfErr result (LaterCause (checkpoint_in image.now) (D.history disk.old) (D.history disk.new) slot) }
 {

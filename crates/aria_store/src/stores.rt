@@ -8,7 +8,7 @@ ghost use Rattle.image_text.specs.Exactly.{line_of_call};
 ghost use Rattle.image_text.specs.Payloads.{Batch, payload_text};
 ghost use Rattle.slot_images.specs.Images.{Checkpoint, MayCarry};
 ghost use Rattle.slot_images.specs.Said.{head_in, checkpoint_in, IsInOrder};
-ghost use Rattle.store_files.specs.Attachments.{Chosen, IsTaken};
+ghost use Rattle.store_files.specs.Attachments.{Chosen, IsTaken, ReadsAlike};
 ghost use Rattle.store_files.specs.Holdings.{IsSettled};
 ghost use Rattle.store_files.specs.Stores.{Rests, slot_in, next_head};
 ghost use Rattle.aria_store.specs.Reopens.{Reopens, Found as Holding};
@@ -94,6 +94,10 @@ impl Store {
         // A stop at any moment leaves what one could have left before.
         ensures images { LeavesAll (D.history disk.old) (D.history disk.new) (MayLeave (D.history disk.old) (D.history disk.old).now) }
 
+        // Each file reads as it did, and where the disk told its files it tells them still.
+        ensures reads { ReadsAlike (D.history disk.old) (D.history disk.new) }
+        ensures told { IsTold (D.history disk.old) → IsTold (D.history disk.new) }
+
         // After Ok the only image is what was read, and it reads as what was found.
         ensures stands { IfOk result (λ r. IsTold (D.history disk.new) → Stands (D.history disk.new) r.0 (checkpoint_in r.1.image) (batches_in r.1.later.items)) }
         ensures rests { IfOk result (λ r. Rests (D.history disk.new) r.0.files) }
@@ -103,6 +107,7 @@ impl Store {
         ensures later { IfOk result (λ r. AreLater (checkpoint_in r.1.image) (batches_in r.1.later.items)) }
         ensures known { IfOk result (λ r. IsKnown r.0 (checkpoint_in r.1.image) (batches_in r.1.later.items)) }
         ensures open { IfOk result (λ r. r.0.files.closed ≡ None) }
+        ensures empty { IfOk result (λ r. r.0.files.batches ≡ 0 → r.0.files.at ≡ 0) }
         ensures refused { IfErr result (AttachCause (D.history disk.old) (D.history disk.new)) }
     {
         let (slot, head) = take_slot(disk)?;
@@ -124,6 +129,7 @@ impl Store {
         ensures later { IfOk result (λ r. AreLater (checkpoint_in r.1.image) (batches_in r.1.later.items)) }
         ensures known { IfOk result (λ r. IsKnown r.0 (checkpoint_in r.1.image) (batches_in r.1.later.items)) }
         ensures open { IfOk result (λ r. r.0.files.closed ≡ None) }
+        ensures empty { IfOk result (λ r. r.0.files.batches ≡ 0 → r.0.files.at ≡ 0) }
         ensures still { Still (D.history disk.old) (D.history disk.new) }
         ensures refused { IfErr result (AttachCause (D.history disk.old) (D.history disk.new)) }
     {

@@ -1,39 +1,115 @@
 -- What words print, by what they ask for.
-use Rattle.std.proofs.Common.{◌≡◌, ◌∙◌, sym, subst, ap, ℕ, List, Option, Some, None, Bool, true, false}
+use Rattle.std.proofs.Common.{◌≡◌, ◌≢◌, ◌⊎◌, inl, inr, ◌∙◌, sym, subst, ap, ℕ, List, [], Option, Some, None, Bool, true, false, arith}
+use Rattle.std.proofs.KnownBytes.{Appends-nil}
 use Rattle.std.specs.Option.{IfSome}
 use Rattle.std.specs.Prelude.{option_map}
 use Rattle.aria_base.specs.Streams.{AppendsFront}
+use Rattle.aria_store.specs.Reopens.{Reopened, NoStore, Damaged, Found}
+use Rattle.disk_model.proofs.Spans.{leaves_still, still_none}
+use Rattle.disk_model.specs.Histories.{History, LeavesAll, MayLeave, Still}
 use Rattle.script_course.proofs.Turns.{front_none}
 use Rattle.script_course.specs.Courses.{Out}
+use Rattle.command_words.specs.declared.settings.Run.{Run}
+use Rattle.run_commands.specs.Keeps.{ReopensToPassed}
+use Rattle.run_commands.specs.Resumes.{LeavesOver, PassesOver, start_over}
+use Rattle.script_course.specs.declared.statuses.TheConstants.{DONE}
+use Rattle.store_commands.specs.Inits as init
+use Rattle.store_openings.specs.Openings.{opened}
+use Rattle.aria_top.specs.Disks.{LeavesDisk, Sees, is_taken}
 use Rattle.aria_top.specs.Out.{IsToldFor, out_by, out_of_task, refused_usage}
-use Rattle.aria_top.specs.Tasks.{reads}
+use Rattle.aria_top.specs.Tasks.{opens, reads, uses_disk}
 use Rattle.aria_top.specs.declared.tasks.Task.{Task}
+use Rattle.aria_top.specs.declared.tasks.Task.TheVariants as task
 
 -- a task that reads its input
 pub by_left : (out : List ℕ → Out) (left : Option (List ℕ)) (P : Out → Type 0) → IfSome left (λ text. P (out text)) → IfSome (option_map out left) P
 by_left out None P h = tt
 by_left out (Some text) P h = h
 
+module _ (asked : Option Task) (task : Task) (is : asked ≡ Some task) (images : ℕ → List ℕ) (found : Reopened) where
+  pub sees_asked : (disk : History) → Sees asked disk images found → Sees (Some task) disk images found
+  sees_asked disk h = subst (λ (a : Option Task). Sees a disk images found) is h
+
+  pub out_asked : (left : Option (List ℕ)) (P : Out → Type 0) → IfSome (out_of_task task left images found) P → IfSome (out_by asked left images found) P
+  out_asked left P h = subst (λ (a : Option Task). IfSome (out_by a left images found) P) (sym is) h
+
+  pub told_asked : (left rest old new : Option (List ℕ)) → IsToldFor (Some task) images found left rest old new → IsToldFor asked images found left rest old new
+  told_asked left rest old new h = subst (λ (a : Option Task). IsToldFor a images found left rest old new) (sym is) h
+
+  pub leaves_asked : (left : Option (List ℕ)) (was is_now : History) (old new : Option (List ℕ)) (status : ℕ) → LeavesDisk (Some task) images found left was is_now old new status
+      → LeavesDisk asked images found left was is_now old new status
+  leaves_asked left was is_now old new status h = subst (λ (a : Option Task). LeavesDisk a images found left was is_now old new status) (sym is) h
+
 module _ (asked : Option Task) (task : Task) (is : asked ≡ Some task) where
-  pub out_asked : (left : Option (List ℕ)) (P : Out → Type 0) → IfSome (out_of_task task left) P → IfSome (out_by asked left) P
-  out_asked left P h = subst (λ (a : Option Task). IfSome (out_by a left) P) (sym is) h
-
-  pub told_asked : (left rest old new : Option (List ℕ)) → IsToldFor (Some task) left rest old new → IsToldFor asked left rest old new
-  told_asked left rest old new h = subst (λ (a : Option Task). IsToldFor a left rest old new) (sym is) h
-
   pub reads_asked : (b : Bool) → reads asked ≡ b → reads (Some task) ≡ b
   reads_asked b h = sym (ap reads is) ∙ h
+
+  pub opens_asked : (b : Bool) → opens asked ≡ b → opens (Some task) ≡ b
+  opens_asked b h = sym (ap opens is) ∙ h
+
+  pub uses_asked : (b : Bool) → uses_disk asked ≡ b → uses_disk (Some task) ≡ b
+  uses_asked b h = sym (ap uses_disk is) ∙ h
 
   pub is_asked : asked ≡ None → ⊥
   is_asked none = absurd (let both : Some task ≡ None = sym is ∙ none in cc)
 
-pub out_refused : (asked : Option Task) (left : Option (List ℕ)) (P : Out → Type 0) → asked ≡ None → P refused_usage → IfSome (out_by asked left) P
-out_refused asked left P is h = subst (λ (a : Option Task). IfSome (out_by a left) P) (sym is) h
+-- ---- words that are no command
+
+pub out_refused : (asked : Option Task) (left : Option (List ℕ)) (images : ℕ → List ℕ) (found : Reopened) (P : Out → Type 0) → asked ≡ None → P refused_usage → IfSome (out_by asked left images found) P
+out_refused asked left images found P is h = subst (λ (a : Option Task). IfSome (out_by a left images found) P) (sym is) h
+
+pub leaves_refused : (asked : Option Task) (images : ℕ → List ℕ) (found : Reopened) (left : Option (List ℕ)) (was is_now : History) (old new : Option (List ℕ)) (status : ℕ) → asked ≡ None
+    → LeavesDisk asked images found left was is_now old new status
+leaves_refused asked images found left was is_now old new status is = subst (λ (a : Option Task). LeavesDisk a images found left was is_now old new status) (sym is) tt
 
 pub reads_none : (asked : Option Task) → asked ≡ None → reads asked ≡ true → ⊥
 reads_none asked is h = absurd (let both : false ≡ true = sym (ap reads is) ∙ h in cc)
+
+pub opens_none : (asked : Option Task) → asked ≡ None → opens asked ≡ true → ⊥
+opens_none asked is h = absurd (let both : false ≡ true = sym (ap opens is) ∙ h in cc)
+
+-- ---- nothing was done
 
 -- where nothing was written, a front of every output was
 pub nothing_yet : (out : Option Out) (now : Option (List ℕ)) → IfSome out (λ o. AppendsFront now now o.bytes)
 nothing_yet None now = tt
 nothing_yet (Some o) now = front_none now o.bytes
+
+-- a disk that was not touched
+untouched_all : (disk : History) (Q : (ℕ → List ℕ) → Type 0) → ((images : ℕ → List ℕ) → MayLeave disk disk.now images → Q images) → LeavesAll disk disk Q
+untouched_all disk Q all = leaves_still disk disk Q (still_none disk) all
+
+untouched_over : (settings : Run) (found : Reopened) (text : List ℕ) (disk : History) (now : Option (List ℕ)) → LeavesOver settings found text disk disk now now
+untouched_over settings NoStore text disk now = untouched_all disk (MayLeave disk disk.now) (λ images may. may)
+untouched_over settings (Damaged file at) text disk now = untouched_all disk (MayLeave disk disk.now) (λ images may. may)
+untouched_over settings (Found c later) text disk now = record {
+  images = untouched_all disk (λ images. MayLeave disk disk.now images ⊎ ReopensToPassed (PassesOver settings.drain (start_over settings c later) text) c.plan images) (λ images may. inl may);
+  exit = λ images may. inr (may, Appends-nil now);
+}
+
+untouched_text : (settings : Run) (found : Reopened) (left : Option (List ℕ)) (disk : History) (now : Option (List ℕ)) → IfSome left (λ text. LeavesOver settings found text disk disk now now)
+untouched_text settings found None disk now = tt
+untouched_text settings found (Some text) disk now = untouched_over settings found text disk now
+
+each_text : (left : Option (List ℕ)) (P : List ℕ → Type 0) → ((text : List ℕ) → P text) → IfSome left P
+each_text None P h = tt
+each_text (Some text) P h = h text
+
+-- there was no memory to read the words
+pub leaves_untouched : (asked : Option Task) (images : ℕ → List ℕ) (found : Reopened) (left : Option (List ℕ)) (disk : History) (now : Option (List ℕ)) → LeavesDisk asked images found left disk disk now now 7
+leaves_untouched None images found left disk now = tt
+leaves_untouched (Some (task.Once settings)) images found left disk now = tt
+leaves_untouched (Some (task.Init settings)) images found left disk now = record {
+  refused = λ e. still_none disk;
+  unmade = each_text left (λ text. (init.out_of settings (is_taken images) text).status ≢ DONE → Still disk disk) (λ text other. still_none disk);
+  made = λ e. absurd (omega (arith, e));
+}
+leaves_untouched (Some (task.Run settings)) images found left disk now = record {
+  leaves = untouched_text settings (opened images found) left disk now;
+  holds = λ e. absurd (grind (arith, e));
+}
+leaves_untouched (Some (task.Replay settings)) images found left disk now = untouched_all disk (MayLeave disk disk.now) (λ images may. may)
+leaves_untouched (Some (task.Gen settings)) images found left disk now = tt
+leaves_untouched (Some (task.Bench settings)) images found left disk now = tt
+leaves_untouched (Some task.Audit) images found left disk now = tt
+leaves_untouched (Some task.Check) images found left disk now = tt

@@ -1,3 +1,4 @@
 pub mod Asked
 pub mod Ranges
 pub mod Stopped
+pub mod OnStores

@@ -9,247 +9,205 @@ use Rattle.command_words.specs.Settings.{bench_of, command_of, init_of, mix_of, 
 use Rattle.command_words.specs.Tables.{commands}
 use Rattle.command_words.specs.Values.{Range, choice_in, flag_in, number_in, number_of, number_or, within}
 use Rattle.batch_rules.specs.declared.verdicts.Rule.{Rule}
+use Rattle.command_words.specs.declared.settings.Bench.{Bench}
 use Rattle.command_words.specs.declared.settings.Command.{Command}
 use Rattle.command_words.specs.declared.settings.Command.TheVariants as command
+use Rattle.command_words.specs.declared.settings.Init.{Init}
 use Rattle.command_words.specs.declared.settings.Listing.{Listing}
 use Rattle.command_words.specs.declared.settings.Once.{Once}
-use Rattle.command_words.specs.declared.settings.Bench.{Bench}
+use Rattle.command_words.specs.declared.settings.Replay.{Replay}
+use Rattle.command_words.specs.declared.settings.Run.{Run}
 use Rattle.command_words.specs.declared.settings.Workload.{Workload}
-use Rattle.bench_command.specs.Benches as bench
 use Rattle.run_commands.specs.Outs.{IsInRange}
-use Rattle.workloads.specs.Laws.{IsAsked, WordsAreWithin}
+use Rattle.workloads.specs.Laws.{WordsAreWithin}
 use Rattle.aria_top.specs.Tasks as tasks
 use Rattle.aria_top.specs.Tasks.{command_in, task_by, task_in}
 use Rattle.aria_top.specs.declared.tasks.Task.{Task}
 
-abbrev once_by : Command → Option Once
-once_by (command.Once settings) = Some settings
-once_by other = None
+-- ---- where a reader reads something, this holds of it
 
-abbrev bench_by : Command → Option Bench
-bench_by (command.Bench settings) = Some settings
-bench_by other = None
+if_then : {A B : Type 0} (o : Option A) (f : A → Option B) (P : A → Type 0) (Q : B → Type 0) → IfSome o P → ((a : A) → P a → IfSome (f a) Q) → IfSome (option_and_then f o) Q
+if_then None f P Q h next = tt
+if_then (Some a) f P Q h next = next a h
 
--- what goes on with a value had one
-data Step (X Y : Type 0) (o : Option X) (f : X → Option Y) (y : Y) : Type 0 where
-  stepped : (x : X) → o ≡ Some x → f x ≡ Some y → Step X Y o f y
+if_map : {A B : Type 0} (o : Option A) (f : A → B) (Q : B → Type 0) → IfSome o (λ a. Q (f a)) → IfSome (option_map f o) Q
+if_map None f Q h = tt
+if_map (Some a) f Q h = h
 
-step : (X Y : Type 0) (o : Option X) (f : X → Option Y) (y : Y) → option_and_then f o ≡ Some y → Step X Y o f y
-step X Y None f y e = absurd cc
-step X Y (Some x) f y e = stepped x refl e
+anything : {A : Type 0} (o : Option A) → IfSome o (λ _. Unit {0})
+anything None = tt
+anything (Some a) = tt
 
-both : (a b : Bool) (n m : ℕ) → cond (a && b) (Some n) None ≡ Some m → (a ≡ true) × (b ≡ true) × (n ≡ m)
-both true true n m e = (refl, refl, cc)
-both true false n m e = absurd cc
-both false b n m e = absurd cc
+of_some : {A : Type 0} (o : Option A) (a : A) (P : A → Type 0) → o ≡ Some a → IfSome o P → P a
+of_some {A = A} o a P e h = subst (λ (x : Option A). IfSome x P) e h
 
-in_range : (range : Range) (given : Option (List ℕ)) (n : ℕ) → (range.low ≤ range.usual) × (range.usual ≤ range.high) → number_or range given ≡ Some n → (range.low ≤ n) × (n ≤ range.high)
-in_range range None n usual e =
-    let same : range.usual ≡ n = cc in
-    (subst (λ (k : ℕ). range.low ≤ k) same usual.0, subst (λ (k : ℕ). k ≤ range.high) same usual.1)
-in_range range (Some text) n usual e = elim (step ℕ ℕ (number_of text) (within range) n e) [
-  | stepped m is fits ↦
-      let h = both (nat_le range.low m) (nat_le m range.high) m n fits in
-      (subst (λ (k : ℕ). range.low ≤ k) h.2 (leb-true range.low m h.0), subst (λ (k : ℕ). k ≤ range.high) h.2 (leb-true m range.high h.1))
-]
+-- ---- numbers
 
-abbrev settings_of : Line → ℕ → ℕ → Rule → ℕ → Listing → Once
-settings_of l w r u f s = record { workers = w; replicas = r; rule = u; fallback = f; listing = s; drain = flag_in l option.drain; batons = flag_in l option.batons }
+abbrev IsWithin : Range → ℕ → Type 0
+IsWithin range n = (range.low ≤ n) × (n ≤ range.high)
 
-abbrev made_of : Line → ℕ → ℕ → Rule → ℕ → Listing → Option Once
-made_of l w r u f s = Some (settings_of l w r u f s)
+both_true : (a b : Bool) (n : ℕ) (P : ℕ → Type 0) → (a ≡ true → b ≡ true → P n) → IfSome (cond (a && b) (Some n) None) P
+both_true true true n P h = h refl refl
+both_true true false n P h = tt
+both_true false b n P h = tt
 
-once_range : (l : Line) (settings : Once) → once_of l ≡ Some settings → IsInRange settings
-once_range l settings e = elim (step ℕ Once (number_in l option.workers) (λ w. with_some (number_in l option.replicas) (λ r. with_some (choice_in l option.rule) (λ u.
-    with_some (number_in l option.fallback) (λ f. with_some (choice_in l option.listing) (λ s.
-    made_of l w r u f s))))) settings e) [
-      | stepped w is_w e1 ↦ elim (step ℕ Once (number_in l option.replicas) (λ r. with_some (choice_in l option.rule) (λ u.
-          with_some (number_in l option.fallback) (λ f. with_some (choice_in l option.listing) (λ s.
-          made_of l w r u f s)))) settings e1) [
-            | stepped r is_r e2 ↦ elim (step Rule Once (choice_in l option.rule) (λ u.
-                with_some (number_in l option.fallback) (λ f. with_some (choice_in l option.listing) (λ s.
-                made_of l w r u f s))) settings e2) [
-                  | stepped u is_u e3 ↦ elim (step ℕ Once (number_in l option.fallback) (λ f. with_some (choice_in l option.listing) (λ s.
-                      made_of l w r u f s)) settings e3) [
-                        | stepped f is_f e4 ↦ elim (step Listing Once (choice_in l option.listing) (λ s.
-                            made_of l w r u f s) settings e4) [
-                              | stepped s is_s e5 ↦
-                                  let same : settings_of l w r u f s ≡ settings = cc in
-                                  subst IsInRange same (record {
-                                    workers = in_range option.workers (text_in l option.workers.name) w (omega arith, omega arith) is_w;
-                                    replicas = in_range option.replicas (text_in l option.replicas.name) r (omega arith, omega arith) is_r;
-                                    fallback = (in_range option.fallback (text_in l option.fallback.name) f (omega arith, omega arith) is_f).1;
-                                  })
-                            ]
-                      ]
-                ]
-          ]
-    ]
+within_holds : (range : Range) (n : ℕ) → IfSome (within range n) (IsWithin range)
+within_holds range n = both_true (nat_le range.low n) (nat_le n range.high) n (IsWithin range) (λ low high. (leb-true range.low n low, leb-true n range.high high))
 
-abbrev bench_settings : Line → Workload → ℕ → ℕ → Rule → ℕ → Bench
-bench_settings l d w r u f = record { workload = d; workers = w; replicas = r; rule = u; fallback = f; drain = flag_in l option.drain; batons = flag_in l option.batons }
+number_holds : (range : Range) (given : Option (List ℕ)) → IsWithin range range.usual → IfSome (number_or range given) (IsWithin range)
+number_holds range None usual = usual
+number_holds range (Some text) usual = if_then (number_of text) (within range) (λ _. Unit {0}) (IsWithin range) (anything (number_of text)) (λ n _. within_holds range n)
 
-abbrev bench_made : Line → Workload → ℕ → ℕ → Rule → ℕ → Option Bench
-bench_made l d w r u f = Some (bench_settings l d w r u f)
+in_range : (l : Line) (range : Range) → IsWithin range range.usual → IfSome (number_in l range) (IsWithin range)
+in_range l range usual = number_holds range (text_in l range.name) usual
 
-bench_range : (l : Line) (settings : Bench) → IsAsked settings.workload → bench_of l ≡ Some settings → bench.IsInRange settings
-bench_range l settings asked e = elim (step Workload Bench (workload_of l) (λ d. with_some (number_in l option.workers) (λ w. with_some (number_in l option.replicas) (λ r.
-    with_some (choice_in l option.rule) (λ u. with_some (number_in l option.fallback) (λ f.
-    bench_made l d w r u f))))) settings e) [
-      | stepped d is_d e1 ↦ elim (step ℕ Bench (number_in l option.workers) (λ w. with_some (number_in l option.replicas) (λ r.
-          with_some (choice_in l option.rule) (λ u. with_some (number_in l option.fallback) (λ f.
-          bench_made l d w r u f)))) settings e1) [
-            | stepped w is_w e2 ↦ elim (step ℕ Bench (number_in l option.replicas) (λ r.
-                with_some (choice_in l option.rule) (λ u. with_some (number_in l option.fallback) (λ f.
-                bench_made l d w r u f))) settings e2) [
-                  | stepped r is_r e3 ↦ elim (step Rule Bench (choice_in l option.rule) (λ u. with_some (number_in l option.fallback) (λ f.
-                      bench_made l d w r u f)) settings e3) [
-                        | stepped u is_u e4 ↦ elim (step ℕ Bench (number_in l option.fallback) (λ f.
-                            bench_made l d w r u f) settings e4) [
-                              | stepped f is_f e5 ↦
-                                  let same : bench_settings l d w r u f ≡ settings = cc in
-                                  subst bench.IsInRange same (record {
-                                    asked = subst (λ (b : Bench). IsAsked b.workload) (sym same) asked;
-                                    workers = in_range option.workers (text_in l option.workers.name) w (omega arith, omega arith) is_w;
-                                    replicas = in_range option.replicas (text_in l option.replicas.name) r (omega arith, omega arith) is_r;
-                                    fallback = (in_range option.fallback (text_in l option.fallback.name) f (omega arith, omega arith) is_f).1;
-                                  })
-                            ]
-                      ]
-                ]
-          ]
-    ]
+-- ---- the settings of each command
+
+abbrev OfOnce : Line → ℕ → ℕ → Rule → ℕ → Listing → Option Once
+OfOnce l w r u f s = Some (record { workers = w; replicas = r; rule = u; fallback = f; listing = s; drain = flag_in l option.drain; batons = flag_in l option.batons })
+
+once_holds : (l : Line) → IfSome (once_of l) IsInRange
+once_holds l =
+    if_then (number_in l option.workers) (λ w. with_some (number_in l option.replicas) (λ r. with_some (choice_in l option.rule) (λ u. with_some (number_in l option.fallback) (λ f. with_some (choice_in l option.listing) (λ s. OfOnce l w r u f s)))))
+    (IsWithin option.workers) IsInRange (in_range l option.workers (omega arith, omega arith)) (λ w of_w.
+    if_then (number_in l option.replicas) (λ r. with_some (choice_in l option.rule) (λ u. with_some (number_in l option.fallback) (λ f. with_some (choice_in l option.listing) (λ s. OfOnce l w r u f s))))
+    (IsWithin option.replicas) IsInRange (in_range l option.replicas (omega arith, omega arith)) (λ r of_r.
+    if_then (choice_in l option.rule) (λ u. with_some (number_in l option.fallback) (λ f. with_some (choice_in l option.listing) (λ s. OfOnce l w r u f s)))
+    (λ _. Unit {0}) IsInRange (anything (choice_in l option.rule)) (λ u _.
+    if_then (number_in l option.fallback) (λ f. with_some (choice_in l option.listing) (λ s. OfOnce l w r u f s))
+    (IsWithin option.fallback) IsInRange (in_range l option.fallback (omega arith, omega arith)) (λ f of_f.
+    if_then (choice_in l option.listing) (λ s. OfOnce l w r u f s)
+    (λ _. Unit {0}) IsInRange (anything (choice_in l option.listing)) (λ s _. record { workers = of_w; replicas = of_r; fallback = of_f.1 })))))
+
+abbrev InitRange : Init → Type 0
+InitRange settings = settings.fallback ≤ 101
+
+init_holds : (l : Line) → IfSome (init_of l) InitRange
+init_holds l =
+    if_then (choice_in l option.rule) (λ u. with_some (number_in l option.fallback) (λ f. Some (record { rule = u; fallback = f; over = flag_in l option.over })))
+    (λ _. Unit {0}) InitRange (anything (choice_in l option.rule)) (λ u _.
+    if_then (number_in l option.fallback) (λ f. Some (record { rule = u; fallback = f; over = flag_in l option.over }))
+    (IsWithin option.fallback) InitRange (in_range l option.fallback (omega arith, omega arith)) (λ f of_f. of_f.1))
+
+abbrev RunRange : Run → Type 0
+RunRange settings = ((1 ≤ settings.workers) × (settings.workers ≤ 64)) × ((1 ≤ settings.replicas) × (settings.replicas ≤ 8))
+
+abbrev OfRun : Line → ℕ → ℕ → ℕ → Listing → Option Run
+OfRun l w r c s = Some (record { workers = w; replicas = r; checkpoint = c; listing = s; drain = flag_in l option.drain; batons = flag_in l option.batons })
+
+run_holds : (l : Line) → IfSome (run_of l) RunRange
+run_holds l =
+    if_then (number_in l option.workers) (λ w. with_some (number_in l option.replicas) (λ r. with_some (number_in l option.checkpoint) (λ c. with_some (choice_in l option.listing) (λ s. OfRun l w r c s))))
+    (IsWithin option.workers) RunRange (in_range l option.workers (omega arith, omega arith)) (λ w of_w.
+    if_then (number_in l option.replicas) (λ r. with_some (number_in l option.checkpoint) (λ c. with_some (choice_in l option.listing) (λ s. OfRun l w r c s)))
+    (IsWithin option.replicas) RunRange (in_range l option.replicas (omega arith, omega arith)) (λ r of_r.
+    if_then (number_in l option.checkpoint) (λ c. with_some (choice_in l option.listing) (λ s. OfRun l w r c s))
+    (λ _. Unit {0}) RunRange (anything (number_in l option.checkpoint)) (λ c _.
+    if_then (choice_in l option.listing) (λ s. OfRun l w r c s)
+    (λ _. Unit {0}) RunRange (anything (choice_in l option.listing)) (λ s _. (of_w, of_r)))))
+
+abbrev ReplayRange : Replay → Type 0
+ReplayRange settings = ((1 ≤ settings.workers) × (settings.workers ≤ 64)) × ((1 ≤ settings.replicas) × (settings.replicas ≤ 8))
+
+abbrev OfReplay : Line → ℕ → ℕ → Listing → Option Replay
+OfReplay l w r s = Some (record { workers = w; replicas = r; listing = s; batons = flag_in l option.batons })
+
+replay_holds : (l : Line) → IfSome (replay_of l) ReplayRange
+replay_holds l =
+    if_then (number_in l option.workers) (λ w. with_some (number_in l option.replicas) (λ r. with_some (choice_in l option.listing) (λ s. OfReplay l w r s)))
+    (IsWithin option.workers) ReplayRange (in_range l option.workers (omega arith, omega arith)) (λ w of_w.
+    if_then (number_in l option.replicas) (λ r. with_some (choice_in l option.listing) (λ s. OfReplay l w r s))
+    (IsWithin option.replicas) ReplayRange (in_range l option.replicas (omega arith, omega arith)) (λ r of_r.
+    if_then (choice_in l option.listing) (λ s. OfReplay l w r s)
+    (λ _. Unit {0}) ReplayRange (anything (choice_in l option.listing)) (λ s _. (of_w, of_r))))
+
+-- all of it but the workload, of which there is a law
+abbrev BenchRange : Bench → Type 0
+BenchRange settings = ((1 ≤ settings.workers) × (settings.workers ≤ 64)) × ((1 ≤ settings.replicas) × (settings.replicas ≤ 8)) × (settings.fallback ≤ 101)
+
+abbrev OfBench : Line → Workload → ℕ → ℕ → Rule → ℕ → Option Bench
+OfBench l d w r u f = Some (record { workload = d; workers = w; replicas = r; rule = u; fallback = f; drain = flag_in l option.drain; batons = flag_in l option.batons })
+
+bench_holds : (l : Line) → IfSome (bench_of l) BenchRange
+bench_holds l =
+    if_then (workload_of l) (λ d. with_some (number_in l option.workers) (λ w. with_some (number_in l option.replicas) (λ r. with_some (choice_in l option.rule) (λ u. with_some (number_in l option.fallback) (λ f. OfBench l d w r u f)))))
+    (λ _. Unit {0}) BenchRange (anything (workload_of l)) (λ d _.
+    if_then (number_in l option.workers) (λ w. with_some (number_in l option.replicas) (λ r. with_some (choice_in l option.rule) (λ u. with_some (number_in l option.fallback) (λ f. OfBench l d w r u f))))
+    (IsWithin option.workers) BenchRange (in_range l option.workers (omega arith, omega arith)) (λ w of_w.
+    if_then (number_in l option.replicas) (λ r. with_some (choice_in l option.rule) (λ u. with_some (number_in l option.fallback) (λ f. OfBench l d w r u f)))
+    (IsWithin option.replicas) BenchRange (in_range l option.replicas (omega arith, omega arith)) (λ r of_r.
+    if_then (choice_in l option.rule) (λ u. with_some (number_in l option.fallback) (λ f. OfBench l d w r u f))
+    (λ _. Unit {0}) BenchRange (anything (choice_in l option.rule)) (λ u _.
+    if_then (number_in l option.fallback) (λ f. OfBench l d w r u f)
+    (IsWithin option.fallback) BenchRange (in_range l option.fallback (omega arith, omega arith)) (λ f of_f. (of_w, of_r, of_f.1))))))
 
 -- ---- the command of a line
 
-by_name : (Q : Type 0) (c : Command) (b : Bool) (l : Line) (read : Line → Option Command) (others : Option (List ℕ × (Line → Option Command))) (own : List ℕ)
-    → (read l ≡ Some c → Q) → (option_and_then (λ r. r.1 l) others ≡ Some c → Q) → option_and_then (λ r. r.1 l) (cond b (Some (own, read)) others) ≡ Some c → Q
-by_name Q c true l read others own first rest e = first e
-by_name Q c false l read others own first rest e = rest e
+abbrev IsSound : Command → Type 0
+IsSound (command.Once settings) = IsInRange settings
+IsSound (command.Init settings) = InitRange settings
+IsSound (command.Run settings) = RunRange settings
+IsSound (command.Replay settings) = ReplayRange settings
+IsSound command.Check = Unit {0}
+IsSound (command.Gen settings) = Unit {0}
+IsSound (command.Bench settings) = BenchRange settings
+IsSound command.Audit = Unit {0}
+IsSound (command.Mix settings) = Unit {0}
+IsSound (command.Nodes settings) = Unit {0}
 
--- a command whose settings nothing is shown of here
-abbrev IsOther : Command → Type 0
-IsOther (command.Once settings) = ⊥
-IsOther (command.Bench settings) = ⊥
-IsOther other = Unit {0}
+module _ (name : List ℕ) (l : Line) where
+  abbrev Reader : Type 0
+  Reader = List ℕ × (Line → Option Command)
 
--- what follows where a name's line is that command, of a kind that `pick` picks
-module _ (Y : Type 0) (pick : Command → Option Y) (c : Command) (y : Y) (is : pick c ≡ Some y) (Q : Type 0) (name : List ℕ) (l : Line) where
-  abbrev Entry : Type 0
-  Entry = List ℕ × (Line → Option Command)
+  abbrev Reads : List Reader → Type 0
+  Reads rs = IfSome (option_and_then (λ r. r.1 l) (find (λ r. bytes_eq name r.0) rs)) IsSound
 
-  abbrev Reads : List Entry → Type 0
-  Reads rs = option_and_then (λ r. r.1 l) (find (λ r. bytes_eq name r.0) rs) ≡ Some c → Q
+  by_name : (b : Bool) (own : Reader) (others : Option Reader) → IfSome (own.1 l) IsSound → IfSome (option_and_then (λ r. r.1 l) others) IsSound
+      → IfSome (option_and_then (λ r. r.1 l) (cond b (Some own) others)) IsSound
+  by_name true own others first rest = first
+  by_name false own others first rest = rest
 
-  one : (own : List ℕ) (read : Line → Option Command) (rs : List Entry) → (read l ≡ Some c → Q) → Reads rs → Reads ((own, read) ∷ rs)
-  one own read rs first rest e = by_name Q c (bytes_eq name own) l read (find (λ r. bytes_eq name r.0) rs) own first rest e
+  one : (own : Reader) (rs : List Reader) → IfSome (own.1 l) IsSound → Reads rs → Reads (own ∷ rs)
+  one own rs first rest = by_name (bytes_eq name own.0) own (find (λ r. bytes_eq name r.0) rs) first rest
 
-  -- a command of another form is not that one
-  no_other : {X : Type 0} (o : Option X) (form : X → Command) → ((x : X) → pick (form x) ≡ None) → option_map form o ≡ Some c → ⊥
-  no_other None form never e = cc
-  no_other (Some x) form never e =
-      let same : form x ≡ c = cc in
-      let both : Some y ≡ None = sym is ∙ sym (ap pick same) ∙ never x in
-      cc
+  all : Reads readers
+  all =
+      one (codes "once", λ k. option_map command.Once (once_of k)) (drop 1 readers) (if_map (once_of l) command.Once IsSound (once_holds l))
+      (one (codes "init", λ k. option_map command.Init (init_of k)) (drop 2 readers) (if_map (init_of l) command.Init IsSound (init_holds l))
+      (one (codes "run", λ k. option_map command.Run (run_of k)) (drop 3 readers) (if_map (run_of l) command.Run IsSound (run_holds l))
+      (one (codes "replay", λ k. option_map command.Replay (replay_of k)) (drop 4 readers) (if_map (replay_of l) command.Replay IsSound (replay_holds l))
+      (one (codes "check", λ k. Some command.Check) (drop 5 readers) tt
+      (one (codes "gen", λ k. option_map command.Gen (workload_of k)) (drop 6 readers) (if_map (workload_of l) command.Gen IsSound (anything (workload_of l)))
+      (one (codes "bench", λ k. option_map command.Bench (bench_of k)) (drop 7 readers) (if_map (bench_of l) command.Bench IsSound (bench_holds l))
+      (one (codes "audit", λ k. Some command.Audit) (drop 8 readers) tt
+      (one (codes "mix", λ k. option_map command.Mix (mix_of k)) (drop 9 readers) (if_map (mix_of l) command.Mix IsSound (anything (mix_of l)))
+      (one (codes "nodes", λ k. option_map command.Nodes (nodes_of k)) [] (if_map (nodes_of l) command.Nodes IsSound (anything (nodes_of l))) tt)))))))))
 
-  other : {X : Type 0} (own : List ℕ) (o : Line → Option X) (form : X → Command) (rs : List Entry) → ((x : X) → pick (form x) ≡ None) → Reads rs → Reads ((own, λ k. option_map form (o k)) ∷ rs)
-  other own o form rs never rest = one own (λ k. option_map form (o k)) rs (λ e. absurd (no_other (o l) form never e)) rest
+sound : (l : Line) (c : Command) → command_of l ≡ Some c → IsSound c
+sound l c e = of_some (command_of l) c IsSound e (all l.cmd.name l)
 
-  plain : (own : List ℕ) (k : Command) (rs : List Entry) → pick k ≡ None → Reads rs → Reads ((own, λ q. Some k) ∷ rs)
-  plain own k rs never rest = one own (λ q. Some k) rs
-      (λ e. let same : k ≡ c = cc in let both : Some y ≡ None = sym is ∙ sym (ap pick same) ∙ never in absurd cc) rest
+-- ---- the task of words
 
-  -- what is shown of the line of each command that settings may be of
-  all : ((k : Command) → IsOther k → pick k ≡ None) → (option_map command.Once (once_of l) ≡ Some c → Q) → (option_map command.Bench (bench_of l) ≡ Some c → Q) → Reads readers
-  all never once bench =
-      one (codes "once") (λ k. option_map command.Once (once_of k)) (drop 1 readers) once
-      (other (codes "init") init_of command.Init (drop 2 readers) (λ x. never (command.Init x) tt)
-      (other (codes "run") run_of command.Run (drop 3 readers) (λ x. never (command.Run x) tt)
-      (other (codes "replay") replay_of command.Replay (drop 4 readers) (λ x. never (command.Replay x) tt)
-      (plain (codes "check") command.Check (drop 5 readers) (never command.Check tt)
-      (other (codes "gen") workload_of command.Gen (drop 6 readers) (λ x. never (command.Gen x) tt)
-      (one (codes "bench") (λ k. option_map command.Bench (bench_of k)) (drop 7 readers) bench
-      (plain (codes "audit") command.Audit (drop 8 readers) (never command.Audit tt)
-      (other (codes "mix") mix_of command.Mix (drop 9 readers) (λ x. never (command.Mix x) tt)
-      (other (codes "nodes") nodes_of command.Nodes [] (λ x. never (command.Nodes x) tt)
-      (λ e. absurd cc))))))))))
+of_line : WordsAreWithin → (l : Line) (c : Command) → command_of l ≡ Some c → IsSound c → IfSome (task_by c) tasks.IsInRange
+of_line law l (command.Once settings) is h = h
+of_line law l (command.Init settings) is h = h
+of_line law l (command.Run settings) is h = h
+of_line law l (command.Replay settings) is h = h
+of_line law l command.Check is h = tt
+of_line law l (command.Gen settings) is h = law.gen l settings is
+of_line law l (command.Bench settings) is h = record { asked = law.bench l settings is; workers = h.0; replicas = h.1; fallback = h.2 }
+of_line law l command.Audit is h = tt
+of_line law l (command.Mix settings) is h = tt
+of_line law l (command.Nodes settings) is h = tt
 
-never_once : (k : Command) → IsOther k → once_by k ≡ None
-never_once (command.Once settings) h = absurd h
-never_once (command.Bench settings) h = absurd h
-never_once (command.Init settings) h = refl
-never_once (command.Run settings) h = refl
-never_once (command.Replay settings) h = refl
-never_once command.Check h = refl
-never_once (command.Gen settings) h = refl
-never_once command.Audit h = refl
-never_once (command.Mix settings) h = refl
-never_once (command.Nodes settings) h = refl
+by_command : WordsAreWithin → (l : Line) (o : Option Command) → command_of l ≡ o → IfSome (option_and_then task_by o) tasks.IsInRange
+by_command law l None is = tt
+by_command law l (Some c) is = of_line law l c is (sound l c is)
 
-never_bench : (k : Command) → IsOther k → bench_by k ≡ None
-never_bench (command.Once settings) h = absurd h
-never_bench (command.Bench settings) h = absurd h
-never_bench (command.Init settings) h = refl
-never_bench (command.Run settings) h = refl
-never_bench (command.Replay settings) h = refl
-never_bench command.Check h = refl
-never_bench (command.Gen settings) h = refl
-never_bench command.Audit h = refl
-never_bench (command.Mix settings) h = refl
-never_bench (command.Nodes settings) h = refl
-
-once_line : (l : Line) (settings : Once) (o : Option Once) → once_of l ≡ o → option_map command.Once o ≡ Some (command.Once settings) → IsInRange settings
-once_line l settings None is e = absurd cc
-once_line l settings (Some found) is e =
-    let same : Some found ≡ Some settings = ap (λ (c : Option Command). option_and_then once_by c) e in
-    once_range l settings (is ∙ same)
-
-bench_line : (l : Line) (settings : Bench) (o : Option Bench) → IsAsked settings.workload → bench_of l ≡ o → option_map command.Bench o ≡ Some (command.Bench settings) → bench.IsInRange settings
-bench_line l settings None asked is e = absurd cc
-bench_line l settings (Some found) asked is e =
-    let same : Some found ≡ Some settings = ap (λ (c : Option Command). option_and_then bench_by c) e in
-    bench_range l settings asked (is ∙ same)
-
-once_named : (l : Line) (settings : Once) → command_of l ≡ Some (command.Once settings) → IsInRange settings
-once_named l settings = all Once once_by (command.Once settings) settings refl (IsInRange settings) l.cmd.name l never_once
-    (λ e. once_line l settings (once_of l) refl e)
-    (λ e. absurd (no_other Once once_by (command.Once settings) settings refl (IsInRange settings) l.cmd.name l (bench_of l) command.Bench (λ x. refl) e))
-
-bench_named : (l : Line) (settings : Bench) → IsAsked settings.workload → command_of l ≡ Some (command.Bench settings) → bench.IsInRange settings
-bench_named l settings asked = all Bench bench_by (command.Bench settings) settings refl (bench.IsInRange settings) l.cmd.name l never_bench
-    (λ e. absurd (no_other Bench bench_by (command.Bench settings) settings refl (bench.IsInRange settings) l.cmd.name l (once_of l) command.Once (λ x. refl) e))
-    (λ e. bench_line l settings (bench_of l) asked refl e)
-
--- ---- the command of words
-
-once_in_range : (words : List (List ℕ)) (settings : Once) → command_in words ≡ Some (command.Once settings) → IsInRange settings
-once_in_range words settings e = elim (step Line Command (line_of commands words) command_of (command.Once settings) e) [
-  | stepped l is found ↦ once_named l settings found
-]
-
-gen_in_range : WordsAreWithin → (words : List (List ℕ)) (settings : Workload) → command_in words ≡ Some (command.Gen settings) → IsAsked settings
-gen_in_range law words settings e = elim (step Line Command (line_of commands words) command_of (command.Gen settings) e) [
-  | stepped l is found ↦ law.gen l settings found
-]
-
-bench_in_range : WordsAreWithin → (words : List (List ℕ)) (settings : Bench) → command_in words ≡ Some (command.Bench settings) → bench.IsInRange settings
-bench_in_range law words settings e = elim (step Line Command (line_of commands words) command_of (command.Bench settings) e) [
-  | stepped l is found ↦ bench_named l settings (law.bench l settings found) found
-]
-
-by_command : WordsAreWithin → (words : List (List ℕ)) (asked : Option Command) → command_in words ≡ asked → IfSome (option_and_then task_by asked) tasks.IsInRange
-by_command law words None is = tt
-by_command law words (Some (command.Once settings)) is = once_in_range words settings is
-by_command law words (Some (command.Init settings)) is = tt
-by_command law words (Some (command.Run settings)) is = tt
-by_command law words (Some (command.Replay settings)) is = tt
-by_command law words (Some command.Check) is = tt
-by_command law words (Some (command.Gen settings)) is = gen_in_range law words settings is
-by_command law words (Some (command.Bench settings)) is = bench_in_range law words settings is
-by_command law words (Some command.Audit) is = tt
-by_command law words (Some (command.Mix settings)) is = tt
-by_command law words (Some (command.Nodes settings)) is = tt
+by_line : WordsAreWithin → (o : Option Line) → IfSome (option_and_then task_by (option_and_then command_of o)) tasks.IsInRange
+by_line law None = tt
+by_line law (Some l) = by_command law l (command_of l) refl
 
 -- the settings that words ask for
 pub in_bounds : WordsAreWithin → (words : List (List ℕ)) (found : Option Task) → found ≡ task_in words → IfSome found tasks.IsInRange
-in_bounds law words found is = subst (λ (f : Option Task). IfSome f tasks.IsInRange) (sym is) (by_command law words (command_in words) refl)
+in_bounds law words found is = subst (λ (f : Option Task). IfSome f tasks.IsInRange) (sym is) (by_line law (line_of commands words))

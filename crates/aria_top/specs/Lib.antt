@@ -1,3 +1,4 @@
 pub mod Tasks
+pub mod Disks
 pub mod Out
 pub mod Statuses

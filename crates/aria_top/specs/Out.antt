@@ -11,7 +11,14 @@ use Rattle.command_words.specs.declared.settings.Bench.{Bench}
 use Rattle.command_words.specs.declared.settings.Load.{Load}
 use Rattle.command_words.specs.declared.settings.Load.TheVariants as load
 use Rattle.gen_command.specs.Scripts.{script_of}
+use Rattle.aria_store.specs.Reopens.{Reopened}
 use Rattle.run_commands.specs.Outs.{out_of, told_of}
+use Rattle.run_commands.specs.Resumes.{IsToldOver, out_over}
+use Rattle.store_commands.specs.Drafts.{told_of as init_told}
+use Rattle.store_commands.specs.Inits as init
+use Rattle.store_commands.specs.Replays as replay
+use Rattle.store_openings.specs.Openings.{opened}
+use Rattle.aria_top.specs.Disks.{is_taken}
 use Rattle.script_course.specs.Courses.{Out}
 use Rattle.script_course.specs.Served.{IsToldOf}
 use Rattle.script_course.specs.declared.statuses.TheConstants.{DONE, USAGE}
@@ -36,24 +43,30 @@ bench_by load.Tpcc settings = with_finding (summary_of settings) (audited (ran_o
 abbrev pub bench_out : Bench → Out
 bench_out settings = bench_by settings.workload.kind settings
 
--- what a task prints on an input, where the source tells its bytes; what reads nothing prints without it
-abbrev pub out_of_task : Task → Option (List ℕ) → Option Out
-out_of_task (task.Once settings) left = option_map (out_of settings) left
-out_of_task (task.Gen settings) left = Some (record { bytes = script_of settings; status = DONE })
-out_of_task (task.Bench settings) left = Some (bench_out settings)
-out_of_task task.Audit left = option_map audit.out_of left
-out_of_task task.Check left = option_map check.out_of left
+-- What a task prints on an input, where the source tells its bytes; what reads nothing prints without it. A command on a store has
+-- its output by the bytes of the four files and by what they reopen as.
+abbrev pub out_of_task : Task → Option (List ℕ) → (ℕ → List ℕ) → Reopened → Option Out
+out_of_task (task.Once settings) left images found = option_map (out_of settings) left
+out_of_task (task.Init settings) left images found = option_map (init.out_of settings (is_taken images)) left
+out_of_task (task.Run settings) left images found = out_over settings (opened images found) left
+out_of_task (task.Replay settings) left images found = Some (replay.out_of settings images found)
+out_of_task (task.Gen settings) left images found = Some (record { bytes = script_of settings; status = DONE })
+out_of_task (task.Bench settings) left images found = Some (bench_out settings)
+out_of_task task.Audit left images found = option_map audit.out_of left
+out_of_task task.Check left images found = option_map check.out_of left
 
-abbrev pub out_by : Option Task → Option (List ℕ) → Option Out
-out_by None left = Some refused_usage
-out_by (Some asked) left = out_of_task asked left
+abbrev pub out_by : Option Task → Option (List ℕ) → (ℕ → List ℕ) → Reopened → Option Out
+out_by None left images found = Some refused_usage
+out_by (Some asked) left images found = out_of_task asked left images found
 
-abbrev pub out_for : List (List ℕ) → Option (List ℕ) → Option Out
-out_for words left = out_by (task_in words) left
+abbrev pub out_for : List (List ℕ) → Option (List ℕ) → (ℕ → List ℕ) → Reopened → Option Out
+out_for words left images found = out_by (task_in words) left images found
 
 -- what was written is all that the bytes that were taken tell, and no line of them was refused
-abbrev pub IsToldFor : Option Task → Option (List ℕ) → Option (List ℕ) → Option (List ℕ) → Option (List ℕ) → Type 0
-IsToldFor (Some (task.Once settings)) left rest old new = IsToldOf (told_of settings) left rest old new
-IsToldFor (Some task.Audit) left rest old new = IsToldOf audit.told_of left rest old new
-IsToldFor (Some task.Check) left rest old new = IsToldOf check.told_of left rest old new
-IsToldFor other left rest old new = ⊥
+abbrev pub IsToldFor : Option Task → (ℕ → List ℕ) → Reopened → Option (List ℕ) → Option (List ℕ) → Option (List ℕ) → Option (List ℕ) → Type 0
+IsToldFor (Some (task.Once settings)) images found left rest old new = IsToldOf (told_of settings) left rest old new
+IsToldFor (Some (task.Init settings)) images found left rest old new = IsToldOf init_told left rest old new
+IsToldFor (Some (task.Run settings)) images found left rest old new = IsToldOver settings (opened images found) left rest old new
+IsToldFor (Some task.Audit) images found left rest old new = IsToldOf audit.told_of left rest old new
+IsToldFor (Some task.Check) images found left rest old new = IsToldOf check.told_of left rest old new
+IsToldFor other images found left rest old new = ⊥

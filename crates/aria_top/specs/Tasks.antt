@@ -14,6 +14,9 @@ use Rattle.aria_top.specs.declared.tasks.Task.TheVariants as task
 -- the task of a command that the program has; every other command is refused as words that are none
 abbrev pub task_by : Command → Option Task
 task_by (command.Once settings) = Some (task.Once settings)
+task_by (command.Init settings) = Some (task.Init settings)
+task_by (command.Run settings) = Some (task.Run settings)
+task_by (command.Replay settings) = Some (task.Replay settings)
 task_by (command.Gen settings) = Some (task.Gen settings)
 task_by (command.Bench settings) = Some (task.Bench settings)
 task_by command.Audit = Some task.Audit
@@ -30,6 +33,9 @@ task_in words = option_and_then task_by (command_in words)
 -- its settings are within their ranges
 abbrev pub IsInRange : Task → Type 0
 IsInRange (task.Once settings) = once.IsInRange settings
+IsInRange (task.Init settings) = settings.fallback ≤ 101
+IsInRange (task.Run settings) = ((1 ≤ settings.workers) × (settings.workers ≤ 64)) × ((1 ≤ settings.replicas) × (settings.replicas ≤ 8))
+IsInRange (task.Replay settings) = ((1 ≤ settings.workers) × (settings.workers ≤ 64)) × ((1 ≤ settings.replicas) × (settings.replicas ≤ 8))
 IsInRange (task.Gen settings) = IsAsked settings
 IsInRange (task.Bench settings) = bench.IsInRange settings
 IsInRange task.Audit = Unit {0}
@@ -38,6 +44,21 @@ IsInRange task.Check = Unit {0}
 -- whether the input is read for it
 abbrev pub reads : Option Task → Bool
 reads (Some (task.Once settings)) = true
+reads (Some (task.Init settings)) = true
+reads (Some (task.Run settings)) = true
 reads (Some task.Audit) = true
 reads (Some task.Check) = true
 reads other = false
+
+-- whether it needs a store that can be opened
+abbrev pub opens : Option Task → Bool
+opens (Some (task.Run settings)) = true
+opens (Some (task.Replay settings)) = true
+opens other = false
+
+-- whether a call is made on the disk for it
+abbrev pub uses_disk : Option Task → Bool
+uses_disk (Some (task.Init settings)) = true
+uses_disk (Some (task.Run settings)) = true
+uses_disk (Some (task.Replay settings)) = true
+uses_disk other = false

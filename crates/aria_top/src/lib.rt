@@ -1,28 +1,32 @@
 //! The top call of the database: from words and input bytes to output bytes and a status.
 //!
 //! [`aria`] is what the program runs. What it writes and answers is a stated function of its words and
-//! its input, and each batch that it answers is serialisable by the order that it prints; it fails only
-//! where the source or the sink did, or where there was no memory.
+//! its input, and of what the disk reads as for a command on a store; each batch that it answers is
+//! serialisable by the order that it prints. It fails only where the source, the sink or the disk did, or
+//! where there was no memory. A stop at any moment leaves every batch that was answered.
 //!
 //! ```text
-//! words ──> tasks (command_words) ──> tops (aria) ──> commands ─┬> run_commands (once)
-//!                                                               ├> gen_command (gen)
-//!                                                               ├> audit_command (audit)
-//!                                                               ├> check_command (check)
-//!                                                               └> summaries ──> bench_command (bench)
+//! words ──> tasks (command_words) ──> tops (aria) ─┬> commands ─┬> run_commands (once)
+//!                                                  │            ├> gen_command (gen)
+//!                                                  │            ├> audit_command (audit)
+//!                                                  │            ├> check_command (check)
+//!                                                  │            └> summaries ──> bench_command (bench)
+//!                                                  └> stores ───┬> store_commands (init, replay)
+//!                                                               └> run_commands (run)
 //! ```
 //!
-//! In `specs/`: `Tasks` says what words ask for, `Out` what they print on an input, `Statuses` what a
-//! status says.
+//! In `specs/`: `Tasks` says what words ask for, `Out` what they print on an input, `Disks` what a command
+//! sees of the disk and leaves of it, `Statuses` what a status says.
 #![tactic(auto)]
 
 mod commands;
+mod stores;
 mod summaries;
 mod tasks;
 mod tops;
 
 pub use script_course::{
-    DISK_FAULT, DONE, FAILS, NO_MEMORY, READ_FAULT, REFUSED, USAGE, WRITE_FAULT,
+    DISK_FAULT, DONE, FAILS, NO_MEMORY, READ_FAULT, REFUSED, STORE_REFUSED, USAGE, WRITE_FAULT,
 };
 pub use serving::{Given, Live, MOST_LOG, serve_batch};
 pub use tops::aria;

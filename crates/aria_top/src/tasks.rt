@@ -4,7 +4,7 @@ ghost use Rattle.aria_top.specs.Tasks.{task_by, task_in, IsInRange};
 ghost use Rattle.workloads.specs.Laws.{WordsAreWithin};
 
 use aria_base::Memory;
-use command_words::{Bench, Command, Once, Workload, commands, read_settings};
+use command_words::{Bench, Command, Init, Once, Replay, Run, Workload, commands, read_settings};
 use std::alloc::Global;
 use workloads::words_are_within;
 
@@ -12,6 +12,9 @@ use workloads::words_are_within;
 #[derive(Drop)]
 pub enum Task {
     Once(Once),
+    Init(Init),
+    Run(Run),
+    Replay(Replay),
     Gen(Workload),
     Bench(Bench),
     Audit,
@@ -37,14 +40,13 @@ fn task_by(command: Command) -> Option<Task>
 {
     match command {
         Command::Once(settings) => Some(Task::Once(settings)),
+        Command::Init(settings) => Some(Task::Init(settings)),
+        Command::Run(settings) => Some(Task::Run(settings)),
+        Command::Replay(settings) => Some(Task::Replay(settings)),
         Command::Gen(settings) => Some(Task::Gen(settings)),
         Command::Bench(settings) => Some(Task::Bench(settings)),
         Command::Audit => Some(Task::Audit),
         Command::Check => Some(Task::Check),
-        Command::Init(_)
-        | Command::Run(_)
-        | Command::Replay(_)
-        | Command::Mix(_)
-        | Command::Nodes(_) => None,
+        Command::Mix(_) | Command::Nodes(_) => None,
     }
 }

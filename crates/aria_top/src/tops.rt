@@ -6,26 +6,29 @@ ghost use Rattle.aria_base.specs.Streams.{AppendsFront};
 ghost use Rattle.command_words.specs.declared.settings.Once.{Once};
 ghost use Rattle.aria_top.specs.Out.{out_for, out_of_task, IsToldFor};
 ghost use Rattle.aria_top.specs.Statuses.{IsAnswered, IsEnded};
-ghost use Rattle.aria_top.specs.Tasks.{reads, task_in, IsInRange};
+ghost use Rattle.aria_store.specs.Reopens.{Reopened};
+ghost use Rattle.aria_top.specs.Disks.{LeavesDisk, Sees};
+ghost use Rattle.aria_top.specs.Tasks.{opens, reads, task_in, uses_disk, IsInRange};
 ghost use Rattle.answer_text.specs.Notices.{refused_text};
 ghost use Rattle.answer_text.specs.declared.notices.Refused.TheVariants.{Usage};
 ghost use Rattle.run_commands.specs.Outs.{AreOne, IsAlike};
-ghost use Rattle.run_commands.specs.Serial.{EachIsSerial};
+ghost use Rattle.run_commands.specs.Serial.{EachIsSerial, EachRunIsSerial};
 
 use crate::commands::{run_audit, run_bench, run_check, run_gen, run_once};
+use crate::stores::{run_batches, run_init, run_replay};
 use crate::tasks::{Task, read_task};
 use answer_text::{Refused, refused_line};
 use aria_base::{Memory, Pace, Sink, Source};
 use disk_model::Disk;
-use run_commands::{each_is_serial, one_output};
-use script_course::{DONE, NO_MEMORY, READ_FAULT, USAGE, WRITE_FAULT};
+use run_commands::{each_is_serial, each_run_is_serial, one_output};
+use script_course::{DISK_FAULT, DONE, NO_MEMORY, READ_FAULT, STORE_REFUSED, USAGE, WRITE_FAULT};
 use std::alloc::Global;
 use std::thread::Threads;
 
 /// Runs the command that the words are, without the program's name, from the input's bytes to the output's,
-/// and answers its status. Commands that the program does not have yet are refused as words that are none;
-/// those that it has need no disk, and leave it alone. No answer depends on the pace, the workers and the
-/// replicas.
+/// and answers its status. Commands that the program does not have yet are refused as words that are none.
+/// Those on a store have it on the disk, and all others leave the disk alone. No answer depends on the pace,
+/// the workers and the replicas.
 pub fn aria<S: Source, K: Sink, D: Disk, P: Pace + Sync, R: Threads + Sync>(
     rt: &R,
     alloc: Global,
@@ -35,33 +38,42 @@ pub fn aria<S: Source, K: Sink, D: Disk, P: Pace + Sync, R: Threads + Sync>(
     disk: &mut D,
     pace: &P,
 ) -> u8
-    // Where the answer is 0, 1, 2 or 8, it is the defined one, and all of the output is written; else a
+    // Where the answer is 0, 1, 2, 6 or 8, it is the defined one, and all of the output is written; else a
     // front of it.
-    ensures answered { IsAnswered result → IfSome (out_for (map string_bytes words.now) (S.left input.old))
+    ensures answered { (images : ℕ → List ℕ) (found : Reopened) → Sees (task_in (map string_bytes words.now)) (D.history disk.old) images found → IsAnswered result → IfSome (out_for (map string_bytes words.now) (S.left input.old) images found)
         (λ o. (result ≡ o.status) × Appends (K.given out.old) (K.given out.new) o.bytes) }
-    ensures front { IfSome (out_for (map string_bytes words.now) (S.left input.old))
+    ensures front { (images : ℕ → List ℕ) (found : Reopened) → Sees (task_in (map string_bytes words.now)) (D.history disk.old) images found → IfSome (out_for (map string_bytes words.now) (S.left input.old) images found)
         (λ o. AppendsFront (K.given out.old) (K.given out.new) o.bytes) }
 
-    // Nothing but the source, the sink and memory is in the way.
-    ensures others { IsAnswered result ⊎ (result ≡ READ_FAULT) ⊎ (result ≡ WRITE_FAULT) ⊎ (result ≡ NO_MEMORY) }
+    // Nothing but the source, the sink, the disk and memory is in the way.
+    ensures others { IsAnswered result ⊎ (result ≡ READ_FAULT) ⊎ (result ≡ WRITE_FAULT) ⊎ (result ≡ DISK_FAULT) ⊎ (result ≡ NO_MEMORY) }
     ensures read { result ≡ READ_FAULT → Rose (S.faults input.old) (S.faults input.new) }
     ensures write { result ≡ WRITE_FAULT → Rose (K.faults out.old) (K.faults out.new) }
+    ensures device { result ≡ DISK_FAULT → Rose (D.history disk.old).faults (D.history disk.new).faults }
 
     // The input was read to its end; or the source failed, and what was written is all that the bytes
     // taken so far tell, of which no line was refused; or it is not read, and was not touched.
     ensures end { IsEnded result → reads (task_in (map string_bytes words.now)) ≡ true → IsAtEnd (S.left input.new) }
-    ensures told { result ≡ READ_FAULT → IsToldFor (task_in (map string_bytes words.now)) (S.left input.old) (S.left input.new) (K.given out.old) (K.given out.new) }
+    ensures told { (images : ℕ → List ℕ) (found : Reopened) → Sees (task_in (map string_bytes words.now)) (D.history disk.old) images found → result ≡ READ_FAULT → IsToldFor (task_in (map string_bytes words.now)) images found (S.left input.old) (S.left input.new) (K.given out.old) (K.given out.new) }
     ensures untouched { reads (task_in (map string_bytes words.now)) ≡ false → input.new ≡ input.old }
     ensures usage { result ≡ USAGE → task_in (map string_bytes words.now) ≡ None }
-    ensures disk { disk.new ≡ disk.old }
+
+    // Without a store that can be opened, nothing is read for a command that needs one.
+    ensures unread { result ≡ STORE_REFUSED → opens (task_in (map string_bytes words.now)) ≡ true → input.new ≡ input.old }
+
+    // What a stop at any moment and a stop now leave of the disk.
+    ensures disk { uses_disk (task_in (map string_bytes words.now)) ≡ false → disk.new ≡ disk.old }
+    ensures leaves { (images : ℕ → List ℕ) (found : Reopened) → Sees (task_in (map string_bytes words.now)) (D.history disk.old) images found → LeavesDisk (task_in (map string_bytes words.now)) images found (S.left input.old) (D.history disk.old) (D.history disk.new) (K.given out.old) (K.given out.new) result }
 
     // Each batch of a script, and each that drains it, is serialised by the order that its answer prints.
     ensures serial { (settings : Once) (text : List ℕ) → EachIsSerial settings text }
+    ensures stored { EachRunIsSerial }
 
     // Workers, replicas and batons have no say in what is printed.
     ensures alike { (first second : Once) (text : List ℕ) → IsAlike first second → AreOne first second text }
 {
     each_is_serial();
+    each_run_is_serial();
     one_output();
     match read_task(alloc, words) {
         Ok(Some(task)) => return run_task(rt, alloc, &task, input, out, disk, pace),
@@ -81,20 +93,26 @@ fn run_task<S: Source, K: Sink, D: Disk, P: Pace + Sync, R: Threads + Sync>(
     pace: &P,
 ) -> u8
     requires { IsInRange task.now }
-    ensures answered { IsAnswered result → IfSome (out_of_task task.now (S.left input.old))
+    ensures answered { (images : ℕ → List ℕ) (found : Reopened) → Sees (Some task.now) (D.history disk.old) images found → IsAnswered result → IfSome (out_of_task task.now (S.left input.old) images found)
         (λ o. (result ≡ o.status) × Appends (K.given out.old) (K.given out.new) o.bytes) }
-    ensures front { IfSome (out_of_task task.now (S.left input.old)) (λ o. AppendsFront (K.given out.old) (K.given out.new) o.bytes) }
-    ensures others { IsAnswered result ⊎ (result ≡ READ_FAULT) ⊎ (result ≡ WRITE_FAULT) ⊎ (result ≡ NO_MEMORY) }
+    ensures front { (images : ℕ → List ℕ) (found : Reopened) → Sees (Some task.now) (D.history disk.old) images found → IfSome (out_of_task task.now (S.left input.old) images found) (λ o. AppendsFront (K.given out.old) (K.given out.new) o.bytes) }
+    ensures others { IsAnswered result ⊎ (result ≡ READ_FAULT) ⊎ (result ≡ WRITE_FAULT) ⊎ (result ≡ DISK_FAULT) ⊎ (result ≡ NO_MEMORY) }
     ensures usage { result ≡ USAGE → ⊥ }
     ensures read { result ≡ READ_FAULT → Rose (S.faults input.old) (S.faults input.new) }
     ensures write { result ≡ WRITE_FAULT → Rose (K.faults out.old) (K.faults out.new) }
+    ensures device { result ≡ DISK_FAULT → Rose (D.history disk.old).faults (D.history disk.new).faults }
     ensures end { IsEnded result → reads (Some task.now) ≡ true → IsAtEnd (S.left input.new) }
-    ensures told { result ≡ READ_FAULT → IsToldFor (Some task.now) (S.left input.old) (S.left input.new) (K.given out.old) (K.given out.new) }
+    ensures told { (images : ℕ → List ℕ) (found : Reopened) → Sees (Some task.now) (D.history disk.old) images found → result ≡ READ_FAULT → IsToldFor (Some task.now) images found (S.left input.old) (S.left input.new) (K.given out.old) (K.given out.new) }
     ensures untouched { reads (Some task.now) ≡ false → input.new ≡ input.old }
-    ensures disk { disk.new ≡ disk.old }
+    ensures unread { result ≡ STORE_REFUSED → opens (Some task.now) ≡ true → input.new ≡ input.old }
+    ensures disk { uses_disk (Some task.now) ≡ false → disk.new ≡ disk.old }
+    ensures leaves { (images : ℕ → List ℕ) (found : Reopened) → Sees (Some task.now) (D.history disk.old) images found → LeavesDisk (Some task.now) images found (S.left input.old) (D.history disk.old) (D.history disk.new) (K.given out.old) (K.given out.new) result }
 {
     match task {
         Task::Once(settings) => return run_once(rt, alloc, settings, input, out, disk, pace),
+        Task::Init(settings) => return run_init(alloc, settings, input, out, disk),
+        Task::Run(settings) => return run_batches(rt, alloc, settings, input, out, disk, pace),
+        Task::Replay(settings) => return run_replay(rt, alloc, settings, out, disk, pace),
         Task::Gen(settings) => return run_gen(alloc, settings, out),
         Task::Bench(settings) => return run_bench(rt, alloc, settings, out, pace),
         Task::Audit => return run_audit(alloc, input, out),

@@ -115,6 +115,7 @@ pub fn scan<D: Disk>(
     requires { file < 4 }
     ensures log { IfOk result (λ found. IfSome (current (D.history disk.old) file) (λ f. log_of f.seen ≡ Ends found.0.items found.1.at)) }
     ensures end { IfOk result (λ found. (found.1.file ≡ file) × (found.1.batches ≡ length found.0.items)) }
+    ensures empty { IfOk result (λ found. found.1.batches ≡ 0 → found.1.at ≡ 0) }
     ensures still { Still (D.history disk.old) (D.history disk.new) }
 
     // Where what a read gives is the only image, records can be added at the end.

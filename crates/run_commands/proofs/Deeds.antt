@@ -14,11 +14,13 @@ use Rattle.batch_rules.specs.declared.verdicts.Rule.{Rule}
 use Rattle.dep_rules.specs.declared.configs.Config.{Config}
 use Rattle.proc_lang.specs.Catalogs.{Plan, takes, run_of}
 use Rattle.script_places.specs.Follows.{IsReadyWith}
+use Rattle.script_places.specs.Places.{start_with}
+use Rattle.script_places.specs.declared.places.Mode.TheVariants as mode
 use Rattle.script_places.specs.declared.heads.Head.{Head}
 use Rattle.script_places.specs.declared.heads.Head.TheVariants as head
 use Rattle.script_places.specs.declared.places.Place.{Place}
 use Rattle.script_text.specs.declared.fits.TheConstants.{MOST_PERCENT}
-use Rattle.serving.specs.Lives.{IsNext, MayServe, batch_text, first_state, handed_at, next_handed, next_state, next_text, plan_of, state_of}
+use Rattle.serving.specs.Lives.{IsNext, IsRunnable, MayServe, batch_text, first_state, handed_at, next_handed, next_state, next_text, plan_of, state_of}
 use Rattle.serving.specs.declared.lives.Live.{Live}
 use Rattle.run_commands.specs.Bases.{IsBegun, IsBounded, IsHead, IsListed, IsUnder, plan_in, put_in, set_in, settings_with, state_in}
 use Rattle.run_commands.specs.Onces.{behind_batch, text_of}
@@ -233,3 +235,22 @@ module _ (place : Place) (work : Work) (before : Live) (begun : IsBegun place.he
   behind_is next after is none b each =
       let state_after : state_in next.base ≡ step (run_of (plan_in place.head)) state (handed_at state calls) = ap state_in b ∙ is.state ∙ state_is in
       λ i. record { place = place; calls = none i; state = state_after i; each = each i }
+
+-- ---- over a database that runs
+
+pub resume_stands : (plan : Plan) (work : Work) (live : Live) → plan ≡ plan_of live → work.calls.items ≡ [] → work.base ≡ base.Runs live → work.each ≡ live.each → IsRunnable live
+    → (1 ≤ work.replicas) × (work.replicas ≤ 8) → Stands (start_with mode.Run plan) work
+resume_stands plan work live of none b each runnable engines =
+    let place = start_with mode.Run plan in
+    record {
+      holds = record {
+        mode_kept = refl;
+        of_head = subst (λ (l : List Call). IsOf place.head l work.base) (sym none) (subst (λ (x : Base). IsOf place.head [] x) (sym b) (All-nil (λ (call : Call). takes plan call ≡ true), sym of));
+        ended = subst (λ (x : Base). HasEnded place.rows_ended x) (sym b) refl;
+        bounded = subst IsBounded (sym b) runnable;
+        listed = subst (λ (x : Base). IsListed work.each x) (sym b) (sym each);
+        engines = engines;
+      };
+      counted = ap length (sym none);
+      few = rw none (omega arith);
+    }

@@ -76,7 +76,7 @@ some_or_none xs ys (z ∷ rest) h = inl (λ e. longer_not xs z rest (sym h ∙ s
 -- ---- steps
 
 module _ {R X : Type 0} (on : R → X → Course R) (held_by : State → R → R → State) where
-  here_in : (steps : List X) (r : R) (held t : State) (given : List ℕ) → IsHere held [] t given → Passes on held_by steps r held t given
+  pub here_in : (steps : List X) (r : R) (held t : State) (given : List ℕ) → IsHere held [] t given → Passes on held_by steps r held t given
   here_in [] r held t given h = h
   here_in (x ∷ steps) r held t given h = inl h
 

@@ -1,5 +1,5 @@
 -- A line of a script, as its store sees it.
-use Rattle.std.proofs.Common.{◌≡◌, ◌≢◌, ◌⊎◌, inl, inr, ◌∙◌, sym, ap, subst, refl, ℕ, ◌+◌, ◌≤◌, ◌==◌, Bool, true, false, List, [], ◌∷◌, length, Option, Some, None, IfSome, arith}
+use Rattle.std.proofs.Common.{◌≡◌, ◌≢◌, inl, inr, ◌∙◌, sym, ap, subst, refl, ℕ, ◌+◌, ◌≤◌, ◌==◌, Bool, true, false, List, [], ◌∷◌, length, Option, Some, None, IfSome, arith}
 use Rattle.std.specs.Prelude.{if◌then◌else◌}
 use Rattle.std.specs.Io.KnownBytes.{Appends}
 use Rattle.std.proofs.lemmas.List.Elements.{All-nil}
@@ -108,7 +108,7 @@ module _ (place : Place) (work : Work) (live : Live) (begun : IsBegun place.head
         (subst (λ (p : Plan). IfSome (store_in work.base) (λ _. HasLines p Calls)) (sym begun.plan) o.lines);
   }
 
-  held_is : stored_state live ≡ Held
+  pub held_is : stored_state live ≡ Held
   held_is = ap (λ (s : State). told_by live.store s) begun.state ∙ ap (λ (k : Option Kept). told_by k (state_in work.base)) begun.store
 
   pub begun_holds : (disk : History) (c : Checkpoint) (later : List Batch) → Holds disk (plan_in place.head) Held (store_in work.base) c later → Holds disk (plan_of live) (stored_state live) live.store c later

@@ -1,7 +1,6 @@
 -- What a line asks for, at a script that has a store: what stays open, and what is kept.
 use Rattle.std.proofs.Common.{◌≡◌, ◌∙◌, sym, ap, subst, refl, ℕ, ◌≤◌, ◌==◌, Bool, true, false, List, [], ◌∷◌, ◌++◌, length, Option, Some, None, IfSome, arith}
 use Rattle.std.specs.Prelude.{if◌then◌else◌, Result, Ok, Err, IfOk, IfErr}
-use Rattle.std.specs.List.{All}
 use Rattle.std.proofs.lemmas.List.Elements.{All-nil, All-append, All-cons}
 use Rattle.aria_base.specs.declared.calls.Call.{Call}
 use Rattle.aria_store.specs.Stands.{Kept}
@@ -53,7 +52,7 @@ abbrev count_in : Course Doing → ℕ
 count_in (Goes bytes d) = d.state.batches
 count_in (Stops bytes) = 0
 
-quiet_count : (d : Doing) (asks : Deed) → runs_batch asks ≡ false → (bytes : List ℕ) (next : Doing) → done d asks ≡ Goes bytes next → next.state.batches ≡ d.state.batches
+pub quiet_count : (d : Doing) (asks : Deed) → runs_batch asks ≡ false → (bytes : List ℕ) (next : Doing) → done d asks ≡ Goes bytes next → next.state.batches ≡ d.state.batches
 quiet_count d deed.Run q bytes next e = absurd cc
 quiet_count d deed.Nothing q bytes next e = sym (ap count_in e)
 quiet_count d deed.Tell q bytes next e = sym (ap count_in e)
@@ -62,11 +61,11 @@ quiet_count d (deed.Call call) q bytes next e = sym (ap count_in e)
 quiet_count d (deed.Set rule percent) q bytes next e = sym (ap count_in e)
 quiet_count d (deed.Keep number) q bytes next e = sym (ap count_in e)
 
-when_true : (b : Bool) (x y : State) → b ≡ true → (if b then x else y) ≡ x
+pub when_true : (b : Bool) (x y : State) → b ≡ true → (if b then x else y) ≡ x
 when_true true x y e = refl
 when_true false x y e = absurd cc
 
-same_count : (n m : ℕ) → n ≡ m → (n == m) ≡ true
+pub same_count : (n m : ℕ) → n ≡ m → (n == m) ≡ true
 same_count n m e = grind (arith, e)
 
 pub quiet_keeps : (plan : Plan) (line : List ℕ) (before d : Doing) (held : State) (asks : Deed) → runs_batch asks ≡ false → before.state ≡ d.state → on_line before line ≡ done d asks
@@ -87,17 +86,17 @@ one_line_more plan calls call (Some store) lines short =
     let P : Call → Type 0 = λ c. length (line_of_call plan c) ≤ 4096 in
     All-append P calls (call ∷ []) lines (All-cons P call [] short (All-nil P))
 
-module _ (disk : History) (d : Doing) (store : Option Kept) (o : IsOpen disk (record { doing = d; store = store })) (ga gb : Option (List ℕ)) where
-  open_as : (e : Doing) (next : Running) → next.doing ≡ e → next.store ≡ store → IsOpen disk (record { doing = e; store = store }) → IsOpen disk next
+module _ (disk : History) (d : Doing) (store : Option Kept) (checkpoint : ℕ) (o : IsOpen disk (record { doing = d; store = store; checkpoint = checkpoint })) (ga gb : Option (List ℕ)) where
+  open_as : (e : Doing) (next : Running) → next.doing ≡ e → next.store ≡ store → IsOpen disk (record { doing = e; store = store; checkpoint = next.checkpoint }) → IsOpen disk next
   open_as e next same kept h =
-      let path : next ≡ record { doing = e; store = store } = λ i. record { doing = same i; store = kept i } in
+      let path : next ≡ record { doing = e; store = store; checkpoint = next.checkpoint } = λ i. record { doing = same i; store = kept i; checkpoint = next.checkpoint } in
       subst (λ (s : Running). IsOpen disk s) (sym path) h
 
   pub quiet_open : (asks : Deed) → runs_batch asks ≡ false → IfSome store (λ _. IsShort (plan_in d.place.head) asks) → (next : Running) → next.store ≡ store
       → Serves (done d asks) ga gb (Ok next.doing) → IsOpen disk next
   quiet_open deed.Run q short next kept h = absurd cc
-  quiet_open deed.Nothing q short next kept h = open_as d next h.0 kept o
-  quiet_open deed.Tell q short next kept h = open_as d next h.0 kept o
+  quiet_open deed.Nothing q short next kept h = open_as d next h.0 kept (record { logging = o.logging; lines = o.lines })
+  quiet_open deed.Tell q short next kept h = open_as d next h.0 kept (record { logging = o.logging; lines = o.lines })
   quiet_open (deed.Put key row) q short next kept h = open_as _ next h.0 kept (record { logging = o.logging; lines = o.lines })
   quiet_open (deed.Call call) q short next kept h =
       open_as _ next h.0 kept (record { logging = o.logging; lines = one_line_more (plan_in d.place.head) d.calls call store o.lines short })
@@ -118,7 +117,7 @@ cause_more stop.NoWrite sink disk h = h
 cause_more stop.NoDisk sink disk h = absurd h
 cause_more stop.NoRead sink disk h = h
 
-pub causes_more : (sink disk : Type 0) (result : Result Running Stop) → IfErr result (λ s. IsCause s sink ⊥) → IfErr result (λ s. IsCause s sink disk)
+pub causes_more : {R : Type 0} (sink disk : Type 0) (result : Result R Stop) → IfErr result (λ s. IsCause s sink ⊥) → IfErr result (λ s. IsCause s sink disk)
 causes_more sink disk (Ok next) h = tt
 causes_more sink disk (Err s) h = cause_more s sink disk h
 

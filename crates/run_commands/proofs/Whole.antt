@@ -1,28 +1,131 @@
 -- A script as a whole: what was read of it, and its end.
-use Rattle.std.proofs.Common.{◌≡◌, ◌≢◌, subst, ℕ, List, Option}
-use Rattle.std.specs.Prelude.{Result, Ok, Err}
-use Rattle.command_words.specs.declared.settings.Once.{Once}
-use Rattle.script_course.proofs.Ends.{completes_on, completes_cut}
-use Rattle.script_course.specs.Courses.{told, told_whole}
-use Rattle.script_course.specs.Served.{Comes, Completes, Finishes}
+use Rattle.std.proofs.Common.{◌≡◌, ◌⊎◌, inl, inr, ◌∙◌, sym, ap, subst, refl, ℕ, Bool, List, ◌++◌, Option, Some, None}
+use Rattle.std.specs.Prelude.{Result, Ok, Err, IfSome}
+use Rattle.std.specs.Io.KnownBytes.{Appends}
+use Rattle.batch_core.specs.Steps.{State}
+use Rattle.disk_model.specs.Histories.{History}
+use Rattle.proc_lang.specs.Catalogs.{Plan}
+use Rattle.script_course.specs.Courses.{Course, Goes, Stops, behind, told_whole, with_last}
+use Rattle.script_course.specs.Served.{IsGoing, IsStopped, Reaches}
+use Rattle.script_course.specs.declared.statuses.TheConstants.{DONE}
 use Rattle.script_course.specs.declared.stops.Stop.{Stop}
 use Rattle.script_course.specs.declared.stops.Stop.TheVariants as stop
-use Rattle.run_commands.specs.Onces.{Doing, on_end, on_line}
-use Rattle.run_commands.specs.Outs.{no_line, out_of, start_of, told_of}
+use Rattle.script_text.specs.Lines.{last_line, scan}
+use Rattle.run_commands.specs.Bases.{plan_in}
+use Rattle.run_commands.specs.Keeps.{Keeps, LeavesLaid, held_of}
+use Rattle.run_commands.specs.Onces.{Doing, Running, on_line}
+use Rattle.run_commands.specs.Outs.{no_line, text_turns}
+use Rattle.run_commands.specs.Passes.{PassesTurns, Turn, ending_behind, ending_of, held_behind, held_then, last, on_turn, turns, turns_whole}
+use Rattle.run_commands.specs.Turns.{HoldsScript, KeepsTurns}
+use Rattle.run_commands.proofs.Overs.{keeps_append, keeps_front, onward, over}
+use Rattle.run_commands.proofs.Turns.{held_goes, held_stops, onward_none, over_append, scan_over}
 
-module _ (settings : Once) (start : Doing) (is : start ≡ start_of settings) (left rest old : Option (List ℕ)) where
-  abbrev Read : Doing → Option (List ℕ) → Result Doing Stop → Type 0
-  Read from new result = Comes (told on_line no_line from) (told_whole on_line no_line from) left rest old new result
+-- ---- a text as turns
 
-  from_start : (new : Option (List ℕ)) (result : Result Doing Stop) → Read start new result → Read (start_of settings) new result
-  from_start new result h = subst (λ (d : Doing). Read d new result) is h
+last_over : (c : Course Doing) (o : Option (List ℕ)) → with_last on_line c o ≡ onward (over on_turn (last o)) c
+last_over c None = sym (onward_none on_turn c)
+last_over (Goes bytes d) (Some line) = ap (behind bytes) (sym (onward_none on_turn (on_line d line)))
+last_over (Stops bytes) (Some line) = refl
 
-  pub whole_on : (mid new : Option (List ℕ)) (last : Doing) (result : Result ℕ Stop) → Read start mid (Ok last) → result ≢ Err stop.NoRead → Finishes (on_end settings.drain last) mid new result
-      → Completes (told_of settings) (out_of settings) left rest old new result
-  whole_on mid new last result h read ends =
-      completes_on (on_end settings.drain) (told on_line no_line (start_of settings)) (told_whole on_line no_line (start_of settings)) left rest old mid new last result
-      (from_start mid (Ok last) h) read ends
+pub whole_over : (d : Doing) (text : List ℕ) → told_whole on_line no_line d text ≡ over on_turn (turns_whole (scan no_line text)) d
+whole_over d text =
+    let s = scan no_line text in
+    ap (λ (c : Course Doing). with_last on_line c (last_line s.feed)) (scan_over s d)
+    ∙ last_over (over on_turn (turns s) d) (last_line s.feed)
+    ∙ sym (over_append on_turn (turns s) (last (last_line s.feed)) d)
 
-  pub whole_cut : (new : Option (List ℕ)) (why : Stop) → Read start new (Err why) → Completes (told_of settings) (out_of settings) left rest old new (Err why)
-  whole_cut new why h =
-      completes_cut (on_end settings.drain) (told on_line no_line (start_of settings)) (told_whole on_line no_line (start_of settings)) left rest old new why (from_start new (Err why) h)
+went : (c : Course Doing) (d : Doing) (ga gb : Option (List ℕ)) → IsGoing d c ga gb → (bytes : List ℕ) × (c ≡ Goes bytes d) × Appends ga gb bytes
+went (Goes bytes s) d ga gb h = (bytes, ap (λ (x : Doing). Goes bytes x) (sym h.0), h.1)
+went (Stops bytes) d ga gb h = absurd h
+
+was_stopped : (c : Course Doing) (ga gb : Option (List ℕ)) → IsStopped c ga gb → (bytes : List ℕ) × (c ≡ Stops bytes)
+was_stopped (Goes bytes d) ga gb h = absurd h
+was_stopped (Stops bytes) ga gb h = (bytes, refl)
+
+-- ---- over a store
+
+module _ (drain : Bool) (first : ℕ) (start : Running) (a b : History) (ga gb : Option (List ℕ)) where
+  abbrev Plan0 : Plan
+  Plan0 = plan_in start.doing.place.head
+
+  abbrev Steps : List ℕ → List Turn
+  Steps text = turns_whole (scan no_line text)
+
+  abbrev Told : List ℕ → Course Doing
+  Told text = told_whole on_line no_line start.doing text
+
+  -- the text was read to its end
+  module _ (next : Running) (c : History) (gc : Option (List ℕ)) (text : List ℕ) (reaches : Reaches (Told text) ga gb (Ok next.doing))
+      (k : KeepsTurns first (Steps text) start a b ga gb (Ok next)) where
+    went_on : (bytes : List ℕ) × (Told text ≡ Goes bytes next.doing) × Appends ga gb bytes
+    went_on = went (Told text) next.doing ga gb reaches
+
+    turns_are : text_turns drain start.doing text ≡ Steps text ++ ending_of drain next.doing
+    turns_are = ap (λ (t : Course Doing). Steps text ++ ending_behind drain t) went_on.1
+
+    over_is : over on_turn (Steps text) start.doing ≡ Goes went_on.0 next.doing
+    over_is = sym (whole_over start.doing text) ∙ went_on.1
+
+    text_keeps : (HoldsScript first b next → Keeps (PassesTurns (ending_of drain next.doing) next.doing (held_of next)) (plan_in next.doing.place.head) b c gb gc)
+        → Keeps (PassesTurns (text_turns drain start.doing text) start.doing (held_of start)) Plan0 a c ga gc
+    text_keeps ends =
+        let rest = subst (λ (p : Plan). Keeps (PassesTurns (ending_of drain next.doing) next.doing (held_of next)) p b c gb gc) k.stays.plan (ends k.stays.holds) in
+        let behind_it = subst (λ (s : State). Keeps (PassesTurns (ending_of drain next.doing) next.doing s) Plan0 b c gb gc) k.held rest in
+        subst (λ (t : List Turn). Keeps (PassesTurns t start.doing (held_of start)) Plan0 a c ga gc) (sym turns_are)
+        (keeps_append on_turn held_then Plan0 (Steps text) (ending_of drain next.doing) start.doing (held_of start) next.doing went_on.0 a b c ga gb gc over_is went_on.2 k.keeps behind_it)
+
+    text_laid : (HoldsScript first b next → LeavesLaid first next.checkpoint c (plan_in next.doing.place.head) (held_behind (ending_of drain next.doing) next.doing (held_of next)))
+        → LeavesLaid first start.checkpoint c Plan0 (held_behind (text_turns drain start.doing text) start.doing (held_of start))
+    text_laid ends =
+        let told_so = ends k.stays.holds in
+        let under = subst (λ (p : Plan). LeavesLaid first next.checkpoint c p (held_behind (ending_of drain next.doing) next.doing (held_of next))) k.stays.plan told_so in
+        let each_so = subst (λ (n : ℕ). LeavesLaid first n c Plan0 (held_behind (ending_of drain next.doing) next.doing (held_of next))) k.stays.checkpoint under in
+        let behind_it = subst (λ (s : State). LeavesLaid first start.checkpoint c Plan0 (held_behind (ending_of drain next.doing) next.doing s)) k.held each_so in
+        let same = held_goes on_turn held_then (Steps text) (ending_of drain next.doing) start.doing (held_of start) went_on.0 next.doing over_is in
+        subst (λ (t : List Turn). LeavesLaid first start.checkpoint c Plan0 (held_behind t start.doing (held_of start))) (sym turns_are)
+        (subst (λ (s : State). LeavesLaid first start.checkpoint c Plan0 s) (sym same) behind_it)
+
+  pub keeps_on_end : (left : Option (List ℕ)) (next : Running) (c : History) (gc : Option (List ℕ)) → IfSome left (λ text. Reaches (Told text) ga gb (Ok next.doing))
+      → IfSome left (λ text. KeepsTurns first (Steps text) start a b ga gb (Ok next))
+      → (HoldsScript first b next → Keeps (PassesTurns (ending_of drain next.doing) next.doing (held_of next)) (plan_in next.doing.place.head) b c gb gc)
+      → IfSome left (λ text. Keeps (PassesTurns (text_turns drain start.doing text) start.doing (held_of start)) Plan0 a c ga gc)
+  keeps_on_end None next c gc reaches k ends = tt
+  keeps_on_end (Some text) next c gc reaches k ends = text_keeps next c gc text reaches k ends
+
+  pub laid_on_end : (left : Option (List ℕ)) (next : Running) (c : History) (gc : Option (List ℕ)) → IfSome left (λ text. Reaches (Told text) ga gb (Ok next.doing))
+      → IfSome left (λ text. KeepsTurns first (Steps text) start a b ga gb (Ok next))
+      → (HoldsScript first b next → LeavesLaid first next.checkpoint c (plan_in next.doing.place.head) (held_behind (ending_of drain next.doing) next.doing (held_of next)))
+      → IfSome left (λ text. LeavesLaid first start.checkpoint c Plan0 (held_behind (text_turns drain start.doing text) start.doing (held_of start)))
+  laid_on_end None next c gc reaches k ends = tt
+  laid_on_end (Some text) next c gc reaches k ends = text_laid next c gc text reaches k ends
+
+  -- it was cut off
+  pub keeps_on_cut : (left : Option (List ℕ)) (why : Stop) → IfSome left (λ text. KeepsTurns first (Steps text) start a b ga gb (Err why))
+      → IfSome left (λ text. Keeps (PassesTurns (text_turns drain start.doing text) start.doing (held_of start)) Plan0 a b ga gb)
+  keeps_on_cut None why k = tt
+  keeps_on_cut (Some text) why k = keeps_front on_turn held_then Plan0 (Steps text) (ending_behind drain (Told text)) start.doing (held_of start) a b ga gb k.keeps
+
+  laid_cut : (why : Stop) (text : List ℕ) → why ≡ stop.Refused → Reaches (Told text) ga gb (Err why) → KeepsTurns first (Steps text) start a b ga gb (Err why)
+      → LeavesLaid first start.checkpoint b Plan0 (held_behind (text_turns drain start.doing text) start.doing (held_of start))
+  laid_cut why text is reaches k =
+      let stopped = was_stopped (Told text) ga gb (subst (λ (s : Stop). Reaches (Told text) ga gb (Err s)) is reaches) in
+      let same = held_stops on_turn held_then (Steps text) (ending_behind drain (Told text)) start.doing (held_of start) stopped.0 (sym (whole_over start.doing text) ∙ stopped.1) in
+      subst (λ (s : State). LeavesLaid first start.checkpoint b Plan0 s) (sym same) (k.refused (ap (λ (s : Stop). Err s) is))
+
+  pub laid_on_cut : (left : Option (List ℕ)) (why : Stop) → why ≡ stop.Refused → IfSome left (λ text. Reaches (Told text) ga gb (Err why))
+      → IfSome left (λ text. KeepsTurns first (Steps text) start a b ga gb (Err why))
+      → IfSome left (λ text. LeavesLaid first start.checkpoint b Plan0 (held_behind (text_turns drain start.doing text) start.doing (held_of start)))
+  laid_on_cut None why is reaches k = tt
+  laid_on_cut (Some text) why is reaches k = laid_cut why text is reaches k
+
+-- a command that was refused or came to its end
+abbrev stop_in : Result ℕ Stop → Stop
+stop_in (Ok status) = stop.NoMemory
+stop_in (Err why) = why
+
+abbrev HasEnded : Result ℕ Stop → Type 0
+HasEnded result = (result ≡ Ok DONE) ⊎ (result ≡ Err stop.Refused)
+
+pub cut_refused : (why : Stop) → HasEnded (Err why) → why ≡ stop.Refused
+cut_refused why (inl e) = absurd cc
+cut_refused why (inr e) = ap stop_in e

@@ -27,6 +27,11 @@ abbrev pub store_in : Base → Option Kept
 store_in (base.Rows tables config) = None
 store_in (base.Runs live) = live.store
 
+-- behind how many batches each it lays a checkpoint
+abbrev pub checkpoint_in : Base → ℕ
+checkpoint_in (base.Rows tables config) = 0
+checkpoint_in (base.Runs live) = live.checkpoint
+
 -- what decides about the end of a batch
 abbrev pub counts_of : State → Counts
 counts_of state = record { batches = state.batches; requests = state.requests; waiting = length state.waiting }
@@ -97,4 +102,5 @@ pub record IsBegun (h : Head) (b : Base) (each : Bool) (live : Live) : Type 0 wh
   pub state : state_of live ≡ state_in b
   pub listed : live.each ≡ each
   pub store : live.store ≡ store_in b
+  pub checkpoint : live.checkpoint ≡ checkpoint_in b
   pub runnable : IsRunnable live

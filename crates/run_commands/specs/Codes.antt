@@ -1,6 +1,6 @@
 -- How a script is kept as a ghost value.
-use Rattle.std.specs.Prelude.{Bool, List, Option, refl}
-use Rattle.std.specs.Coded.{Coded, code_by, coded×, coded_list, coded_bool, coded_option}
+use Rattle.std.specs.Prelude.{ℕ, Bool, List, Option, refl}
+use Rattle.std.specs.Coded.{Coded, code_by, coded×, coded_list, coded_bool, coded_option, coded_ℕ}
 use Rattle.aria_base.specs.contracts.calls.Call as call
 use Rattle.aria_base.specs.declared.calls.Call.{Call}
 use Rattle.aria_store.specs.Stands.{Kept}
@@ -19,5 +19,5 @@ doing_code = code_by ((Place × List Call) × (State × Bool))
     (λ _. refl)
 
 abbrev pub running_code : Coded Running
-running_code = code_by (Doing × Option Kept) (coded× doing_code (coded_option (store.the_row).coded))
-    (λ s. (s.doing, s.store)) (λ p. record { doing = p.0; store = p.1 }) (λ _. refl)
+running_code = code_by (Doing × (Option Kept × ℕ)) (coded× doing_code (coded× (coded_option (store.the_row).coded) coded_ℕ))
+    (λ s. (s.doing, (s.store, s.checkpoint))) (λ p. record { doing = p.0; store = p.1.0; checkpoint = p.1.1 }) (λ _. refl)

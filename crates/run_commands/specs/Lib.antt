@@ -1,9 +1,12 @@
 pub mod Bases
 pub mod Codes
+pub mod Endings
 pub mod Keeps
 pub mod Onces
 pub mod Outs
 pub mod Passes
+pub mod Resumes
 pub mod Serial
 pub mod Standing
 pub mod Stops
+pub mod Turns

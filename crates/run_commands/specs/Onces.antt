@@ -32,10 +32,11 @@ pub record Doing : Type 0 where
   pub state : State
   pub each : Bool
 
--- with its store; what is printed does not depend on that
+-- with its store, and behind how many batches each a checkpoint is laid; what is printed depends on neither
 pub record Running : Type 0 where
   pub doing : Doing
   pub store : Option Kept
+  pub checkpoint : ℕ
 
 -- a result by what is printed from then on
 abbrev pub doing_result : Result Running Stop → Result Doing Stop

@@ -1,15 +1,16 @@
 -- The output of `once`.
-use Rattle.std.specs.Prelude.{◌≡◌, ◌≤◌, ℕ, Bool, true, false, List, []}
+use Rattle.std.specs.Prelude.{◌≡◌, ◌≤◌, ℕ, Bool, true, false, List, [], ◌++◌}
 use Rattle.std.specs.FinMap as fin
 use Rattle.batch_rules.specs.declared.verdicts.Rule.{Rule}
 use Rattle.command_words.specs.declared.settings.Listing.{Listing}
 use Rattle.command_words.specs.declared.settings.Listing.TheVariants.{Each, Last}
 use Rattle.command_words.specs.declared.settings.Once.{Once}
-use Rattle.script_course.specs.Courses.{Course, Out, told, whole}
+use Rattle.script_course.specs.Courses.{Course, Out, told, told_whole, whole}
 use Rattle.script_places.specs.Places.{start}
 use Rattle.script_places.specs.declared.places.Mode.TheVariants as mode
-use Rattle.script_text.specs.Lines.{Feed, blank}
+use Rattle.script_text.specs.Lines.{Feed, blank, scan}
 use Rattle.run_commands.specs.Onces.{Doing, on_line, on_end}
+use Rattle.run_commands.specs.Passes.{Turn, ending_behind, turns_whole}
 use Rattle.run_commands.specs.declared.loops.TheConstants.{MOST_BYTES, LONGEST_LINE}
 
 abbrev pub is_each : Listing → Bool
@@ -31,6 +32,10 @@ start_of settings = start_by settings.rule settings.fallback (is_each settings.l
 -- no byte was read
 abbrev pub no_line : Feed
 no_line = blank MOST_BYTES LONGEST_LINE
+
+-- what a text brings, and its end
+abbrev pub text_turns : Bool → Doing → List ℕ → List Turn
+text_turns drain d text = turns_whole (scan no_line text) ++ ending_behind drain (told_whole on_line no_line d text)
 
 -- what is told of a text as far as it goes, and all that is printed of a whole text. Neither depends on workers and replicas
 abbrev pub told_of : Once → List ℕ → Course Doing

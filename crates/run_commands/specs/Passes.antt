@@ -1,12 +1,19 @@
 -- Which states a store holds in turn while a script runs, and what was given at those times. No store and no disk come into it.
-use Rattle.std.specs.Prelude.{◌≡◌, ◌⊎◌, ◌==◌, ℕ, if◌then◌else◌, List, [], ◌∷◌, ◌++◌, take, map}
-use Rattle.std.specs.Prelude.{Option, Some, None}
+use Rattle.std.specs.Prelude.{◌≡◌, ◌⊎◌, ◌==◌, ℕ, Bool, if◌then◌else◌, List, [], ◌∷◌, ◌++◌, length, take, map, replicate}
+use Rattle.std.specs.Prelude.{Option, Some, None, Result, Ok, Err}
+use Rattle.answer_text.specs.Notices.{at_text}
 use Rattle.answer_text.specs.Refusals.{refusal_text}
 use Rattle.batch_core.specs.Steps.{State}
 use Rattle.script_course.specs.Courses.{Course, Goes, Stops}
 use Rattle.script_text.specs.Lines.{Scan, last_line}
+use Rattle.script_text.specs.declared.refusals.Kind8.{Kind8}
 use Rattle.script_text.specs.declared.refusals.Refusal.{Refusal}
-use Rattle.run_commands.specs.Onces.{Doing, on_line}
+use Rattle.script_places.specs.Places.{closing}
+use Rattle.script_places.specs.declared.places.Place.{Place}
+use Rattle.serving.specs.Lives.{listing}
+use Rattle.run_commands.specs.Bases.{plan_in}
+use Rattle.serving.specs.Drains.{one_drained}
+use Rattle.run_commands.specs.Onces.{Doing, on_line, refused_behind}
 
 -- ---- steps that print, one after the other
 
@@ -50,14 +57,40 @@ module _ {R X : Type 0} (on : R → X → Course R) (held_by : State → R → R
 abbrev pub held_then : State → Doing → Doing → State
 held_then held before after = if after.state.batches == before.state.batches then held else after.state
 
--- what a text brings: lines, and one that passes a bound
+-- What a script does in turn. `Line` is a line, and `Past` one that passes a bound; `Close` is the end of the input, `Drain` a batch
+-- without new calls where something waits, and `Listed` the listing behind all. `At` tells how many batches were run before, which is
+-- what a script over a store begins with.
 pub data Turn : Type 0 where
+  At : Turn
   Line : List ℕ → Turn
   Past : Refusal → Turn
+  Close : Turn
+  Drain : Turn
+  Listed : Turn
+
+-- the end of the input at a place
+abbrev pub on_close : Doing → Result Place Kind8 → Course Doing
+on_close d (Ok place) = Goes [] (record d { place = place })
+on_close d (Err kind) = Stops (refused_behind d.place kind)
+
+-- the state that a course leaves, as that of a script
+abbrev pub as_doing : Doing → Course State → Course Doing
+as_doing d (Goes bytes state) = Goes bytes (record d { state = state })
+as_doing d (Stops bytes) = Stops bytes
+
+-- behind the end of the input, whose line counts: its number is that of a drained batch that is refused
+abbrev pub on_drain : Doing → Course Doing
+on_drain d =
+    if length d.state.waiting == 0 then Goes [] d
+    else as_doing d (one_drained (plan_in d.place.head) d.each d.place.lines d.state)
 
 abbrev pub on_turn : Doing → Turn → Course Doing
+on_turn d At = Goes (at_text d.state.batches) d
 on_turn d (Line line) = on_line d line
 on_turn d (Past refusal) = Stops (refusal_text refusal)
+on_turn d Close = on_close d (closing d.place)
+on_turn d Drain = on_drain d
+on_turn d Listed = Goes (if d.each then [] else listing (plan_in d.place.head) d.state) d
 
 abbrev pub past : Option Refusal → List Turn
 past None = []
@@ -73,6 +106,19 @@ turns scan = map Line scan.lines ++ past scan.fault
 
 abbrev pub turns_whole : Scan → List Turn
 turns_whole scan = turns scan ++ last (last_line scan.feed)
+
+-- the end of the input, with so many drained batches
+abbrev pub ending : ℕ → List Turn
+ending n = Close ∷ (replicate n Drain ++ Listed ∷ [])
+
+-- As many as requests wait are enough.
+abbrev pub ending_of : Bool → Doing → List Turn
+ending_of drains d = ending (if drains then length d.state.waiting else 0)
+
+-- behind lines that came so far; where one was refused, nothing follows
+abbrev pub ending_behind : Bool → Course Doing → List Turn
+ending_behind drains (Goes bytes d) = ending_of drains d
+ending_behind drains (Stops bytes) = []
 
 -- lines from here on, where this state is held
 abbrev pub PassesTurns : List Turn → Doing → State → State → List ℕ → Type 0

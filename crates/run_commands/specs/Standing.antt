@@ -15,7 +15,7 @@ use Rattle.script_places.specs.declared.heads.Head.{Head}
 use Rattle.script_places.specs.declared.heads.Head.TheVariants as head
 use Rattle.script_places.specs.declared.places.Place.{Place}
 use Rattle.script_text.specs.declared.fits.TheConstants.{MOST_PERCENT}
-use Rattle.run_commands.specs.Bases.{IsBounded, IsUnder, IsBlank, IsHead, IsListed, state_in, store_in}
+use Rattle.run_commands.specs.Bases.{IsBounded, IsUnder, IsBlank, IsHead, IsListed, state_in, store_in, checkpoint_in}
 use Rattle.run_commands.specs.Onces.{Doing, Running}
 use Rattle.run_commands.specs.declared.bases.Base.{Base}
 use Rattle.run_commands.specs.declared.bases.Base.TheVariants as base
@@ -27,7 +27,7 @@ doing_of place work = record { place = place; calls = work.calls.items; state = 
 
 -- with its store
 abbrev pub running_of : Place → Work → Running
-running_of place work = record { doing = doing_of place work; store = store_in work.base }
+running_of place work = record { doing = doing_of place work; store = store_in work.base; checkpoint = checkpoint_in work.base }
 
 -- before the catalogue is there, there is no row and no call; then both are of it
 abbrev pub IsOf : Head → List Call → Base → Type 0

@@ -2,7 +2,7 @@
 ghost use Rattle.std.specs.Prelude.{◌≡◌, ◌≤◌, IfOk};
 ghost use Rattle.script_places.specs.Follows.{IsReadyWith};
 ghost use Rattle.answer_text.specs.States.{state_text};
-ghost use Rattle.serving.specs.Lives.{listing, no_plan};
+ghost use Rattle.serving.specs.Lives.{listing, no_plan, plan_of};
 ghost use Rattle.run_commands.specs.Bases.{IsBegun, IsBounded, IsHead, IsListed, IsNamed, IsUnder, counts_of, plan_in, put_in, set_in, settings_with, state_in};
 
 use answer_text::print_state;
@@ -138,6 +138,13 @@ fn catalog_in(alloc: Global, head: &Head) -> Result<Catalog, Memory>
         Head::Ready(catalog) => catalog.copy(alloc),
         Head::Unnamed | Head::Text(_) => Ok(no_catalog(alloc)),
     }
+}
+
+/// A copy of the catalogue of a database that runs.
+pub(crate) fn catalog_of(alloc: Global, live: &Live) -> Result<Catalog, Memory>
+    ensures { IfOk result (λ catalog. catalog ≡ plan_of live.now) }
+{
+    live.replicas.first().catalog().copy(alloc)
 }
 
 /// The catalogue without tables and procedures.

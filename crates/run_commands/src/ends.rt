@@ -1,52 +1,70 @@
 // The end of a script.
-ghost use Rattle.std.specs.Prelude.{◌≡◌, ◌≢◌, ◌≤◌, Err, IfOk, IfErr, ◌+◌};
+ghost use Rattle.std.specs.Prelude.{◌≡◌, ◌≢◌, ◌≤◌, ◌⊎◌, ℕ, Ok, Err, None, IfOk, IfErr, IfSome, IsSomeAnd, ◌+◌};
 ghost use Rattle.aria_base.specs.Faults.{Rose};
 ghost use Rattle.script_course.specs.Causes.{IsCause};
 ghost use Rattle.script_course.specs.Served.{Finishes, Serves};
+ghost use Rattle.script_course.specs.declared.statuses.TheConstants.{DONE};
 ghost use Rattle.script_course.specs.declared.stops.Stop.TheVariants as stop;
 ghost use Rattle.serving.specs.Drains.{drains};
-ghost use Rattle.run_commands.specs.Bases.{IsBounded, IsListed, IsNamed, base_result, plan_in, state_in};
-ghost use Rattle.run_commands.specs.Onces.{drained, listed, on_end};
+ghost use Rattle.serving.specs.Stored.{GoesOn};
+ghost use Rattle.run_commands.specs.Bases.{IsBounded, IsListed, IsNamed, base_result, checkpoint_in, plan_in, state_in, store_in};
+ghost use Rattle.run_commands.specs.Endings.{HoldsBase, IsEnd, closing_turns, drains_of, held_in};
+ghost use Rattle.run_commands.specs.Keeps.{HoldsState, IsOpen, Keeps, LeavesLaid, held_of};
+ghost use Rattle.run_commands.specs.Onces.{Doing, drained, listed, on_end};
+ghost use Rattle.run_commands.specs.Passes.{PassesTurns, ending_of, held_behind};
 
 use crate::bases::Base;
+use crate::drains::drain;
 use crate::scripts::Script;
 use crate::works::Work;
 use aria_base::{Memory, Pace, Sink};
+use disk_model::Disk;
 use script_course::{DONE, Stop, end_with, refuse};
 use script_places::{Head, closes};
 use script_text::LinesRefused;
-use serving::drain;
 use std::alloc::Global;
 use std::thread::Threads;
 
 /// The end of the input: what waits is drained where that is asked for, and the rows are listed where
-/// not each answer had its listing.
-pub(crate) fn end_of<K: Sink, P: Pace + Sync, R: Threads + Sync>(
+/// not each answer had its listing. Without a store the disk is not touched.
+pub(crate) fn end_of<K: Sink, D: Disk, P: Pace + Sync, R: Threads + Sync>(
     rt: &R,
     alloc: Global,
     script: Script,
     drains: bool,
     out: &mut K,
+    disk: &mut D,
     pace: &P,
 ) -> Result<u8, Stop>
+    requires open { IsOpen (D.history disk.old) script }
     ensures finishes { Finishes (on_end drains script.doing) (K.given out.old) (K.given out.new) result }
     ensures read { result ≢ Err stop.NoRead }
     ensures zero { IfOk result (λ status. status ≡ DONE) }
+
+    // A stop at any moment leaves the state between two batches; and a stop now, what was given by then.
+    ensures keeps { (first : ℕ) → HoldsState first script.checkpoint (D.history disk.old) (plan_in script.doing.place.head) (held_of script) script.store
+        → Keeps (PassesTurns (ending_of drains script.doing) script.doing (held_of script)) (plan_in script.doing.place.head) (D.history disk.old) (D.history disk.new) (K.given out.old) (K.given out.new) }
+
+    // Behind the end, and where something is refused, the disk holds the state behind all batches that were run.
+    ensures laid { (first : ℕ) → HoldsState first script.checkpoint (D.history disk.old) (plan_in script.doing.place.head) (held_of script) script.store
+        → (result ≡ Ok DONE) ⊎ (result ≡ Err stop.Refused)
+        → LeavesLaid first script.checkpoint (D.history disk.new) (plan_in script.doing.place.head) (held_behind (ending_of drains script.doing) script.doing (held_of script)) }
+    ensures untouched { script.store ≡ None → disk.new ≡ disk.old }
     ensures sink { K.faults out.old ≤ K.faults out.new }
-    ensures cause { IfErr result (λ stop. IsCause stop (Rose (K.faults out.old) (K.faults out.new)) ⊥) }
+    ensures cause { IfErr result (λ stop. IsCause stop (Rose (K.faults out.old) (K.faults out.new)) (IsSomeAnd script.store (λ _. Rose (D.history disk.old).faults (D.history disk.new).faults))) }
 {
     closes();
     let Script { place, work } = script;
     let line = place.lines.saturating_add(1);
     match place.close(alloc) {
-        Ok(place) => close(rt, alloc, &place.head, work, drains, line, out, pace),
+        Ok(place) => close(rt, alloc, &place.head, work, drains, line, out, disk, pace),
         Err(LinesRefused::Memory) => Err(Stop::NoMemory),
         Err(LinesRefused::Line(refusal)) => refuse(alloc, &refusal, out),
     }
 }
 
 /// What follows where nothing is refused.
-fn close<K: Sink, P: Pace + Sync, R: Threads + Sync>(
+fn close<K: Sink, D: Disk, P: Pace + Sync, R: Threads + Sync>(
     rt: &R,
     alloc: Global,
     head: &Head,
@@ -54,29 +72,37 @@ fn close<K: Sink, P: Pace + Sync, R: Threads + Sync>(
     drains: bool,
     line: u64,
     out: &mut K,
+    disk: &mut D,
     pace: &P,
 ) -> Result<u8, Stop>
     requires named { IsNamed head.now work.base }
     requires bounded { IsBounded work.base }
     requires listed { IsListed work.each work.base }
+    requires logging { IfSome (store_in work.base) (GoesOn (D.history disk.old) (state_in work.base).batches) }
     ensures finishes { Finishes (drained drains (plan_in head.now) work.each line (state_in work.base)) (K.given out.old) (K.given out.new) result }
     ensures read { result ≢ Err stop.NoRead }
     ensures zero { IfOk result (λ status. status ≡ DONE) }
+    ensures keeps { (first : ℕ) (d : Doing) → IsEnd (plan_in head.now) work.each line (state_in work.base) d → HoldsBase first (D.history disk.old) (plan_in head.now) work.base
+        → Keeps (PassesTurns (closing_turns drains (state_in work.base)) d (held_in work.base)) (plan_in head.now) (D.history disk.old) (D.history disk.new) (K.given out.old) (K.given out.new) }
+    ensures laid { (first : ℕ) (d : Doing) → IsEnd (plan_in head.now) work.each line (state_in work.base) d → HoldsBase first (D.history disk.old) (plan_in head.now) work.base
+        → (result ≡ Ok DONE) ⊎ (result ≡ Err stop.Refused)
+        → LeavesLaid first (checkpoint_in work.base) (D.history disk.new) (plan_in head.now) (held_behind (closing_turns drains (state_in work.base)) d (held_in work.base)) }
+    ensures untouched { store_in work.base ≡ None → disk.new ≡ disk.old }
     ensures sink { K.faults out.old ≤ K.faults out.new }
-    ensures cause { IfErr result (λ stop. IsCause stop (Rose (K.faults out.old) (K.faults out.new)) ⊥) }
+    ensures cause { IfErr result (λ stop. IsCause stop (Rose (K.faults out.old) (K.faults out.new)) (IsSomeAnd (store_in work.base) (λ _. Rose (D.history disk.old).faults (D.history disk.new).faults))) }
 {
     let each = work.each;
     if !drains {
         return list(alloc, head, &work.base, each, out);
     }
-    match drained(rt, alloc, head, work.base, each, line, out, pace) {
+    match drained(rt, alloc, head, work.base, each, line, out, disk, pace) {
         Ok(base) => list(alloc, head, &base, each, out),
         Err(stop) => Err(stop),
     }
 }
 
 /// What waits, drained.
-fn drained<K: Sink, P: Pace + Sync, R: Threads + Sync>(
+fn drained<K: Sink, D: Disk, P: Pace + Sync, R: Threads + Sync>(
     rt: &R,
     alloc: Global,
     head: &Head,
@@ -84,19 +110,29 @@ fn drained<K: Sink, P: Pace + Sync, R: Threads + Sync>(
     each: bool,
     line: u64,
     out: &mut K,
+    disk: &mut D,
     pace: &P,
 ) -> Result<Base, Stop>
     requires named { IsNamed head.now base }
     requires bounded { IsBounded base }
     requires listed { IsListed each base }
+    requires logging { IfSome (store_in base) (GoesOn (D.history disk.old) (state_in base).batches) }
     ensures serves { Serves (drains (plan_in head.now) each line (state_in base)) (K.given out.old) (K.given out.new) (base_result result) }
     ensures named { IfOk result (IsNamed head.now) }
+    ensures keeps { (first : ℕ) (d : Doing) → IsEnd (plan_in head.now) each line (state_in base) d → HoldsBase first (D.history disk.old) (plan_in head.now) base
+        → Keeps (PassesTurns (drains_of (state_in base)) d (held_in base)) (plan_in head.now) (D.history disk.old) (D.history disk.new) (K.given out.old) (K.given out.new) }
+    ensures holds { (first : ℕ) → HoldsBase first (D.history disk.old) (plan_in head.now) base → IfOk result (HoldsBase first (D.history disk.new) (plan_in head.now)) }
+    ensures checkpoint { IfOk result (λ next. checkpoint_in next ≡ checkpoint_in base) }
+    ensures held { (d : Doing) → IsEnd (plan_in head.now) each line (state_in base) d → IfOk result (λ next. held_behind (drains_of (state_in base)) d (held_in base) ≡ held_in next) }
+    ensures refused { (first : ℕ) (d : Doing) → IsEnd (plan_in head.now) each line (state_in base) d → HoldsBase first (D.history disk.old) (plan_in head.now) base → result ≡ Err stop.Refused
+        → LeavesLaid first (checkpoint_in base) (D.history disk.new) (plan_in head.now) (held_behind (drains_of (state_in base)) d (held_in base)) }
+    ensures untouched { store_in base ≡ None → disk.new ≡ disk.old }
     ensures sink { K.faults out.old ≤ K.faults out.new }
-    ensures cause { IfErr result (λ stop. IsCause stop (Rose (K.faults out.old) (K.faults out.new)) ⊥) }
+    ensures cause { IfErr result (λ stop. IsCause stop (Rose (K.faults out.old) (K.faults out.new)) (IsSomeAnd (store_in base) (λ _. Rose (D.history disk.old).faults (D.history disk.new).faults))) }
 {
     match base {
         Base::Rows(tables, config) => Ok(Base::Rows(tables, config)),
-        Base::Runs(live) => match drain(rt, alloc, live, line, out, pace) {
+        Base::Runs(live) => match drain(rt, alloc, live, line, out, disk, pace) {
             Ok(live) => Ok(Base::Runs(live)),
             Err(stop) => Err(stop),
         },

@@ -1,26 +1,33 @@
-//! Commands that run the batches of a script: today `once`, in memory.
+//! Commands that run the batches of a script: `once` in memory, `run` over a store.
 //!
 //! A script is run while it is read: each line asks for something at its place, and the answer of a batch is
 //! given as soon as its end is read. At the end of the input what waits may be drained, and the rows are
 //! listed.
 //!
 //! ```text
+//! Disk ──> open (store_openings) ──> Live ──> Script
 //! Source ──> loops ──line──> Place (script_places) ──> Deed ──> Script ──> serve_batch (serving) ──> Sink, Disk
 //! ```
 //!
-//! In `specs/`: `Once` says what each line prints and which state follows, what the end prints, and with
-//! that the output of a whole script. `Passes` says which states a store holds in turn while a script runs, and
-//! `Keeps` what its disk holds then; no command has a store yet.
+//! In `specs/`: `Onces` says what each line prints and which state follows, and what the end prints; `Outs` the
+//! output of `once`, and `Resumes` that of `run` and what it leaves of the disk. `Passes` says which states a
+//! store holds in turn while a script runs, `Keeps` what its disk holds then, and `Turns` what lines do to it.
 #![tactic(auto)]
 
 mod bases;
+mod drains;
 mod ends;
 mod laws;
 mod loops;
+mod refusals;
+mod resumes;
 mod runs;
 mod scripts;
+mod texts;
 mod works;
 
-pub use laws::{each_is_serial, one_output};
+pub use laws::{each_is_serial, each_run_is_serial, one_output};
 pub use loops::{LONGEST_LINE, MOST_BYTES};
-pub use runs::once;
+pub use refusals::{refuse_store, tell_damage};
+pub use resumes::run;
+pub use runs::{is_each, once};

@@ -3,7 +3,8 @@
 // A trait's method cannot start threads through a type parameter, so this loop stands beside the one of
 // `script_course` for commands that run no batches. What it comes to is said in the same words, and rests on
 // the same laws.
-ghost use Rattle.std.specs.Prelude.{◌≡◌, ◌≤◌, [], None, Some, IfOk, IfErr, IsErr};
+ghost use Rattle.std.specs.Prelude.{◌≡◌, ◌≤◌, ◌++◌, ℕ, [], length, map, None, Some, IfOk, IfErr, IfSome, IsErr, IsSomeAnd};
+ghost use Rattle.std.specs.List.{All};
 ghost use Rattle.std.specs.Io.KnownBytes.{IsAtEnd};
 ghost use Rattle.aria_base.specs.Faults.{Rose};
 ghost use Rattle.script_text.specs.Lines.{last_line, scan};
@@ -11,7 +12,10 @@ ghost use Rattle.script_course.specs.Causes.{IsCause, IsReadCause, IsTaken};
 ghost use Rattle.script_course.specs.Courses.{Goes, told, told_whole, with_fault, with_last, with_lines, with_scan};
 ghost use Rattle.script_course.specs.Served.{Comes, Serves};
 ghost use Rattle.run_commands.specs.Onces.{doing_result, on_line};
+ghost use Rattle.run_commands.specs.Keeps.{IsOpen};
 ghost use Rattle.run_commands.specs.Outs.{no_line};
+ghost use Rattle.run_commands.specs.Passes.{Line, last, past, turns, turns_whole};
+ghost use Rattle.run_commands.specs.Turns.{HoldsScript, KeepsTurns, Stays};
 
 use crate::scripts::Script;
 use aria_base::{Bytes, Memory, Pace, Sink, Source};
@@ -41,19 +45,26 @@ pub(crate) fn read_script<S: Source, K: Sink, D: Disk, P: Pace + Sync, R: Thread
     disk: &mut D,
     pace: &P,
 ) -> Result<Script, Stop>
-    requires { start.store ≡ None }
+    requires open { IsOpen (D.history disk.old) start }
 
     // What was printed is what the text prints; where it was cut off, a front of it. Where the source
     // failed, it is all that the bytes that were taken tell, and no line of them was refused.
     ensures comes { Comes (told on_line no_line start.doing) (told_whole on_line no_line start.doing) (S.left input.old) (S.left input.new) (K.given out.old) (K.given out.new) (doing_result result) }
     ensures end { IfOk result (λ _. IsAtEnd (S.left input.new)) }
-    ensures store { IfOk result (λ next. next.store ≡ None) }
-    ensures untouched { disk.new ≡ disk.old }
+    ensures open { IfOk result (λ next. IsOpen (D.history disk.new) next) }
+
+    // Over a store: what a stop at any moment leaves, where the source tells its bytes, and what the disk holds
+    // behind the last line.
+    ensures keeps { (first : ℕ) → HoldsScript first (D.history disk.old) start → IfSome (S.left input.old) (λ text. KeepsTurns first (turns_whole (scan no_line text)) start (D.history disk.old) (D.history disk.new) (K.given out.old) (K.given out.new) result) }
+    ensures stays { (first : ℕ) → HoldsScript first (D.history disk.old) start → IfOk result (Stays first (D.history disk.new) start) }
+    ensures store { start.store ≡ None → IfOk result (λ next. next.store ≡ None) }
+    ensures untouched { start.store ≡ None → disk.new ≡ disk.old }
+    ensures disk { IfOk result (λ _. (D.history disk.old).faults ≤ (D.history disk.new).faults) }
 
     // Each stop for a fault has its cause.
     ensures source { S.faults input.old ≤ S.faults input.new }
     ensures sink { K.faults out.old ≤ K.faults out.new }
-    ensures cause { IfErr result (λ stop. IsReadCause stop (Rose (S.faults input.old) (S.faults input.new)) (Rose (K.faults out.old) (K.faults out.new)) ⊥) }
+    ensures cause { IfErr result (λ stop. IsReadCause stop (Rose (S.faults input.old) (S.faults input.new)) (Rose (K.faults out.old) (K.faults out.new)) (IsSomeAnd start.store (λ _. Rose (D.history disk.old).faults (D.history disk.new).faults))) }
 {
     let mut lines = Lines::new(alloc, MOST_BYTES, LONGEST_LINE);
     let mut script = start;
@@ -92,13 +103,18 @@ fn take_piece<K: Sink, D: Disk, P: Pace + Sync, R: Threads + Sync>(
     disk: &mut D,
     pace: &P,
 ) -> Result<Script, Stop>
-    requires { script.store ≡ None }
+    requires open { IsOpen (D.history disk.old) script }
+    requires longest { lines.old.longest ≤ 4096 }
+    requires begun { length lines.old.begun ≤ lines.old.longest }
     ensures serves { Serves (with_scan on_line (Goes [] script.doing) (scan lines.old piece.now)) (K.given out.old) (K.given out.new) (doing_result result) }
-    ensures store { IfOk result (λ next. next.store ≡ None) }
-    ensures untouched { disk.new ≡ disk.old }
+    ensures open { IfOk result (λ next. IsOpen (D.history disk.new) next) }
+    ensures keeps { (first : ℕ) → HoldsScript first (D.history disk.old) script → KeepsTurns first (turns (scan lines.old piece.now)) script (D.history disk.old) (D.history disk.new) (K.given out.old) (K.given out.new) result }
+    ensures store { script.store ≡ None → IfOk result (λ next. next.store ≡ None) }
+    ensures untouched { script.store ≡ None → disk.new ≡ disk.old }
     ensures taken { IfOk result (λ _. IsTaken (scan lines.old piece.now) lines.new) }
     ensures sink { K.faults out.old ≤ K.faults out.new }
-    ensures cause { IfErr result (λ stop. IsCause stop (Rose (K.faults out.old) (K.faults out.new)) ⊥) }
+    ensures disk { IfOk result (λ _. (D.history disk.old).faults ≤ (D.history disk.new).faults) }
+    ensures cause { IfErr result (λ stop. IsCause stop (Rose (K.faults out.old) (K.faults out.new)) (IsSomeAnd script.store (λ _. Rose (D.history disk.old).faults (D.history disk.new).faults))) }
 {
     match lines.feed(piece) {
         Ok(done) => each_line(rt, alloc, script, &done, out, disk, pace),
@@ -121,12 +137,14 @@ fn refuse_behind<K: Sink, D: Disk, P: Pace + Sync, R: Threads + Sync>(
     disk: &mut D,
     pace: &P,
 ) -> Result<Script, Stop>
-    requires { script.store ≡ None }
+    requires open { IsOpen (D.history disk.old) script }
+    requires short { All (λ line. length line ≤ 4096) lines.now }
     ensures serves { Serves (with_fault (with_lines on_line (Goes [] script.doing) lines.now) (Some refusal.now)) (K.given out.old) (K.given out.new) (doing_result result) }
-    ensures untouched { disk.new ≡ disk.old }
+    ensures keeps { (first : ℕ) → HoldsScript first (D.history disk.old) script → KeepsTurns first (map Line lines.now ++ past (Some refusal.now)) script (D.history disk.old) (D.history disk.new) (K.given out.old) (K.given out.new) result }
+    ensures untouched { script.store ≡ None → disk.new ≡ disk.old }
     ensures stops { IsErr result }
     ensures sink { K.faults out.old ≤ K.faults out.new }
-    ensures cause { IfErr result (λ stop. IsCause stop (Rose (K.faults out.old) (K.faults out.new)) ⊥) }
+    ensures cause { IfErr result (λ stop. IsCause stop (Rose (K.faults out.old) (K.faults out.new)) (IsSomeAnd script.store (λ _. Rose (D.history disk.old).faults (D.history disk.new).faults))) }
 {
     match each_line(rt, alloc, script, lines, out, disk, pace) {
         Ok(_) => return refuse(alloc, refusal, out),
@@ -144,12 +162,17 @@ fn finish<K: Sink, D: Disk, P: Pace + Sync, R: Threads + Sync>(
     disk: &mut D,
     pace: &P,
 ) -> Result<Script, Stop>
-    requires { script.store ≡ None }
+    requires open { IsOpen (D.history disk.old) script }
+    requires longest { lines.longest ≤ 4096 }
+    requires begun { length lines.begun ≤ lines.longest }
     ensures serves { Serves (with_last on_line (Goes [] script.doing) (last_line lines)) (K.given out.old) (K.given out.new) (doing_result result) }
-    ensures store { IfOk result (λ next. next.store ≡ None) }
-    ensures untouched { disk.new ≡ disk.old }
+    ensures open { IfOk result (λ next. IsOpen (D.history disk.new) next) }
+    ensures keeps { (first : ℕ) → HoldsScript first (D.history disk.old) script → KeepsTurns first (last (last_line lines)) script (D.history disk.old) (D.history disk.new) (K.given out.old) (K.given out.new) result }
+    ensures store { script.store ≡ None → IfOk result (λ next. next.store ≡ None) }
+    ensures untouched { script.store ≡ None → disk.new ≡ disk.old }
+    ensures disk { IfOk result (λ _. (D.history disk.old).faults ≤ (D.history disk.new).faults) }
     ensures sink { K.faults out.old ≤ K.faults out.new }
-    ensures cause { IfErr result (λ stop. IsCause stop (Rose (K.faults out.old) (K.faults out.new)) ⊥) }
+    ensures cause { IfErr result (λ stop. IsCause stop (Rose (K.faults out.old) (K.faults out.new)) (IsSomeAnd script.store (λ _. Rose (D.history disk.old).faults (D.history disk.new).faults))) }
 {
     match lines.finish() {
         None => Ok(script),
@@ -167,12 +190,16 @@ fn each_line<K: Sink, D: Disk, P: Pace + Sync, R: Threads + Sync>(
     disk: &mut D,
     pace: &P,
 ) -> Result<Script, Stop>
-    requires { start.store ≡ None }
+    requires open { IsOpen (D.history disk.old) start }
+    requires short { All (λ line. length line ≤ 4096) lines.now }
     ensures serves { Serves (with_lines on_line (Goes [] start.doing) lines.now) (K.given out.old) (K.given out.new) (doing_result result) }
-    ensures store { IfOk result (λ next. next.store ≡ None) }
-    ensures untouched { disk.new ≡ disk.old }
+    ensures open { IfOk result (λ next. IsOpen (D.history disk.new) next) }
+    ensures keeps { (first : ℕ) → HoldsScript first (D.history disk.old) start → KeepsTurns first (map Line lines.now) start (D.history disk.old) (D.history disk.new) (K.given out.old) (K.given out.new) result }
+    ensures store { start.store ≡ None → IfOk result (λ next. next.store ≡ None) }
+    ensures untouched { start.store ≡ None → disk.new ≡ disk.old }
     ensures sink { K.faults out.old ≤ K.faults out.new }
-    ensures cause { IfErr result (λ stop. IsCause stop (Rose (K.faults out.old) (K.faults out.new)) ⊥) }
+    ensures disk { IfOk result (λ _. (D.history disk.old).faults ≤ (D.history disk.new).faults) }
+    ensures cause { IfErr result (λ stop. IsCause stop (Rose (K.faults out.old) (K.faults out.new)) (IsSomeAnd start.store (λ _. Rose (D.history disk.old).faults (D.history disk.new).faults))) }
 {
     let mut script = start;
     for line in lines {

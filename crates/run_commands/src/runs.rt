@@ -6,9 +6,8 @@ ghost use Rattle.script_course.specs.Causes.{IsReadCause};
 ghost use Rattle.script_course.specs.Served.{Completes};
 ghost use Rattle.run_commands.specs.Outs.{IsInRange, is_each, out_of, told_of};
 
-use crate::ends::end_of;
-use crate::loops::read_script;
 use crate::scripts::Script;
+use crate::texts::run_text;
 use aria_base::{Pace, Sink, Source};
 use command_words::{Listing, Once};
 use dep_rules::Config;
@@ -21,6 +20,7 @@ use std::thread::Threads;
 /// source tells its bytes, what is printed is the output that they have, and the status is its status; where
 /// it was cut off, a front of it was printed, and where the source failed, all that the bytes so far tell.
 /// Neither workers nor replicas have a say in it. The disk is not touched.
+#[tactic(auto, using(crate::proofs::Ran::open_without))]
 pub fn once<S: Source, K: Sink, D: Disk, P: Pace + Sync, R: Threads + Sync>(
     rt: &R,
     alloc: Global,
@@ -52,14 +52,11 @@ pub fn once<S: Source, K: Sink, D: Disk, P: Pace + Sync, R: Threads + Sync>(
     let Ok(start) = Script::start(alloc, config, settings.replicas, each) else {
         return Err(Stop::NoMemory);
     };
-    match read_script(rt, alloc, start, input, out, disk, pace) {
-        Ok(last) => end_of(rt, alloc, last, settings.drain, out, pace),
-        Err(stop) => Err(stop),
-    }
+    run_text(rt, alloc, start, settings.drain, input, out, disk, pace)
 }
 
 /// Whether each answer has a listing behind it.
-fn is_each(listing: Listing) -> bool
+pub fn is_each(listing: Listing) -> bool
     ensures { result ≡ is_each listing }
 {
     match listing {

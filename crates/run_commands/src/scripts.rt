@@ -1,5 +1,5 @@
 // A script between two of its lines, and the next line.
-ghost use Rattle.std.specs.Prelude.{◌≡◌, ◌≢◌, ◌≤◌, ℕ, List, [], ◌∷◌, None, false, IfOk, IfErr, IfSome, IsSomeAnd};
+ghost use Rattle.std.specs.Prelude.{◌≡◌, ◌≢◌, ◌≤◌, ℕ, List, [], ◌∷◌, length, None, false, IfOk, IfErr, IfSome, IsSomeAnd};
 ghost use Rattle.aria_base.specs.Faults.{Rose};
 ghost use Rattle.answer_text.specs.Notices.{kept_text};
 ghost use Rattle.script_course.specs.Causes.{IsCause};
@@ -9,15 +9,19 @@ ghost use Rattle.serving.specs.declared.batches.Given.TheVariants as given;
 ghost use Rattle.image_text.specs.Payloads.{Batch};
 ghost use Rattle.serving.specs.Stored.{Holds};
 ghost use Rattle.slot_images.specs.Images.{Checkpoint};
-ghost use Rattle.run_commands.specs.Bases.{IsSettled, plan_in, state_in, store_in};
+ghost use Rattle.script_places.specs.Places.{start_with};
+ghost use Rattle.script_places.specs.declared.places.Mode.TheVariants as mode;
+ghost use Rattle.serving.specs.Lives.{IsRunnable, plan_of, state_of};
+ghost use Rattle.run_commands.specs.Bases.{IsSettled, checkpoint_in, plan_in, state_in, store_in};
 ghost use Rattle.run_commands.specs.Keeps.{IsOpen, IsShort, Keeps, held_of};
 ghost use Rattle.run_commands.specs.Onces.{Doing, behind_batch, doing_result, done, on_line, text_of, with_call, with_row, with_settings, without_calls};
 ghost use Rattle.run_commands.specs.Outs.{start_by};
 ghost use Rattle.run_commands.specs.Stops.{IsStopFor};
-ghost use Rattle.run_commands.specs.Passes.{Line, PassesTurns};
+ghost use Rattle.run_commands.specs.Passes.{Line, PassesTurns, held_then};
+ghost use Rattle.run_commands.specs.Turns.{HoldsScript, KeepsTurns, Stays};
 ghost use Rattle.run_commands.specs.Standing.{MayCall, MayClose, MayDo, MayPut, MayRun, MaySet, Stands, doing_of, running_of, runs_batch};
 
-use crate::bases::Base;
+use crate::bases::{Base, catalog_of};
 use crate::works::Work;
 use answer_text::append_kept;
 use aria_base::{Call, Key, Memory, Pace, Row, Sink};
@@ -27,7 +31,7 @@ use disk_model::Disk;
 use script_course::{Stop, give, refuse};
 use script_places::{Deed, Mode, Place, follows};
 use script_text::LinesRefused;
-use serving::{Given, serve_batch};
+use serving::{Given, Live, serve_batch};
 use std::alloc::Global;
 use std::marker::Model;
 use std::thread::Threads;
@@ -73,8 +77,30 @@ impl Script {
         Ok(Script { place, work })
     }
 
-    /// Takes the next line, and gives what it prints. The answer is the script behind it.
-    #[tactic(auto, using(crate::proofs::Moved::moved_to, crate::proofs::Moved::not_moved, crate::proofs::Ran::open_without, crate::proofs::Stepped::short_without))]
+    /// Before the first line, over a database that runs; where it has a store, its batches outlive the program.
+    /// The script brings no catalogue.
+    pub fn resume(alloc: Global, live: Live, replicas: u32) -> Result<Script, Memory>
+        requires runnable { IsRunnable live }
+        requires engines { (1 ≤ replicas) × (replicas ≤ 8) }
+        ensures doing { IfOk result (λ script. script.doing ≡ record { place = start_with mode.Run (plan_of live); calls = []; state = state_of live; each = live.each }) }
+        ensures store { IfOk result (λ script. script.store ≡ live.store) }
+        ensures checkpoint { IfOk result (λ script. script.checkpoint ≡ live.checkpoint) }
+    {
+        let catalog = catalog_of(alloc, &live)?;
+        let place = Place::start_with(Mode::Run, catalog);
+        let each = live.each;
+        let work = Work {
+            calls: Vec::new(alloc),
+            base: Base::Runs(live),
+            replicas,
+            each,
+        };
+        Ok(Script { place, work })
+    }
+
+    /// Takes the next line, of at most 4,096 bytes, and gives what it prints. The answer is the script behind it.
+    /// Without a store the disk is not touched.
+    #[tactic(auto, using(crate::proofs::Moved::moved_to, crate::proofs::Moved::not_moved))]
     pub fn serve<K: Sink, D: Disk, P: Pace + Sync, R: Threads + Sync>(
         self,
         rt: &R,
@@ -84,12 +110,18 @@ impl Script {
         disk: &mut D,
         pace: &P,
     ) -> Result<Script, Stop>
-        requires { self.store ≡ None }
+        requires open { IsOpen (D.history disk.old) self }
+        requires short { length line.now ≤ 4096 }
         ensures serves { Serves (on_line self.doing line.now) (K.given out.old) (K.given out.new) (doing_result result) }
-        ensures store { IfOk result (λ script. script.store ≡ None) }
-        ensures untouched { disk.new ≡ disk.old }
+        ensures open { IfOk result (λ next. IsOpen (D.history disk.new) next) }
+
+        // Over a store: what a stop at any moment leaves, and what the disk holds behind the line.
+        ensures keeps { (first : ℕ) → HoldsScript first (D.history disk.old) self → KeepsTurns first (Line line.now ∷ []) self (D.history disk.old) (D.history disk.new) (K.given out.old) (K.given out.new) result }
+        ensures store { self.store ≡ None → IfOk result (λ script. script.store ≡ None) }
+        ensures untouched { self.store ≡ None → disk.new ≡ disk.old }
         ensures sink { K.faults out.old ≤ K.faults out.new }
-        ensures cause { IfErr result (λ stop. IsCause stop (Rose (K.faults out.old) (K.faults out.new)) ⊥) }
+        ensures disk { IfOk result (λ _. (D.history disk.old).faults ≤ (D.history disk.new).faults) }
+        ensures cause { IfErr result (λ stop. IsCause stop (Rose (K.faults out.old) (K.faults out.new)) (IsSomeAnd self.store (λ _. Rose (D.history disk.old).faults (D.history disk.new).faults))) }
     {
         let Script { place, work } = self;
         let counts = work.base.counts();
@@ -127,9 +159,14 @@ impl Work {
         ensures keeps { (c : Checkpoint) (later : List Batch) (before : Doing) (line : List ℕ) → Holds (D.history disk.old) (plan_in place.head) (held_of (running_of place self)) (store_in self.base) c later
             → before.state ≡ state_in self.base → on_line before line ≡ done (doing_of place self) deed
             → Keeps (PassesTurns (Line line ∷ []) before (held_of (running_of place self))) (plan_in place.head) (D.history disk.old) (D.history disk.new) (K.given out.old) (K.given out.new) }
+
+        // The state behind it is held by the script that goes on.
+        ensures stays { (first : ℕ) → HoldsScript first (D.history disk.old) (running_of place self) → IfOk result (Stays first (D.history disk.new) (running_of place self)) }
+        ensures held { (first : ℕ) → HoldsScript first (D.history disk.old) (running_of place self) → (before : Doing) → before.state ≡ state_in self.base → IfOk result (λ next. held_of next ≡ held_then (held_of (running_of place self)) before next.doing) }
         ensures store { store_in self.base ≡ None → IfOk result (λ script. script.store ≡ None) }
         ensures untouched { store_in self.base ≡ None → disk.new ≡ disk.old }
         ensures sink { K.faults out.old ≤ K.faults out.new }
+        ensures disk { IfOk result (λ _. (D.history disk.old).faults ≤ (D.history disk.new).faults) }
         ensures cause { IfErr result (λ stop. IsCause stop (Rose (K.faults out.old) (K.faults out.new)) (IsSomeAnd (store_in self.base) (λ _. Rose (D.history disk.old).faults (D.history disk.new).faults))) }
     {
         if runs_batch(&deed) {
@@ -150,6 +187,7 @@ impl Work {
         requires quiet { runs_batch deed ≡ false }
         ensures serves { Serves (done (doing_of place self) deed) (K.given out.old) (K.given out.new) (doing_result result) }
         ensures store { IfOk result (λ script. script.store ≡ store_in self.base) }
+        ensures checkpoint { IfOk result (λ script. script.checkpoint ≡ checkpoint_in self.base) }
         ensures sink { K.faults out.old ≤ K.faults out.new }
         ensures cause { IfErr result (λ stop. IsCause stop (Rose (K.faults out.old) (K.faults out.new)) ⊥) }
     {
@@ -174,6 +212,7 @@ impl Work {
         requires { MayPut place self key row }
         ensures doing { IfOk result (λ script. script.doing ≡ with_row (doing_of place self) key row) }
         ensures store { IfOk result (λ script. script.store ≡ store_in self.base) }
+        ensures checkpoint { IfOk result (λ script. script.checkpoint ≡ checkpoint_in self.base) }
     {
         let Work {
             calls,
@@ -195,6 +234,7 @@ impl Work {
         requires { MayCall place self call }
         ensures doing { IfOk result (λ script. script.doing ≡ with_call (doing_of place self) call) }
         ensures store { IfOk result (λ script. script.store ≡ store_in self.base) }
+        ensures checkpoint { IfOk result (λ script. script.checkpoint ≡ checkpoint_in self.base) }
     {
         let mut work = self;
         work.calls.push(call)?;
@@ -206,6 +246,7 @@ impl Work {
         requires { MaySet place self percent }
         ensures doing { result.doing ≡ with_settings (doing_of place self) rule percent }
         ensures store { result.store ≡ store_in self.base }
+        ensures checkpoint { result.checkpoint ≡ checkpoint_in self.base }
     {
         let Work {
             calls,
@@ -233,6 +274,7 @@ impl Work {
         requires { MayClose place self }
         ensures serves { Serves (Goes (kept_text number) (without_calls (doing_of place self))) (K.given out.old) (K.given out.new) (doing_result result) }
         ensures store { IfOk result (λ script. script.store ≡ store_in self.base) }
+        ensures checkpoint { IfOk result (λ script. script.checkpoint ≡ checkpoint_in self.base) }
         ensures sink { K.faults out.old ≤ K.faults out.new }
         ensures cause { IfErr result (λ stop. IsCause stop (Rose (K.faults out.old) (K.faults out.new)) ⊥) }
     {
@@ -247,6 +289,7 @@ impl Work {
         requires { MayClose place self }
         ensures doing { result.doing ≡ without_calls (doing_of place self) }
         ensures store { result.store ≡ store_in self.base }
+        ensures checkpoint { result.checkpoint ≡ checkpoint_in self.base }
     {
         let Work {
             calls: _,
@@ -282,9 +325,14 @@ impl Work {
         ensures keeps { (c : Checkpoint) (later : List Batch) (before : Doing) (line : List ℕ) → Holds (D.history disk.old) (plan_in place.head) (held_of (running_of place self)) (store_in self.base) c later
             → before.state ≡ state_in self.base → on_line before line ≡ Goes (text_of (doing_of place self)) (behind_batch (doing_of place self))
             → Keeps (PassesTurns (Line line ∷ []) before (held_of (running_of place self))) (plan_in place.head) (D.history disk.old) (D.history disk.new) (K.given out.old) (K.given out.new) }
+
+        // The state behind it is held by the script that goes on.
+        ensures stays { (first : ℕ) → HoldsScript first (D.history disk.old) (running_of place self) → IfOk result (Stays first (D.history disk.new) (running_of place self)) }
+        ensures held { (first : ℕ) → HoldsScript first (D.history disk.old) (running_of place self) → (before : Doing) → before.state ≡ state_in self.base → IfOk result (λ next. held_of next ≡ held_then (held_of (running_of place self)) before next.doing) }
         ensures store { store_in self.base ≡ None → IfOk result (λ script. script.store ≡ None) }
         ensures untouched { store_in self.base ≡ None → disk.new ≡ disk.old }
         ensures sink { K.faults out.old ≤ K.faults out.new }
+        ensures disk { IfOk result (λ _. (D.history disk.old).faults ≤ (D.history disk.new).faults) }
         ensures cause { IfErr result (λ stop. IsCause stop (Rose (K.faults out.old) (K.faults out.new)) (IsSomeAnd (store_in self.base) (λ _. Rose (D.history disk.old).faults (D.history disk.new).faults))) }
     {
         let Work {
@@ -328,7 +376,7 @@ fn runs_batch(deed: &Deed) -> bool
 }
 
 /// The stop for a batch that was not told.
-fn why_stopped(why: Given) -> Stop
+pub(crate) fn why_stopped(why: Given) -> Stop
     requires { why ≢ given.Told }
     ensures { IsStopFor why result }
 {

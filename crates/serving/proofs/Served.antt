@@ -1,5 +1,6 @@
 -- A batch in the log, its answer, and the checkpoint behind it, put together.
-use Rattle.std.proofs.Common.{◌≡◌, ◌∙◌, ◌⊎◌, inr, sym, ap, subst, ℕ, List, [], length, Bool, true, Option, Some, None, IfSome, arith}
+use Rattle.std.proofs.Common.{◌≡◌, ◌∙◌, ◌⊎◌, inl, inr, sym, ap, subst, refl, ℕ, ◌+◌, ◌≤◌, ◌==◌, ◌||◌, nat_lt, List, [], length, Bool, true, false, Option, Some, None, IfSome, arith}
+use Rattle.std.proofs.lemmas.Bool.Decides.{nat_tests}
 use Rattle.std.specs.Prelude.{Result, Ok, Err, OnOk}
 use Rattle.std.specs.List.{slice_get}
 use Rattle.std.proofs.KnownBytes.{Appends-nil}
@@ -16,7 +17,8 @@ use Rattle.aria_store.specs.Reopens.{Reopens, Found}
 use Rattle.aria_store.specs.Stands.{Kept, MayAdd, Stands, added}
 use Rattle.serving.specs.Given.{IsUntold, Tells}
 use Rattle.serving.specs.Lives.{IsNext, MayServe, next_handed, next_state, plan_of, state_of}
-use Rattle.serving.specs.Stored.{GoesOn, Holds, HoldsTurned, IsHeld, IsLogging, LeavesState, ReopensTo, ReopensToEither, due_by, is_due, logged, next_due, stored_state, told_by, turned, turned_by}
+use Rattle.serving.specs.declared.rotations.TheConstants.{MOST_LOG}
+use Rattle.serving.specs.Stored.{GoesOn, HasTaken, Holds, HoldsTurned, IsHeld, IsLogging, LeavesState, MayRenew, MayTurn, ReopensTo, ReopensToEither, due_by, is_due, is_stale, logged, next_due, stored_state, told_by, turned, turned_by}
 use Rattle.serving.specs.declared.batches.Given.{Given}
 use Rattle.serving.specs.declared.batches.Given.TheVariants as given
 use Rattle.serving.specs.declared.lives.Live.{Live}
@@ -164,12 +166,47 @@ pub holds_leaves : (disk : History) (plan : Plan) (state : State) (store : Optio
 holds_leaves disk plan state None c later h = absurd h
 holds_leaves disk plan state (Some store) c later h = held_leaves disk plan state store c later h
 
+-- ---- when a store can take no batch as it is
+
+not_stale : (format at : ℕ) → format ≡ 2 → at ≤ MOST_LOG → (format == 1 || nat_lt MOST_LOG at) ≡ false
+not_stale format at two short =
+    let a : (format == 1) ≡ false = grind (arith, nat_tests, two) in
+    let b : nat_lt MOST_LOG at ≡ false = grind (arith, nat_tests, short) in
+    ap (λ (x : Bool). x || nat_lt MOST_LOG at) a ∙ b
+
+due_of : (format at batches : ℕ) → (format == 1 || nat_lt MOST_LOG at) ≡ true → (format ≡ 1) ⊎ (format ≡ 2) → (1 ≤ batches) ⊎ (at ≤ MOST_LOG)
+    → (1 ≤ batches) ⊎ (format ≡ 1)
+due_of format at batches on (inl one) filled = inr one
+due_of format at batches on (inr two) (inl some) = inl some
+due_of format at batches on (inr two) (inr short) = let no : false ≡ true = sym (not_stale format at two short) ∙ on in absurd (cc no)
+
+none_of : (a b : Bool) → a || b ≡ false → (a ≡ false) × (b ≡ false)
+none_of false b e = (refl, e)
+none_of true b e = absurd (cc e)
+
+fresh_of : (format at : ℕ) → (format == 1 || nat_lt MOST_LOG at) ≡ false → (format ≡ 1) ⊎ (format ≡ 2) → (format ≡ 2) × (at ≤ MOST_LOG)
+fresh_of format at off (inl one) =
+    let no : true ≡ false = sym (ap (λ (n : ℕ). n == 1) one) ∙ (none_of (format == 1) (nat_lt MOST_LOG at) off).0 in
+    absurd (cc no)
+fresh_of format at off (inr two) = (two, grind (arith, nat_tests, (none_of (format == 1) (nat_lt MOST_LOG at) off).1))
+
 -- ---- where no call is made, and where a checkpoint is laid
 
 pub still_leaves : (disk : History) (plan : Plan) (state : State) (store : Option Kept) (c : Checkpoint) (later : List Batch) → Holds disk plan state store c later
     → LeavesAll disk disk (ReopensTo plan state)
 still_leaves disk plan state store c later h =
     leaves_still disk disk (ReopensTo plan state) (still_none disk) (holds_leaves disk plan state store c later h)
+
+module _ (live : Live) (store : Kept) (is : live.store ≡ Some store) where
+  own_renew : (disk : History) → IfSome live.store (MayRenew disk (state_of live).batches) → MayRenew disk (state_of live).batches store
+  own_renew disk h = let own : IfSome (Some store) (MayRenew disk (state_of live).batches) = subst (λ (s : Option Kept). IfSome s (MayRenew disk (state_of live).batches)) is h in own
+
+  -- where no checkpoint is due before the first batch, the store takes batches as it is
+  pub fresh_goes_on : (disk : History) → is_stale store ≡ false → IfSome live.store (MayRenew disk (state_of live).batches) → GoesOn disk (state_of live).batches store
+  fresh_goes_on disk off h =
+      let own = own_renew disk h in
+      let both = fresh_of store.files.head.format store.files.at off own.format in
+      record { open_yet = own.open_yet; rests = own.rests; format = both.0; short = both.1; counted = own.counted }
 
 module _ (live : Live) (first : Between) (e : slice_get live.replicas 0 ≡ Some first) (store : Kept) (is : live.store ≡ Some store) where
   pub due_here : (on : Bool) (number bytes : ℕ) → on ≡ is_due live.checkpoint number bytes → number ≡ first.batches → bytes ≡ store.files.at
@@ -178,22 +215,22 @@ module _ (live : Live) (first : Between) (e : slice_get live.replicas 0 ≡ Some
       let count : (state_of live).batches ≡ first.batches = ap (λ (s : State). s.batches) (state_is live.config live.replicas first e) in
       (λ i. due_by live.checkpoint (count i) (is i)) ∙ sym (told ∙ (λ i. is_due live.checkpoint (n i) (b i)))
 
-  pub turned_holds : {T E : Type 0} (result : Result T E) (old new : History) (now : Kept) → due_by live.checkpoint (state_of live).batches live.store ≡ true
+  pub turned_holds : {T E : Type 0} (result : Result T E) (old new : History) (now : Kept) (due : Bool) → due ≡ true
       → OnOk result ((d : Checkpoint) × IsHeld new first.plan (state_in live.config first) now d [])
       → OnOk result ((c : Checkpoint) (later : List Batch) → Holds old (plan_of live) (state_of live) live.store c later
-      → HoldsTurned (due_by live.checkpoint (state_of live).batches live.store) new (plan_of live) (state_of live) (Some now) c later)
-  turned_holds (Ok done) old new now due h = λ c later held.
-      subst (λ (b : Bool). HoldsTurned b new (plan_of live) (state_of live) (Some now) c later) (sym due)
+      → HoldsTurned due new (plan_of live) (state_of live) (Some now) c later)
+  turned_holds (Ok done) old new now due on h = λ c later held.
+      subst (λ (b : Bool). HoldsTurned b new (plan_of live) (state_of live) (Some now) c later) (sym on)
       (h.0, first_is live first e (λ plan state. IsHeld new plan state now h.0 []) h.1)
-  turned_holds (Err why) old new now due h = tt
+  turned_holds (Err why) old new now due on h = tt
 
-  pub turned_is : {T E : Type 0} (result : Result T E) (now : Kept) → due_by live.checkpoint (state_of live).batches live.store ≡ true
+  pub turned_is : {T E : Type 0} (result : Result T E) (now : Kept) (due : Bool) → due ≡ true
       → OnOk result (now ≡ turned true (state_in live.config first) store)
-      → OnOk result (with_store live (Some now) ≡ with_store live (turned_by (due_by live.checkpoint (state_of live).batches live.store) (state_of live) live.store))
-  turned_is (Ok done) now due h =
+      → OnOk result (with_store live (Some now) ≡ with_store live (turned_by due (state_of live) live.store))
+  turned_is (Ok done) now due on h =
       let same = state_is live.config live.replicas first e in
-      ap (λ (s : Option Kept). with_store live s) (ap (λ (k : Kept). Some k) h ∙ sym (λ i. turned_by (due i) (same i) (is i)))
-  turned_is (Err why) now due h = tt
+      ap (λ (s : Option Kept). with_store live s) (ap (λ (k : Kept). Some k) h ∙ sym (λ i. turned_by (on i) (same i) (is i)))
+  turned_is (Err why) now due on h = tt
 
   pub turned_images : (old new : History) (c : Checkpoint) (later : List Batch)
       → (IsHeld old first.plan (state_in live.config first) store c later → LeavesAll old new (ReopensTo first.plan (state_in live.config first)))
@@ -201,6 +238,26 @@ module _ (live : Live) (first : Between) (e : slice_get live.replicas 0 ≡ Some
   turned_images old new c later all h =
       first_is live first e (λ plan state. LeavesAll old new (ReopensTo plan state))
       (all (of_first live first e (λ plan state. IsHeld old plan state store c later) (subst (λ (s : Option Kept). Holds old (plan_of live) (state_of live) s c later) is h)))
+
+  count : (state_of live).batches ≡ first.batches
+  count = ap (λ (s : State). s.batches) (state_is live.config live.replicas first e)
+
+  -- behind a batch the store may be rotated
+  pub taken_turns : (disk : History) → IfSome live.store (HasTaken disk (state_of live).batches) → MayTurn disk first.batches store
+  taken_turns disk h =
+      let own : IfSome (Some store) (HasTaken disk (state_of live).batches) = subst (λ (s : Option Kept). IfSome s (HasTaken disk (state_of live).batches)) is h in
+      record { open_yet = own.open_yet; rests = own.rests; due = inl own.some; counted = sym count ∙ own.counted }
+
+  -- and before the first one where it is due then
+  pub stale_turns : (disk : History) → is_stale store ≡ true → IfSome live.store (MayRenew disk (state_of live).batches) → MayTurn disk first.batches store
+  stale_turns disk on h =
+      let own = own_renew live store is disk h in
+      record {
+        open_yet = own.open_yet;
+        rests = own.rests;
+        due = due_of store.files.head.format store.files.at store.files.batches on own.format own.filled;
+        counted = sym count ∙ own.counted;
+      }
 
 -- ---- where it is not told
 

@@ -25,7 +25,7 @@ use Rattle.serving.specs.Stored.{IsHeld, LeavesState, ReopensTo, ReopensToEither
 -- ---- batches behind a checkpoint
 
 module _ (tree : Request → Tree Key Cells End) where
-  batches_behind : (state : State) (later : List Batch) → (run tree state (map handed_in later)).batches ≡ state.batches + length later
+  pub batches_behind : (state : State) (later : List Batch) → (run tree state (map handed_in later)).batches ≡ state.batches + length later
   batches_behind state [] = omega arith
   batches_behind state (batch ∷ later) =
       let on = batches_behind (step tree state (handed_in batch)) later in

@@ -86,6 +86,22 @@ pub record HasTaken (disk : History) (batches : ℕ) (store : Kept) : Type 0 whe
   pub some : 1 ≤ store.files.batches
   pub counted : batches ≡ store.files.head.batches + store.files.batches
 
+-- The store may be rotated, and has so many batches: it is not closed, its disk is at rest, and a batch stands in its log or it has
+-- format 1.
+pub record MayTurn (disk : History) (batches : ℕ) (store : Kept) : Type 0 where
+  pub open_yet : store.files.closed ≡ None
+  pub rests : Rests disk store.files
+  pub due : (1 ≤ store.files.batches) ⊎ (store.files.head.format ≡ 1)
+  pub counted : batches ≡ store.files.head.batches + store.files.batches
+
+-- The store was just opened, and has so many batches: it has one of the two formats, and a log that is too long has a batch.
+pub record MayRenew (disk : History) (batches : ℕ) (store : Kept) : Type 0 where
+  pub open_yet : store.files.closed ≡ None
+  pub rests : Rests disk store.files
+  pub format : (store.files.head.format ≡ 1) ⊎ (store.files.head.format ≡ 2)
+  pub filled : (1 ≤ store.files.batches) ⊎ (store.files.at ≤ MOST_LOG)
+  pub counted : batches ≡ store.files.head.batches + store.files.batches
+
 -- where there is a store, it may take a batch
 abbrev pub IsLogging : History → Live → Type 0
 IsLogging disk live = IfSome live.store (GoesOn disk (state_of live).batches)
@@ -118,7 +134,15 @@ logged live calls = record live { store = option_map (with_logged (plan_of live)
 abbrev pub is_due : ℕ → ℕ → ℕ → Bool
 is_due checkpoint number bytes = (nat_lt 0 checkpoint && number % checkpoint == 0) || nat_lt MOST_LOG bytes
 
+-- Before the next batch one is due where the store has format 1, and where its log is too long.
+abbrev pub is_stale : Kept → Bool
+is_stale store = store.files.head.format == 1 || nat_lt MOST_LOG store.files.at
+
 -- where there is a store
+abbrev pub stale_by : Option Kept → Bool
+stale_by None = false
+stale_by (Some store) = is_stale store
+
 abbrev pub due_by : ℕ → ℕ → Option Kept → Bool
 due_by checkpoint number None = false
 due_by checkpoint number (Some store) = is_due checkpoint number store.files.at

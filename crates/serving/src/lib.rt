@@ -1,8 +1,9 @@
-//! A database that is served: its replicas with their settings, the next batch with the text that it
-//! prints, and the batches that run what waits when no new calls come.
+//! A database that is served: its replicas with their settings, and the next batch with the text that it
+//! prints.
 //!
 //! A [`Live`] may have a store: [`serve_batch`] then adds each batch to the log before it gives a byte
-//! of its answer, and lays a checkpoint behind it where one is due.
+//! of its answer, and lays a checkpoint behind it where one is due. Before the first batch
+//! [`renew_where_stale`] makes a store that was opened one that takes batches.
 //!
 //! ```text
 //!                             ┌──> Store (aria_store): append, behind the answer rotate where due
@@ -15,12 +16,10 @@
 #![tactic(auto)]
 
 mod batches;
-mod drains;
 mod lives;
 mod logs;
 mod rotations;
 
 pub use batches::{Given, serve_batch};
-pub use drains::drain;
 pub use lives::Live;
-pub use rotations::MOST_LOG;
+pub use rotations::{MOST_LOG, renew_where_stale};

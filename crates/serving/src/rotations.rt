@@ -1,4 +1,4 @@
-// The next checkpoint behind a batch, where one is due.
+// The next checkpoint, where one is due: behind a batch, or before the first one.
 ghost use Rattle.std.specs.Prelude.{◌≡◌, ◌≤◌, None, true, [], List, IfErr, IfSome, IsOk, OnOk};
 ghost use Rattle.aria_base.specs.Faults.{Rose};
 ghost use Rattle.batch_engine.specs.Engines.{most_numbered, state_in};
@@ -7,7 +7,7 @@ ghost use Rattle.image_text.specs.Payloads.{Batch};
 ghost use Rattle.slot_images.specs.Images.{Checkpoint};
 ghost use Rattle.serving.specs.Given.{IsUntold};
 ghost use Rattle.serving.specs.Lives.{IsRunnable, plan_of, state_of};
-ghost use Rattle.serving.specs.Stored.{Holds, HoldsTurned, IsHeld, IsLogging, GoesOn, HasTaken, ReopensTo, due_by, is_due, turned, turned_by};
+ghost use Rattle.serving.specs.Stored.{Holds, HoldsTurned, IsHeld, IsLogging, GoesOn, HasTaken, MayRenew, MayTurn, ReopensTo, due_by, is_due, is_stale, stale_by, turned, turned_by};
 
 use crate::batches::Given;
 use crate::lives::Live;
@@ -20,6 +20,9 @@ use std::alloc::Global;
 
 /// How many bytes a log may have between two batches: behind a longer one a checkpoint is laid.
 pub const MOST_LOG: u64 = 1 << 28;
+
+/// The format in which a store takes no batches.
+const FIRST_FORMAT: u8 = 1;
 
 /// Lays the next checkpoint with an empty log, where there is a store and one is due behind the batch
 /// that was run last.
@@ -49,6 +52,37 @@ pub(crate) fn rotate_where_due<D: Disk>(
     rotate(store, alloc, engine, &live.config, disk)
 }
 
+/// Lays the next checkpoint with an empty log, where there is a store that can take no batch as it is:
+/// one of format 1, or with a log longer than `MOST_LOG`.
+pub fn renew_where_stale<D: Disk>(live: &mut Live, alloc: Global, disk: &mut D) -> Result<(), Given>
+    requires runnable { IsRunnable live.old }
+    requires kept { IfSome live.old.store (MayRenew (D.history disk.old) (state_of live.old).batches) }
+    ensures turned { OnOk result (live.new ≡ record live.old { store = turned_by (stale_by live.old.store) (state_of live.old) live.old.store }) }
+    ensures logging { OnOk result (IsLogging (D.history disk.new) live.new) }
+    ensures holds { OnOk result ((c : Checkpoint) (later : List Batch) → Holds (D.history disk.old) (plan_of live.old) (state_of live.old) live.old.store c later → HoldsTurned (stale_by live.old.store) (D.history disk.new) (plan_of live.old) (state_of live.old) live.new.store c later) }
+
+    // A stop at any moment leaves this state.
+    ensures images { (c : Checkpoint) (later : List Batch) → Holds (D.history disk.old) (plan_of live.old) (state_of live.old) live.old.store c later → LeavesAll (D.history disk.old) (D.history disk.new) (ReopensTo (plan_of live.old) (state_of live.old)) }
+    ensures untouched { live.old.store ≡ None → disk.new ≡ disk.old }
+    ensures disk { OnOk result ((D.history disk.old).faults ≤ (D.history disk.new).faults) }
+    ensures cause { IfErr result (λ why. IsUntold why ⊥ (Rose (D.history disk.old).faults (D.history disk.new).faults)) }
+{
+    let Some(store) = &mut live.store else {
+        return Ok(());
+    };
+    if !is_stale(store) {
+        return Ok(());
+    }
+    rotate(store, alloc, live.replicas.first(), &live.config, disk)
+}
+
+/// Whether a store can take no batch as it is.
+fn is_stale(store: &Store) -> bool
+    ensures { result ≡ is_stale store.now }
+{
+    store.format() == FIRST_FORMAT || MOST_LOG < store.log_len()
+}
+
 /// Whether a checkpoint is due behind the batch with this number, where the log has so many bytes.
 fn rotation_due(checkpoint: u32, number: u64, bytes: u64) -> bool
     ensures { result ≡ is_due checkpoint number bytes }
@@ -56,7 +90,7 @@ fn rotation_due(checkpoint: u32, number: u64, bytes: u64) -> bool
     (0 < checkpoint && number % u64::from(checkpoint) == 0) || MOST_LOG < bytes
 }
 
-/// Lays the checkpoint of this engine, whose last batch was run by these settings.
+/// Lays the checkpoint of this engine with these settings.
 fn rotate<D: Disk>(
     store: &mut Store,
     alloc: Global,
@@ -64,7 +98,7 @@ fn rotate<D: Disk>(
     config: &Config,
     disk: &mut D,
 ) -> Result<(), Given>
-    requires taken { HasTaken (D.history disk.old) engine.now.batches store.old }
+    requires may { MayTurn (D.history disk.old) engine.now.batches store.old }
     requires fallback { config.now.fallback ≤ 101 }
     ensures turned { OnOk result (store.new ≡ turned true (state_in config.now engine.now) store.old) }
     ensures goes_on { OnOk result (GoesOn (D.history disk.new) engine.now.batches store.new) }

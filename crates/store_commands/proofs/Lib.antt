@@ -1,3 +1,4 @@
 mod Drafted
 mod Ended
+mod Replayed
 mod Whole

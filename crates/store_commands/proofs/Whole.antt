@@ -1,6 +1,7 @@
 -- A head as a whole: what was read of it, and its end.
-use Rattle.std.proofs.Common.{◌≡◌, ◌≢◌, subst, ap, sym, ℕ, Bool, List, Option, Some, None}
-use Rattle.std.specs.Prelude.{Result, Ok, Err, IfSome}
+use Rattle.std.proofs.Common.{◌≡◌, ◌≢◌, subst, ap, sym, refl, ℕ, Bool, List, [], ◌∷◌, ◌++◌, Option, Some, None}
+use Rattle.std.specs.Prelude.{Result, Ok, Err, IfErr, IfSome}
+use Rattle.std.specs.Io.KnownBytes.{Appends}
 use Rattle.std.specs.Option.{IsSomeAnd}
 use Rattle.aria_base.specs.Orders.{Database}
 use Rattle.command_words.specs.declared.settings.Init.{Init}
@@ -9,14 +10,17 @@ use Rattle.disk_model.specs.Histories.{History, Still}
 use Rattle.proc_lang.specs.Catalogs.{Plan}
 use Rattle.script_course.proofs.Ends.{completes_on, completes_cut}
 use Rattle.script_course.proofs.Turns.{front_none}
-use Rattle.script_course.specs.Courses.{Course, Goes, Stops, ended, told, told_whole}
+use Rattle.script_course.specs.Causes.{IsCause}
+use Rattle.script_course.specs.Courses.{Course, Goes, Stops, behind, ended, told, told_whole, with_fault, with_last, with_line, with_lines}
 use Rattle.script_course.specs.Served.{Comes, IsGoing, Reaches}
 use Rattle.script_course.specs.declared.stops.Stop.{Stop}
 use Rattle.script_course.specs.declared.stops.Stop.TheVariants as stop
-use Rattle.script_places.specs.Places.{closing}
+use Rattle.script_places.specs.Places.{Asked, asked, closing}
+use Rattle.script_text.specs.Lines.{last_line, scan}
+use Rattle.script_text.specs.declared.refusals.Refusal.{Refusal}
 use Rattle.run_commands.specs.Outs.{no_line}
-use Rattle.store_commands.specs.Drafts.{on_line, read_of, said_by, start, told_of, values_by, values_of}
-use Rattle.store_commands.specs.Inits.{Ends, Inits, IsMade, IsMadeOf, on_end, out_of}
+use Rattle.store_commands.specs.Drafts.{done_by, no_counts, on_line, read_of, said_by, start, told_of, values_by, values_of}
+use Rattle.store_commands.specs.Inits.{Ends, Inits, IsMade, IsMadeOf, IsUngiven, on_end, out_of}
 use Rattle.store_commands.specs.declared.drafts.Draft.{Draft}
 use Rattle.script_course.specs.declared.statuses.TheConstants.{DONE}
 use Rattle.store_commands.proofs.Ended.{looked}
@@ -92,3 +96,52 @@ inits_none settings was left old =
       completes = (always left (λ text. front_none old (out_of settings l.0 text).bytes), tt);
       unwritten = always left (λ text other. still_none was);
     }
+
+-- ---- nothing is printed before the end
+
+-- what goes on has printed nothing so far
+abbrev IsSilent : Course Draft → Type 0
+IsSilent (Goes bytes d) = bytes ≡ []
+IsSilent (Stops bytes) = Unit {0}
+
+silent_by : (d : Draft) (bytes : List ℕ) (asked : Asked) → bytes ≡ [] → IsSilent (behind bytes (done_by d asked))
+silent_by d bytes (Ok asked) none = ap (λ (l : List ℕ). l ++ []) none
+silent_by d bytes (Err kind) none = tt
+
+silent_line : (c : Course Draft) (line : List ℕ) → IsSilent c → IsSilent (with_line on_line c line)
+silent_line (Goes bytes d) line none = silent_by d bytes (asked d.place no_counts line) none
+silent_line (Stops bytes) line none = tt
+
+silent_lines : (lines : List (List ℕ)) (c : Course Draft) → IsSilent c → IsSilent (with_lines on_line c lines)
+silent_lines [] c none = none
+silent_lines (line ∷ lines) c none = silent_lines lines (with_line on_line c line) (silent_line c line none)
+
+silent_fault : (c : Course Draft) (fault : Option Refusal) → IsSilent c → IsSilent (with_fault c fault)
+silent_fault c None none = none
+silent_fault (Goes bytes d) (Some refusal) none = tt
+silent_fault (Stops bytes) (Some refusal) none = tt
+
+silent_last : (c : Course Draft) (last : Option (List ℕ)) → IsSilent c → IsSilent (with_last on_line c last)
+silent_last c None none = none
+silent_last c (Some line) none = silent_line c line none
+
+silent : (text : List ℕ) → IsSilent (read_of text)
+silent text =
+    let scanned = scan no_line text in
+    silent_last (told on_line no_line start text) (last_line scanned.feed)
+    (silent_fault (with_lines on_line (Goes [] start) scanned.lines) scanned.fault (silent_lines scanned.lines (Goes [] start) refl))
+
+none_given : (c : Course Draft) (last : Draft) (old mid : Option (List ℕ)) → IsSilent c → IsGoing last c old mid → Appends old mid []
+none_given (Goes bytes d) last old mid none h = subst (λ (l : List ℕ). Appends old mid l) none h.1
+none_given (Stops bytes) last old mid none h = absurd h
+
+-- where the disk failed behind a head that was read to its end, nothing was given
+pub ungiven_on : (left old mid new : Option (List ℕ)) (last : Draft) (result : Result ℕ Stop) → IfSome left (λ text. Reaches (read_of text) old mid (Ok last))
+    → IsUngiven mid new result → IfSome left (λ text. result ≡ Err stop.NoDisk → Appends old new [])
+ungiven_on None old mid new last result h same = tt
+ungiven_on (Some text) old mid new last result h same = λ failed.
+    subst (λ (given : Option (List ℕ)). Appends old given []) (sym (same failed)) (none_given (read_of text) last old mid (silent text) h)
+
+-- where the disk was not called, it did not fail
+pub ungiven_never : (sink : Type 0) (old new : Option (List ℕ)) (result : Result ℕ Stop) → IfErr result (λ why. IsCause why sink ⊥) → IsUngiven old new result
+ungiven_never sink old new result cause failed = absurd (subst (λ (r : Result ℕ Stop). IfErr r (λ why. IsCause why sink ⊥)) failed cause)

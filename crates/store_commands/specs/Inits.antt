@@ -84,6 +84,10 @@ abbrev pub Leaves : {D : Type 0} → (D → History) → D → D → Result ℕ 
 Leaves history old new (Ok ending) = ending ≡ STORE_REFUSED → Still (history old) (history new)
 Leaves history old new (Err why) = StoppedOn history old new why
 
+-- Where the disk failed, nothing was given: no line says that a store was made which then failed.
+abbrev pub IsUngiven : Option (List ℕ) → Option (List ℕ) → Result ℕ Stop → Type 0
+IsUngiven old new result = result ≡ Err stop.NoDisk → new ≡ old
+
 -- ---- the command
 
 -- The output is that by whether a gate was open. Where its status is not that of a store made, nothing was written, whatever

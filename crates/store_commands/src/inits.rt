@@ -1,7 +1,7 @@
 // The command `init`.
 ghost use Rattle.std.specs.Prelude.{◌≡◌, ◌≢◌, ◌≤◌, ◌⊎◌, [], Err, Ok, IfOk, IfErr};
-ghost use Rattle.std.specs.Option.{IsSomeAnd};
-ghost use Rattle.std.specs.Io.KnownBytes.{IsAtEnd};
+ghost use Rattle.std.specs.Option.{IfSome, IsSomeAnd};
+ghost use Rattle.std.specs.Io.KnownBytes.{Appends, IsAtEnd};
 ghost use Rattle.aria_base.specs.Faults.{Rose};
 ghost use Rattle.aria_base.specs.Schemas.{IsConsistent};
 ghost use Rattle.run_commands.specs.Bases.{plan_in};
@@ -10,7 +10,7 @@ ghost use Rattle.script_course.specs.declared.stops.Stop.TheVariants as stop;
 ghost use Rattle.slot_images.specs.Said.{checkpoint_in};
 ghost use Rattle.script_places.specs.Places.{closing};
 ghost use Rattle.store_commands.specs.Drafts.{IsFitting, values_by};
-ghost use Rattle.store_commands.specs.Inits.{Ends, Inits, IsMade, IsMadeOf, Leaves, first_checkpoint, on_end, store_out};
+ghost use Rattle.store_commands.specs.Inits.{Ends, Inits, IsMade, IsMadeOf, IsUngiven, Leaves, first_checkpoint, on_end, store_out};
 ghost use Rattle.script_course.specs.declared.statuses.TheConstants as status;
 
 use crate::drafts::Draft;
@@ -48,6 +48,9 @@ pub fn init<S: Source, K: Sink, D: Disk>(
     ensures made { result ≡ Ok status.DONE → IsMade settings.now (S.left input.old) (D.history disk.new) }
     ensures leaves { Leaves D.history disk.old disk.new result }
 
+    // Where the disk failed, nothing was given: no line told of a store.
+    ensures ungiven { IfSome (S.left input.old) (λ _. result ≡ Err stop.NoDisk → Appends (K.given out.old) (K.given out.new) []) }
+
     // Where nothing was in the way, the store is made or refused, and the input was read to its end.
     ensures status { IfOk result (λ ending. (ending ≡ status.DONE) ⊎ (ending ≡ status.STORE_REFUSED)) }
     ensures end { IfOk result (λ _. IsAtEnd (S.left input.new)) }
@@ -79,6 +82,7 @@ fn close<K: Sink, D: Disk>(
     ensures ends { Ends (λ taken. on_end settings.now taken last) (D.history disk.old) (D.history disk.new) (K.given out.old) (K.given out.new) result }
     ensures made { result ≡ Ok status.DONE → IsSomeAnd (values_by last (closing last.place)) (λ values. IsMadeOf settings.now values (D.history disk.new)) }
     ensures leaves { Leaves D.history disk.old disk.new result }
+    ensures ungiven { IsUngiven (K.given out.old) (K.given out.new) result }
     ensures status { IfOk result (λ ending. (ending ≡ status.DONE) ⊎ (ending ≡ status.STORE_REFUSED)) }
     ensures read { result ≢ Err stop.NoRead }
     ensures sink { K.faults out.old ≤ K.faults out.new }
@@ -107,6 +111,7 @@ fn make<K: Sink, D: Disk>(
     ensures ends { Ends (store_out settings.now) (D.history disk.old) (D.history disk.new) (K.given out.old) (K.given out.new) result }
     ensures made { result ≡ Ok status.DONE → IsMadeOf settings.now (plan_in head, tables) (D.history disk.new) }
     ensures leaves { Leaves D.history disk.old disk.new result }
+    ensures ungiven { IsUngiven (K.given out.old) (K.given out.new) result }
     ensures status { IfOk result (λ ending. (ending ≡ status.DONE) ⊎ (ending ≡ status.STORE_REFUSED)) }
     ensures read { result ≢ Err stop.NoRead }
     ensures sink { K.faults out.old ≤ K.faults out.new }

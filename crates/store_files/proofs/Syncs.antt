@@ -1,11 +1,11 @@
 -- Syncs, and the first checkpoint.
-use Rattle.std.proofs.Common.{◌≡◌, ◌⊎◌, ℕ, ◌^◌, ◌<◌, ◌≤◌, List, [], length, sym, ◌∙◌, subst, ap, arith, inl, inr, Option, None, Some, option_map}
+use Rattle.std.proofs.Common.{◌≡◌, ◌⊎◌, ℕ, ◌^◌, ◌<◌, ◌≤◌, List, [], length, sym, refl, ◌∙◌, subst, ap, arith, inl, inr, Option, None, Some, option_map}
 use Rattle.std.specs.Prelude.{IfSome, ◌%◌}
 use Rattle.std.proofs.lemmas.Bool.{cases_eq}
 use Rattle.disk_model.specs.Files.{File, IsImage, untouched, settled}
-use Rattle.disk_model.specs.Histories.{History, current, EachImage, HasImage, IsStable, MayLeave, Acts, Within, Leaves, LeavesAll}
+use Rattle.disk_model.specs.Histories.{History, current, EachImage, HasImage, IsStable, MayLeave, Acts, Within, Leaves, LeavesAll, Still}
 use Rattle.disk_model.proofs.Images.{untouched_image}
-use Rattle.disk_model.proofs.Spans.{each_more, other_stays, within_call, still_none, leaves_then, leaves_more, leaves_file}
+use Rattle.disk_model.proofs.Spans.{each_more, other_stays, within_call, still_none, still_now, leaves_then, leaves_more, leaves_file}
 use Rattle.input_log.specs.Layout.{Ends, log_of, EndsAt}
 use Rattle.checkpoint.specs.declared.heads.Head.{Head}
 use Rattle.checkpoint.specs.Damage.{IsSound}
@@ -15,6 +15,7 @@ use Rattle.aria_base.specs.Faults.{Rose}
 use Rattle.disk_model.specs.Causes.{FaultOnly}
 use Rattle.disk_model.specs.declared.refusals.LogRefused.{LogRefused}
 use Rattle.disk_model.specs.declared.refusals.LogRefused.TheVariants as refused
+use Rattle.store_files.specs.Attachments.{ReadsAlike, seen_of}
 use Rattle.store_files.specs.Holdings.{IsBehind, Holds, IsSettled}
 use Rattle.store_files.specs.Stores.{Stored, Rests}
 use Rattle.store_files.proofs.Appends.{rests_rotated}
@@ -40,6 +41,28 @@ sync_images a b file acts reads now =
       | inl done ↦ subst (λ (t : Option File). EachImage t (HasImage (current a file))) (sym done) (synced_images (current a file) reads)
       | inr same ↦ subst (λ (t : Option File). EachImage t (HasImage (current a file))) (sym same) (same_images (current a file))
     ])
+
+-- ---- what a read gives
+
+seen_settled : (t : Option File) → seen_of (option_map settled t) ≡ seen_of t
+seen_settled None = refl
+seen_settled (Some f) = refl
+
+pub sync_reads : (a b : History) (file : ℕ) → Acts a b file → (current b file ≡ option_map settled (current a file)) ⊎ (current b file ≡ current a file)
+    → ReadsAlike a b
+sync_reads a b file acts now other = elim (cases_eq other file) [
+  | inl same ↦ subst (λ (n : ℕ). seen_of (current b n) ≡ seen_of (current a n)) (sym same) (elim now [
+    | inl done ↦ ap seen_of done ∙ seen_settled (current a file)
+    | inr still ↦ ap seen_of still
+  ])
+  | inr apart ↦ ap seen_of (acts.others other apart)
+]
+
+pub still_reads : (a b : History) → Still a b → ReadsAlike a b
+still_reads a b still other = ap seen_of (still_now a b still other)
+
+pub reads_then : (a b c : History) → ReadsAlike a b → ReadsAlike b c → ReadsAlike a c
+reads_then a b c first second other = second other ∙ first other
 
 pub sync_leaves : (a b : History) (file : ℕ) → file < 4 → Leaves a b file (HasImage (current a file)) → LeavesAll a b (MayLeave a a.now)
 sync_leaves a b file low all =

@@ -1,6 +1,7 @@
 -- What attaching finds of the slots.
-use Rattle.std.specs.Prelude.{◌≡◌, ◌⊎◌, ℕ, ◌-◌, ◌<◌, nat_lt, Bool, true, false, List, Option, None, Some, IfSome, if◌then◌else◌}
+use Rattle.std.specs.Prelude.{◌≡◌, ◌⊎◌, ℕ, ◌-◌, ◌<◌, nat_lt, Bool, true, false, List, Option, None, Some, IfSome, option_map, if◌then◌else◌}
 use Rattle.aria_base.specs.Faults.{Rose}
+use Rattle.disk_model.specs.Files.{File}
 use Rattle.disk_model.specs.Histories.{History, current, EachImage, MayLeave}
 use Rattle.disk_model.specs.declared.refusals.LogRefused.{LogRefused}
 use Rattle.disk_model.specs.declared.refusals.LogRefused.TheVariants as of_file
@@ -17,6 +18,14 @@ abbrev pub as_store : LogRefused → StoreRefused
 as_store of_file.Memory = Memory
 as_store of_file.DiskFault = DiskFault
 as_store (of_file.Damaged file at) = Damaged file at
+
+-- what a read of a file gives, where the disk tells it
+abbrev pub seen_of : Option File → Option (List ℕ)
+seen_of told = option_map (λ f. f.seen) told
+
+-- each file reads as it did
+abbrev pub ReadsAlike : History → History → Type 0
+ReadsAlike old new = (file : ℕ) → seen_of (current new file) ≡ seen_of (current old file)
 
 -- the slot that is taken, by the heads of both
 abbrev pub pick_of : Option Head → Option Head → Option (ℕ × Head)

@@ -4,7 +4,7 @@ ghost use Rattle.aria_base.specs.Faults.{Rose};
 ghost use Rattle.disk_model.specs.Histories.{current, MayLeave, LeavesAll, Still};
 ghost use Rattle.checkpoint.specs.Slots.{is_open};
 ghost use Rattle.store_files.specs.Holdings.{IsSettled};
-ghost use Rattle.store_files.specs.Attachments.{pick_of, Heads, Chosen, IsTaken, TakeCause};
+ghost use Rattle.store_files.specs.Attachments.{pick_of, Heads, Chosen, IsTaken, ReadsAlike, TakeCause};
 
 use crate::creations::sync_all;
 use crate::refusals::StoreRefused;
@@ -44,6 +44,7 @@ fn gate_open<D: Disk>(disk: &mut D, slot: u8) -> Result<bool, Failed>
 /// Syncs the four files and looks which slot is taken. The other slot's file is not empty then.
 pub fn take_slot<D: Disk>(disk: &mut D) -> Result<(u8, Head), StoreRefused>
     ensures images { LeavesAll (D.history disk.old) (D.history disk.new) (MayLeave (D.history disk.old) (D.history disk.old).now) }
+    ensures reads { ReadsAlike (D.history disk.old) (D.history disk.new) }
     ensures settled { IfOk result (λ _. IsSettled (D.history disk.new)) }
     ensures chosen { IfOk result (λ r. Chosen (D.history disk.new) r.0 r.1) }
     ensures refused { IfErr result (TakeCause (D.history disk.old) (D.history disk.new)) }

@@ -6,6 +6,7 @@ ghost use Rattle.disk_model.specs.Histories.{current, EachImage, HasImage, IsSta
 ghost use Rattle.input_log.specs.Layout.{Ends};
 ghost use Rattle.checkpoint.specs.Damage.{IsSound};
 ghost use Rattle.checkpoint.specs.Gates.{IsShut};
+ghost use Rattle.store_files.specs.Attachments.{ReadsAlike};
 ghost use Rattle.store_files.specs.Holdings.{Holds, IsSettled};
 
 use aria_base::Failed;
@@ -13,20 +14,22 @@ use checkpoint::{Head, blank, lay, show};
 use disk_model::{Disk, LogRefused};
 use input_log::{LogEnd, fresh};
 
-// Syncs a file: every image meanwhile is one from before.
+// Syncs a file: every image meanwhile is one from before, and what a read of each file gives stays.
 fn sync_one<D: Disk>(disk: &mut D, file: u8) -> Result<(), Failed>
     requires { file < 4 }
     ensures images { Leaves (D.history disk.old) (D.history disk.new) file (HasImage (current (D.history disk.old) file)) }
     ensures stable { OnOk result (IsStable (current (D.history disk.new) file)) }
+    ensures reads { ReadsAlike (D.history disk.old) (D.history disk.new) }
     ensures cause { OnErr result (Rose (D.history disk.old).faults (D.history disk.new).faults) }
 {
     disk.sync(file)
 }
 
 /// Syncs the four files: every image meanwhile is one from before, and afterwards the only image of
-/// each file is what a read gives.
+/// each file is what a read gives, which is what it gave before.
 pub fn sync_all<D: Disk>(disk: &mut D) -> Result<(), Failed>
     ensures images { LeavesAll (D.history disk.old) (D.history disk.new) (MayLeave (D.history disk.old) (D.history disk.old).now) }
+    ensures reads { ReadsAlike (D.history disk.old) (D.history disk.new) }
     ensures settled { OnOk result (IsSettled (D.history disk.new)) }
     ensures cause { OnErr result (Rose (D.history disk.old).faults (D.history disk.new).faults) }
 {

@@ -1,4 +1,4 @@
-use Rattle.std.proofs.Common.{◌≡◌, ℕ, ◌+◌, ◌<◌, List, length, drop, Option, Some, ap, subst, sym, arith}
+use Rattle.std.proofs.Common.{◌≡◌, ℕ, ◌+◌, ◌<◌, List, [], ◌∷◌, length, length-append, drop, Option, Some, ap, subst, sym, arith}
 use Rattle.std.specs.Prelude.{IfSome}
 use Rattle.disk_model.specs.Files.{File}
 use Rattle.disk_model.specs.Histories.{current}
@@ -21,6 +21,7 @@ loop-payloads-preserved g c =
     let goes = goes_on told c.loop-payloads.payloads.items c.loop-payloads.at c.in-Some.bytes c.loop-payloads.invariant.goes next in
     record {
       within = omega (arith, within, size);
+      empty = λ none. absurd (let more = ap (λ (l : List Payload). length l) c.in_ok-push.ensures.items in let sum = length-append c.loop-payloads.payloads.items (record { at = c.loop-payloads.at; bytes = c.in-Some.bytes } ∷ []) in omega (arith, none, more, sum));
       still = still_then _ _ _ c.loop-payloads.invariant.still c.in_ok-bytes.ensures.still;
       size = c.loop-payloads.invariant.size;
       goes = subst (λ (at : ℕ). Goes told c.push.new.self.items at) place (subst (λ (ps : List Payload). Goes told ps (c.loop-payloads.at + 5 + length c.in-Some.bytes)) (sym c.in_ok-push.ensures.items) goes);

@@ -1,10 +1,15 @@
 use Rattle.std.proofs.Common.{◌∙◌, take, arith}
 use Rattle.std.specs.Prelude.{Err}
+use Rattle.aria_base.specs.Faults.{Rose}
 use Rattle.std.proofs.lemmas.List.{length-take-le}
 use Rattle.script_course.specs.declared.stops.Stop.TheVariants as stop
 use Rattle.script_course.proofs.Wholes.{comes_on, comes_cut, comes_end, comes_fault, end_before}
 use Rattle.script_course.proofs.Measures.{gone}
 use Rattle.run_commands.specs.Onces.{doing_result, on_line}
+use Rattle.run_commands.proofs.Causes.{read_since, reads_since}
+use Rattle.run_commands.proofs.Feeds.{taken_begun, taken_longest}
+use Rattle.run_commands.proofs.Pieces.{any_kept, cut_kept, end_kept, piece_kept}
+use Rattle.run_commands.proofs.Turns.{none_kept, stays_on, stays_then}
 use Rattle.run_commands.proofs.loops.read_script.Goals as goal
 
 pub returns-in_default-clause-comes : goal.returns-in_default-clause-comes
@@ -13,6 +18,15 @@ returns-in_default-clause-comes g c =
     c.loop-count.invariant.leads (g.S.Source.left c.take.new.self) now (Err stop.NoRead)
     (comes_fault on_line c.loop-count.lines c.loop-count.script.doing (g.S.Source.left c.loop-count.input) (g.S.Source.left c.take.new.self) now c.in_default.ensures.bytes)
 
+pub returns-in_default-clause-keeps : goal.returns-in_default-clause-keeps
+returns-in_default-clause-keeps g c = λ first h.
+    let inv = c.loop-count.invariant.kept first h in
+    let disk = g.D.Disk.history c.loop-count.disk in
+    let now = g.K.Sink.given c.loop-count.out in
+    inv.1 disk now (Err stop.NoRead)
+    (any_kept first c.loop-count.lines c.loop-count.script disk now (g.S.Source.left c.loop-count.input) disk now (Err stop.NoRead)
+    (λ steps. none_kept first steps c.loop-count.script disk now stop.NoRead (λ e. absurd cc) inv.0.holds))
+
 pub returns-then-count-eq0-clause-comes : goal.returns-then-count-eq0-clause-comes
 returns-then-count-eq0-clause-comes g c =
     let left = g.S.Source.left c.loop-count.input in
@@ -20,6 +34,31 @@ returns-then-count-eq0-clause-comes g c =
     let end = end_before left rest c.in-Ok.count c.take.new.buf c.if-count-eq0.true c.in-Ok.ensures.bytes.1 c.in-Ok.ensures.bytes.2 in
     c.loop-count.invariant.leads rest (g.K.Sink.given c.finish.new.out) (doing_result c.finish.result)
     (comes_end on_line c.loop-count.lines c.loop-count.script.doing left rest (g.K.Sink.given c.loop-count.out) (g.K.Sink.given c.finish.new.out) (doing_result c.finish.result) end c.finish.ensures.serves)
+
+pub returns-then-count-eq0-clause-keeps : goal.returns-then-count-eq0-clause-keeps
+returns-then-count-eq0-clause-keeps g c = λ first h.
+    let inv = c.loop-count.invariant.kept first h in
+    let left = g.S.Source.left c.loop-count.input in
+    let rest = g.S.Source.left c.take.new.self in
+    let end = end_before left rest c.in-Ok.count c.take.new.buf c.if-count-eq0.true c.in-Ok.ensures.bytes.1 c.in-Ok.ensures.bytes.2 in
+    let disk = g.D.Disk.history c.finish.new.disk in
+    let given = g.K.Sink.given c.finish.new.out in
+    inv.1 disk given c.finish.result
+    (end_kept first c.loop-count.lines c.loop-count.script (g.D.Disk.history c.loop-count.disk) (g.K.Sink.given c.loop-count.out) left disk given c.finish.result end (c.finish.ensures.keeps first inv.0.holds))
+
+pub returns-then-count-eq0-clause-stays : goal.returns-then-count-eq0-clause-stays
+returns-then-count-eq0-clause-stays g c = λ first h.
+    let inv = c.loop-count.invariant.kept first h in
+    let k = c.finish.ensures.keeps first inv.0.holds in
+    stays_on first (g.D.Disk.history c.loop-count.disk) (g.D.Disk.history c.finish.new.disk) c.args.start c.loop-count.script c.finish.result inv.0 k.stays
+
+pub returns-then-count-eq0-clause-cause : goal.returns-then-count-eq0-clause-cause
+returns-then-count-eq0-clause-cause g c =
+    let start = g.D.Disk.history c.args.disk.now in
+    let now = g.D.Disk.history c.loop-count.disk in
+    let new = g.D.Disk.history c.finish.new.disk in
+    reads_since c.args.start.store c.loop-count.script.store c.loop-count.invariant.store (g.K.Sink.faults c.args.out.now) (g.K.Sink.faults c.loop-count.out) (g.K.Sink.faults c.finish.new.out)
+    c.loop-count.invariant.sink start.faults now.faults new.faults c.loop-count.invariant.faults (Rose (g.S.Source.faults c.args.input.now) (g.S.Source.faults c.take.new.self)) c.finish.result c.finish.ensures.cause
 
 pub loop-count-smaller : goal.loop-count-smaller
 loop-count-smaller g c =
@@ -30,16 +69,31 @@ loop-count-smaller g c =
 pub loop-count-preserved : goal.loop-count-preserved
 loop-count-preserved g c =
     let piece = take c.in-Ok.count c.take.new.buf in
-    let on = gone c.loop-count.lines c.take_piece.new.lines piece c.loop-count.invariant.within c.in-Ok-take_piece.ensures.taken.0 c.in-Ok-take_piece.ensures.taken.1 in
+    let taken = c.in-Ok-take_piece.ensures.taken in
+    let on = gone c.loop-count.lines c.take_piece.new.lines piece c.loop-count.invariant.within taken.0 taken.1 in
     record {
-      store = c.in-Ok-take_piece.ensures.store;
-      untouched = c.take_piece.ensures.untouched ∙ c.loop-count.invariant.untouched;
+      opens = c.in-Ok-take_piece.ensures.open;
+      store = λ none. c.in-Ok-take_piece.ensures.store (c.loop-count.invariant.store none);
+      untouched = λ none. c.take_piece.ensures.untouched (c.loop-count.invariant.store none) ∙ c.loop-count.invariant.untouched none;
       source = omega (arith, c.in-Ok.ensures.kept, c.loop-count.invariant.source);
       sink = omega (arith, c.take_piece.ensures.sink, c.loop-count.invariant.sink);
+      faults = omega (arith, c.in-Ok-take_piece.ensures.disk, c.loop-count.invariant.faults);
       within = on.2;
+      longest = taken_longest c.loop-count.lines c.take_piece.new.lines piece taken.1 c.loop-count.invariant.begun c.loop-count.invariant.longest;
+      begun = taken_begun c.loop-count.lines c.take_piece.new.lines piece taken.1 c.loop-count.invariant.begun;
       leads = λ rest new result h. c.loop-count.invariant.leads rest new result
           (comes_on on_line c.loop-count.lines c.take_piece.new.lines c.loop-count.script.doing c.in-Ok-take_piece.next.doing piece (g.S.Source.left c.loop-count.input) (g.S.Source.left c.take.new.self)
-          (g.K.Sink.given c.loop-count.out) (g.K.Sink.given c.take_piece.new.out) c.in-Ok.ensures.bytes.1 c.in-Ok-take_piece.ensures.serves c.in-Ok-take_piece.ensures.taken.0 c.in-Ok-take_piece.ensures.taken.1 rest new result h);
+          (g.K.Sink.given c.loop-count.out) (g.K.Sink.given c.take_piece.new.out) c.in-Ok.ensures.bytes.1 c.in-Ok-take_piece.ensures.serves taken.0 taken.1 rest new result h);
+      kept = λ first h.
+          let inv = c.loop-count.invariant.kept first h in
+          let now = g.D.Disk.history c.loop-count.disk in
+          let disk = g.D.Disk.history c.take_piece.new.disk in
+          let k = c.in-Ok-take_piece.ensures.keeps first inv.0.holds in (
+            stays_then first now disk c.args.start c.loop-count.script c.in-Ok-take_piece.next inv.0 k.stays,
+            λ new given result rest. inv.1 new given result
+                (piece_kept first c.loop-count.lines c.loop-count.script now (g.K.Sink.given c.loop-count.out) (g.S.Source.left c.loop-count.input) (g.S.Source.left c.take.new.self) piece
+                c.take_piece.new.lines c.in-Ok-take_piece.next disk new (g.K.Sink.given c.take_piece.new.out) given result c.in-Ok.ensures.bytes.1 c.in-Ok-take_piece.ensures.serves taken.0 taken.1 k rest),
+          );
     }
 
 pub returns-in-Err-clause-comes : goal.returns-in-Err-clause-comes
@@ -49,3 +103,21 @@ returns-in-Err-clause-comes g c =
     let new = g.K.Sink.given c.take_piece.new.out in
     c.loop-count.invariant.leads rest new (Err c.in-Err.stop)
     (comes_cut on_line c.loop-count.lines c.loop-count.script.doing piece (g.S.Source.left c.loop-count.input) rest (g.K.Sink.given c.loop-count.out) new c.in-Err.stop c.in-Ok.ensures.bytes.1 c.in-Err.ensures.serves)
+
+pub returns-in-Err-clause-keeps : goal.returns-in-Err-clause-keeps
+returns-in-Err-clause-keeps g c = λ first h.
+    let inv = c.loop-count.invariant.kept first h in
+    let piece = take c.in-Ok.count c.take.new.buf in
+    let disk = g.D.Disk.history c.take_piece.new.disk in
+    let new = g.K.Sink.given c.take_piece.new.out in
+    inv.1 disk new (Err c.in-Err.stop)
+    (cut_kept first c.loop-count.lines c.loop-count.script (g.D.Disk.history c.loop-count.disk) (g.K.Sink.given c.loop-count.out) (g.S.Source.left c.loop-count.input) (g.S.Source.left c.take.new.self) piece disk new
+    c.in-Err.stop c.in-Ok.ensures.bytes.1 c.in-Err.ensures.serves (c.in-Err.ensures.keeps first inv.0.holds))
+
+pub returns-in-Err-clause-cause : goal.returns-in-Err-clause-cause
+returns-in-Err-clause-cause g c =
+    let start = g.D.Disk.history c.args.disk.now in
+    let now = g.D.Disk.history c.loop-count.disk in
+    let new = g.D.Disk.history c.take_piece.new.disk in
+    read_since c.args.start.store c.loop-count.script.store c.loop-count.invariant.store (g.K.Sink.faults c.args.out.now) (g.K.Sink.faults c.loop-count.out) (g.K.Sink.faults c.take_piece.new.out)
+    c.loop-count.invariant.sink start.faults now.faults new.faults c.loop-count.invariant.faults (Rose (g.S.Source.faults c.args.input.now) (g.S.Source.faults c.take.new.self)) c.in-Err.stop c.in-Err.ensures.cause

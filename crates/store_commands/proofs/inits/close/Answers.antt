@@ -1,9 +1,11 @@
+use Rattle.aria_base.specs.Faults.{Rose}
 use Rattle.std.proofs.Common.{rules, Bool}
 use Rattle.script_course.proofs.Turns.{front_none}
 use Rattle.script_course.specs.Served.{Finishes}
 use Rattle.store_commands.specs.Inits.{on_end}
 use Rattle.store_commands.proofs.Drafted.{closed_under}
 use Rattle.store_commands.proofs.Ended.{ends_untouched}
+use Rattle.store_commands.proofs.Whole.{ungiven_never}
 use Rattle.store_commands.proofs.inits.close.Goals as goal
 
 pub make-requires-clause-rows : goal.make-requires-clause-rows
@@ -19,3 +21,6 @@ pub returns-clause-ends : goal.returns-clause-ends
 returns-clause-ends g c =
     let all : (taken : Bool) → Finishes (on_end c.args.settings.now taken c.args.last) (g.K.Sink.given c.args.out.now) (g.K.Sink.given c.refuse.new.out) c.refuse.result = λ taken. search rules in
     ends_untouched (λ taken. on_end c.args.settings.now taken c.args.last) (g.D.Disk.history c.args.disk.now) (g.K.Sink.given c.args.out.now) (g.K.Sink.given c.refuse.new.out) c.refuse.result all
+
+pub returns-clause-ungiven : goal.returns-clause-ungiven
+returns-clause-ungiven g c = ungiven_never (Rose (g.K.Sink.faults c.args.out.now) (g.K.Sink.faults c.refuse.new.out)) (g.K.Sink.given c.args.out.now) (g.K.Sink.given c.refuse.new.out) c.refuse.result c.refuse.ensures.cause

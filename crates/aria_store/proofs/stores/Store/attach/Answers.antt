@@ -1,6 +1,7 @@
 use Rattle.std.proofs.Common.{rules}
 use Rattle.store_files.proofs.Attaching.{still_leaves}
-use Rattle.aria_store.proofs.Attached.{take_refused, later_answer}
+use Rattle.store_files.proofs.Syncs.{reads_then, still_reads}
+use Rattle.aria_store.proofs.Attached.{take_refused, later_answer, told_on}
 use Rattle.aria_store.proofs.stores.Store.attach.Goals as goal
 
 pub returns-in_err-slot-clause-refused : goal.returns-in_err-slot-clause-refused
@@ -17,3 +18,18 @@ pub returns-clause-refused : goal.returns-clause-refused
 returns-clause-refused g c =
     later_answer (g.D.Disk.history c.args.disk.now) (g.D.Disk.history c.take_slot.new.disk) (g.D.Disk.history c.of_slot.new.disk)
     c.take_slot.ensures.images.faults _ c.of_slot.ensures.refused
+
+pub returns-clause-reads : goal.returns-clause-reads
+returns-clause-reads g c =
+    reads_then (g.D.Disk.history c.args.disk.now) (g.D.Disk.history c.take_slot.new.disk) (g.D.Disk.history c.of_slot.new.disk)
+    c.take_slot.ensures.reads (still_reads (g.D.Disk.history c.take_slot.new.disk) (g.D.Disk.history c.of_slot.new.disk) c.of_slot.ensures.still)
+
+pub returns-clause-told : goal.returns-clause-told
+returns-clause-told g c =
+    told_on (g.D.Disk.history c.args.disk.now) (g.D.Disk.history c.of_slot.new.disk)
+    (reads_then (g.D.Disk.history c.args.disk.now) (g.D.Disk.history c.take_slot.new.disk) (g.D.Disk.history c.of_slot.new.disk)
+    c.take_slot.ensures.reads (still_reads (g.D.Disk.history c.take_slot.new.disk) (g.D.Disk.history c.of_slot.new.disk) c.of_slot.ensures.still))
+
+pub returns-in_err-slot-clause-told : goal.returns-in_err-slot-clause-told
+returns-in_err-slot-clause-told g c =
+    told_on (g.D.Disk.history c.args.disk.now) (g.D.Disk.history c.take_slot.new.disk) c.take_slot.ensures.reads

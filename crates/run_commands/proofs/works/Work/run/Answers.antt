@@ -1,20 +1,25 @@
-use Rattle.std.proofs.Common.{refl, subst, ℕ, List, [], ◌∷◌}
+use Rattle.std.proofs.Common.{◌≡◌, ◌≤◌, refl, subst, ℕ, List, [], ◌∷◌}
 use Rattle.std.proofs.KnownBytes.{Appends-nil}
 use Rattle.std.specs.Prelude.{Err}
 use Rattle.std.specs.Io.KnownBytes.{Appends}
 use Rattle.script_course.specs.Courses.{Goes}
 use Rattle.script_course.specs.Served.{Serves}
-use Rattle.serving.specs.Lives.{IsNext, next_text}
+use Rattle.serving.specs.Lives.{IsNext, next_state, next_text, plan_of}
 use Rattle.run_commands.specs.Onces.{behind_batch}
 use Rattle.run_commands.specs.Bases.{plan_in, store_in}
 use Rattle.run_commands.specs.Keeps.{held_of}
 use Rattle.run_commands.specs.Passes.{Line, held_then, on_turn}
 use Rattle.run_commands.specs.Standing.{doing_of, running_of}
-use Rattle.serving.specs.Stored.{IsLogging}
+use Rattle.aria_store.specs.Stands.{added}
+use Rattle.image_text.specs.Payloads.{Batch}
+use Rattle.serving.specs.Stored.{Holds, HoldsTurned, IsLogging, next_due, next_store, stored_state}
+use Rattle.serving.specs.declared.lives.Live.{Live}
+use Rattle.slot_images.specs.Images.{Checkpoint}
 use Rattle.run_commands.specs.declared.bases.Base.TheVariants as base
 use Rattle.run_commands.specs.declared.works.Work.{Work}
 use Rattle.run_commands.proofs.Deeds.{behind_is, text_is}
 use Rattle.run_commands.proofs.Kept.{keeps_none}
+use Rattle.run_commands.proofs.Lined.{ran_held, ran_stays}
 use Rattle.run_commands.proofs.Ran.{begun_holds, held_leaves_all, may_log, open_behind, ran_cut, ran_told}
 use Rattle.run_commands.proofs.Told.{cut_serves, if_told, told_all}
 use Rattle.run_commands.proofs.works.Work.run.Goals as goal
@@ -75,3 +80,43 @@ returns-in_default-clause-keeps g c = λ ck later before line h same is.
     let held = held_of (running_of c.args.place c.args.self) in
     let now = g.K.Sink.given c.args.out.now in
     keeps_none on_turn held_then plan (Line line ∷ []) before held disk now (Appends-nil now) (held_leaves_all disk plan held (store_in c.args.self.base) ck later h)
+
+pub returns-in-Some-clause-stays : goal.returns-in-Some-clause-stays
+returns-in-Some-clause-stays g c = λ first h.
+    let ga = g.K.Sink.given c.args.out.now in
+    let gb = g.K.Sink.given c.serve_batch-next.new.out in
+    let calls = c.args.self.calls.items in
+    let live = c.in-Ok.live in
+    let old = g.D.Disk.history c.args.disk.now in
+    let new = g.D.Disk.history c.serve_batch-next.new.disk in
+    let next : Work = record { calls = c.new.result; base = base.Runs c.in-Some.live; replicas = c.args.self.replicas; each = c.args.self.each } in
+    let tells = c.serve_batch-next.ensures.tells in
+    let r = c.serve_batch-next.result in
+    let told = told_all (next_text live calls) (IsNext live calls) ga gb r c.in-Some.live c.in-Some.is tells in
+    let kept = if_told (next_text live calls) (IsNext live calls) ga gb (λ (n : Live). n.store ≡ next_store live calls) r c.in-Some.live c.in-Some.is tells c.serve_batch-next.ensures.store in
+    let turns = if_told (next_text live calls) (IsNext live calls) ga gb
+    (λ (n : Live). (ck : Checkpoint) (later : List Batch) → Holds old (plan_of live) (stored_state live) live.store ck later
+    → HoldsTurned (next_due live calls) new (plan_of live) (next_state live calls) n.store ck (added later live.config.rule live.config.fallback calls))
+    r c.in-Some.live c.in-Some.is tells c.serve_batch-next.ensures.holds in
+    ran_stays c.args.place c.args.self live c.in-Ok.ensures c.in-Some.live told.1 kept next refl first old new h turns
+
+pub returns-in-Some-clause-held : goal.returns-in-Some-clause-held
+returns-in-Some-clause-held g c = λ first h before same.
+    let ga = g.K.Sink.given c.args.out.now in
+    let gb = g.K.Sink.given c.serve_batch-next.new.out in
+    let calls = c.args.self.calls.items in
+    let live = c.in-Ok.live in
+    let next : Work = record { calls = c.new.result; base = base.Runs c.in-Some.live; replicas = c.args.self.replicas; each = c.args.self.each } in
+    let tells = c.serve_batch-next.ensures.tells in
+    let r = c.serve_batch-next.result in
+    let told = told_all (next_text live calls) (IsNext live calls) ga gb r c.in-Some.live c.in-Some.is tells in
+    let kept = if_told (next_text live calls) (IsNext live calls) ga gb (λ (n : Live). n.store ≡ next_store live calls) r c.in-Some.live c.in-Some.is tells c.serve_batch-next.ensures.store in
+    ran_held c.args.place c.args.self live c.in-Ok.ensures c.in-Some.live told.1 kept next refl before same
+
+pub returns-in-Some-clause-disk : goal.returns-in-Some-clause-disk
+returns-in-Some-clause-disk g c =
+    let old = g.D.Disk.history c.args.disk.now in
+    let new = g.D.Disk.history c.serve_batch-next.new.disk in
+    let calls = c.args.self.calls.items in
+    if_told (next_text c.in-Ok.live calls) (IsNext c.in-Ok.live calls) (g.K.Sink.given c.args.out.now) (g.K.Sink.given c.serve_batch-next.new.out) (λ (n : Live). old.faults ≤ new.faults)
+    c.serve_batch-next.result c.in-Some.live c.in-Some.is c.serve_batch-next.ensures.tells c.serve_batch-next.ensures.disk

@@ -2,11 +2,12 @@ use Rattle.std.proofs.Common.{◌≡◌, ◌∙◌, sym, true, false}
 use Rattle.aria_base.specs.Faults.{Rose}
 use Rattle.std.specs.Prelude.{IsSomeAnd}
 use Rattle.script_course.specs.Courses.{Goes}
-use Rattle.run_commands.specs.Bases.{plan_in, store_in}
+use Rattle.run_commands.specs.Bases.{checkpoint_in, plan_in, store_in}
 use Rattle.run_commands.specs.Keeps.{held_of}
 use Rattle.run_commands.specs.Onces.{behind_batch, doing_result, done, text_of}
 use Rattle.run_commands.specs.Standing.{doing_of, running_of, runs_batch}
 use Rattle.run_commands.proofs.Moved.{moved_to}
+use Rattle.run_commands.proofs.Lined.{quiet_held, quiet_stays}
 use Rattle.run_commands.proofs.Ran.{held_leaves_all}
 use Rattle.run_commands.proofs.Stepped.{causes_more, quiet_keeps, quiet_opens, run_done, run_may, store_on}
 use Rattle.run_commands.proofs.works.Work.with.Goals as goal
@@ -30,7 +31,7 @@ returns-then-runs_batch-clause-keeps g c = λ ck later before line h same is.
 pub returns-clause-open : goal.returns-clause-open
 returns-clause-open g c =
     let off : runs_batch c.args.deed ≡ false = sym c.runs_batch.ensures ∙ c.if-runs_batch.false in
-    quiet_opens (g.D.Disk.history c.args.disk.now) (doing_of c.args.place c.args.self) (store_in c.args.self.base) c.requires.open (g.K.Sink.given c.args.out.now) (g.K.Sink.given c.quietly.new.out)
+    quiet_opens (g.D.Disk.history c.args.disk.now) (doing_of c.args.place c.args.self) (store_in c.args.self.base) (checkpoint_in c.args.self.base) c.requires.open (g.K.Sink.given c.args.out.now) (g.K.Sink.given c.quietly.new.out)
     c.args.deed off c.requires.short c.quietly.result c.quietly.ensures.store c.quietly.ensures.serves
 
 pub returns-clause-keeps : goal.returns-clause-keeps
@@ -49,3 +50,15 @@ pub returns-clause-cause : goal.returns-clause-cause
 returns-clause-cause g c =
     let disk = g.D.Disk.history c.args.disk.now in
     causes_more (Rose (g.K.Sink.faults c.args.out.now) (g.K.Sink.faults c.quietly.new.out)) (IsSomeAnd (store_in c.args.self.base) (λ _. Rose disk.faults disk.faults)) c.quietly.result c.quietly.ensures.cause
+
+pub returns-clause-stays : goal.returns-clause-stays
+returns-clause-stays g c = λ first h.
+    let off : runs_batch c.args.deed ≡ false = sym c.runs_batch.ensures ∙ c.if-runs_batch.false in
+    quiet_stays c.args.place c.args.self (g.K.Sink.given c.args.out.now) (g.K.Sink.given c.quietly.new.out) first (g.D.Disk.history c.args.disk.now) h c.args.deed off c.requires.may
+    c.quietly.result c.quietly.ensures.store c.quietly.ensures.checkpoint c.quietly.ensures.serves
+
+pub returns-clause-held : goal.returns-clause-held
+returns-clause-held g c = λ first h before same.
+    let off : runs_batch c.args.deed ≡ false = sym c.runs_batch.ensures ∙ c.if-runs_batch.false in
+    quiet_held c.args.place c.args.self (g.K.Sink.given c.args.out.now) (g.K.Sink.given c.quietly.new.out) first (g.D.Disk.history c.args.disk.now) h c.args.deed off c.requires.may
+    before same c.quietly.result c.quietly.ensures.store c.quietly.ensures.serves

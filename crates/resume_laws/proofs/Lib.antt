@@ -1,0 +1,3 @@
+mod Asks
+mod Catches
+mod Stopped

@@ -1,0 +1,154 @@
+-- The end of a script, by the database that it leaves.
+use Rattle.std.proofs.Common.{◌≡◌, ◌≢◌, ◌∙◌, sym, ap, subst, refl, ℕ, Bool, true, false, List, Option, None}
+use Rattle.std.specs.Prelude.{if◌then◌else◌, Result, Ok, Err, ◌==◌}
+use Rattle.aria_base.specs.declared.calls.Call.{Call}
+use Rattle.aria_base.specs.Streams.{AppendsFront}
+use Rattle.answer_text.specs.Refusals.{refusal_text}
+use Rattle.aria_store.specs.Stands.{Kept}
+use Rattle.dep_rules.specs.declared.configs.Config.{Config}
+use Rattle.aria_base.specs.Orders.{Database}
+use Rattle.disk_model.specs.Histories.{History}
+use Rattle.proc_lang.specs.Catalogs.{Plan}
+use Rattle.cat_text.specs.Texts.{catalog_of}
+use Rattle.script_places.specs.Follows.{HeadStays}
+use Rattle.script_places.specs.Places.{closed_by, closing, next_line, shut, without_head}
+use Rattle.script_places.specs.declared.heads.Head.{Head}
+use Rattle.script_places.specs.declared.heads.Head.TheVariants as head
+use Rattle.script_places.specs.declared.places.Place.{Place}
+use Rattle.script_text.specs.Fits.{and_then}
+use Rattle.script_text.specs.Lines.{line_after}
+use Rattle.script_text.specs.declared.refusals.Kind8.{Kind8}
+use Rattle.script_text.specs.declared.refusals.Kind8.TheVariants as kind
+use Rattle.script_text.specs.declared.refusals.Refusal.{Refusal}
+use Rattle.serving.specs.Lives.{IsLike, plan_of, state_of}
+use Rattle.serving.specs.Stored.{Holds, stored_state}
+use Rattle.serving.specs.declared.lives.Live.{Live}
+use Rattle.run_commands.specs.Bases.{IsListed, IsNamed, checkpoint_in, plan_in, state_in, store_in}
+use Rattle.run_commands.specs.Endings.{HoldsBase, HoldsLive, IsEnd, closing_turns, drains_of, held_in}
+use Rattle.run_commands.specs.Keeps.{HoldsState, Keeps, LeavesLaid}
+use Rattle.run_commands.specs.Onces.{Doing}
+use Rattle.run_commands.specs.Passes.{PassesTurns, ending_of, held_behind}
+use Rattle.run_commands.specs.Standing.{IsOf, doing_of}
+use Rattle.run_commands.specs.declared.bases.Base.{Base}
+use Rattle.run_commands.specs.declared.bases.Base.TheVariants as base
+use Rattle.run_commands.specs.declared.works.Work.{Work}
+use Rattle.run_commands.proofs.Closing.{close_keeps, close_laid, refused_keeps, refused_laid}
+use Rattle.run_commands.proofs.Endings.{holds_laid, holds_leave}
+
+-- ---- the place behind the end of the input
+
+shut_by : (p q : Place) (b : Bool) → (if b then Ok p else Err kind.Unfinished) ≡ Ok q → q.lines ≡ p.lines
+shut_by p q true e = let same : p ≡ q = cc in ap (λ (x : Place). x.lines) (sym same)
+shut_by p q false e = absurd cc
+
+text_by : (p q : Place) (r : Result Plan Kind8) → and_then shut (and_then (λ plan. Ok (record p { head = head.Ready plan })) r) ≡ Ok q → q.lines ≡ p.lines
+text_by p q (Ok plan) e = shut_by (record p { head = head.Ready plan }) q (p.open_calls == 0) e
+text_by p q (Err why) e = absurd cc
+
+line_by : (p q : Place) (h : Head) → closed_by p h ≡ Ok q → q.lines ≡ p.lines
+line_by p q head.Unnamed e = shut_by p q (p.open_calls == 0) e
+line_by p q (head.Ready plan) e = shut_by p q (p.open_calls == 0) e
+line_by p q (head.Text text) e = text_by (without_head p) q (catalog_of text) e
+
+-- the end counts as a line
+pub closing_line : (p q : Place) → closing p ≡ Ok q → q.lines ≡ line_after p.lines
+closing_line p q e = line_by (next_line p) q p.head e
+
+pub end_is : (p q : Place) (work : Work) (line : ℕ) → closing p ≡ Ok q → line ≡ line_after p.lines → IsEnd (plan_in q.head) work.each line (state_in work.base) (doing_of q work)
+end_is p q work line e same = record { plan_is = refl; each_is = refl; line_is = closing_line p q e ∙ sym same; state_is = refl }
+
+-- a database with a store has a catalogue, and keeps it
+pub plan_stays : (h next : Head) (calls : List Call) (b : Base) → HeadStays h next → IsOf h calls b → store_in b ≢ None → plan_in next ≡ plan_in h
+plan_stays h next calls (base.Rows tables config) on of some = absurd (some refl)
+plan_stays head.Unnamed next calls (base.Runs live) on of some = absurd of.1
+plan_stays (head.Text text) next calls (base.Runs live) on of some = absurd of.1
+plan_stays (head.Ready plan) next calls (base.Runs live) on of some = ap plan_in on
+
+-- ---- a database that holds something runs
+
+pub store_some : (first : ℕ) (disk : History) (plan : Plan) (b : Base) → HoldsBase first disk plan b → store_in b ≢ None
+store_some first disk plan b h e = subst (λ (s : Option Kept). Holds disk plan (held_in b) s h.c h.later) e h.holds
+
+pub rows_none : (first : ℕ) (disk : History) (plan : Plan) (b : Base) (tables : Database) (config : Config) → b ≡ base.Rows tables config → HoldsBase first disk plan b → ⊥
+rows_none first disk plan b tables config is h = store_some first disk plan b h (ap store_in is)
+
+module _ (h : Head) (b : Base) (each : Bool) (live : Live) (is : b ≡ base.Runs live) (named : IsNamed h b) (listed : IsListed each b) where
+  named_live : plan_of live ≡ plan_in h
+  named_live = subst (λ (x : Base). IsNamed h x) is named
+
+  listed_live : live.each ≡ each
+  listed_live = subst (λ (x : Base). IsListed each x) is listed
+
+  pub end_live : (line : ℕ) (d : Doing) → IsEnd (plan_in h) each line (state_in b) d → IsEnd (plan_of live) live.each line (state_of live) d
+  end_live line d end = record {
+    plan_is = end.plan_is ∙ sym named_live;
+    each_is = end.each_is ∙ sym listed_live;
+    line_is = end.line_is;
+    state_is = end.state_is ∙ ap state_in is;
+  }
+
+  pub holds_live : (first : ℕ) (disk : History) → HoldsBase first disk (plan_in h) b → HoldsLive first disk live
+  holds_live first disk held =
+      subst (λ (p : Plan). HoldsState first live.checkpoint disk p (stored_state live) live.store) (sym named_live) (subst (λ (x : Base). HoldsBase first disk (plan_in h) x) is held)
+
+  -- and what is said of it is said of the database
+  to_base : (P : Plan → Base → Type 0) → P (plan_of live) (base.Runs live) → P (plan_in h) b
+  to_base P p = subst (λ (x : Base). P (plan_in h) x) (sym is) (subst (λ (q : Plan). P q (base.Runs live)) named_live p)
+
+  pub keeps_base : (d : Doing) (old new : History) (ga gb : Option (List ℕ)) → Keeps (PassesTurns (drains_of (state_of live)) d (stored_state live)) (plan_of live) old new ga gb
+      → Keeps (PassesTurns (drains_of (state_in b)) d (held_in b)) (plan_in h) old new ga gb
+  keeps_base d old new ga gb k = to_base (λ plan x. Keeps (PassesTurns (drains_of (state_in x)) d (held_in x)) plan old new ga gb) k
+
+  pub laid_base : (first : ℕ) (d : Doing) (disk : History) → LeavesLaid first live.checkpoint disk (plan_of live) (held_behind (drains_of (state_of live)) d (stored_state live))
+      → LeavesLaid first (checkpoint_in b) disk (plan_in h) (held_behind (drains_of (state_in b)) d (held_in b))
+  laid_base first d disk laid = to_base (λ plan x. LeavesLaid first (checkpoint_in x) disk plan (held_behind (drains_of (state_in x)) d (held_in x))) laid
+
+  pub holds_base : (first : ℕ) (next : Live) (disk : History) → IsLike live next → HoldsLive first disk next → HoldsBase first disk (plan_in h) (base.Runs next)
+  holds_base first next disk like held =
+      subst (λ (p : Plan). HoldsState first next.checkpoint disk p (stored_state next) next.store) (like.plan ∙ named_live) held
+
+  pub checkpoint_base : (next : Live) → IsLike live next → next.checkpoint ≡ checkpoint_in b
+  checkpoint_base next like = like.checkpoint ∙ sym (ap checkpoint_in is)
+
+  pub held_base : (d : Doing) (next : Live) → held_behind (drains_of (state_of live)) d (stored_state live) ≡ stored_state next
+      → held_behind (drains_of (state_in b)) d (held_in b) ≡ held_in (base.Runs next)
+  held_base d next e = to_base (λ plan x. held_behind (drains_of (state_in x)) d (held_in x) ≡ held_in (base.Runs next)) e
+
+-- ---- the whole end, by the script before it
+
+module _ (p q : Place) (work : Work) (is : closing p ≡ Ok q) (stays : HeadStays p.head q.head) (of : IsOf p.head work.calls.items work.base) (drain : Bool) (first : ℕ) (old : History)
+    (h : HoldsBase first old (plan_in p.head) work.base) where
+  same_plan : plan_in q.head ≡ plan_in p.head
+  same_plan = plan_stays p.head q.head work.calls.items work.base stays of (store_some first old (plan_in p.head) work.base h)
+
+  pub closed_holds : HoldsBase first old (plan_in q.head) work.base
+  closed_holds = subst (λ (plan : Plan). HoldsBase first old plan work.base) (sym same_plan) h
+
+  pub closed_keeps : (new : History) (ga gb : Option (List ℕ))
+      → Keeps (PassesTurns (closing_turns drain (state_in work.base)) (doing_of q work) (held_in work.base)) (plan_in q.head) old new ga gb
+      → Keeps (PassesTurns (ending_of drain (doing_of p work)) (doing_of p work) (held_in work.base)) (plan_in p.head) old new ga gb
+  closed_keeps new ga gb k =
+      close_keeps (doing_of p work) (held_in work.base) (closing_turns drain (state_in work.base)) q is (plan_in p.head) old new ga gb
+      (holds_leave first (checkpoint_in work.base) old (plan_in p.head) (held_in work.base) (store_in work.base) h)
+      (subst (λ (plan : Plan). Keeps (PassesTurns (closing_turns drain (state_in work.base)) (doing_of q work) (held_in work.base)) plan old new ga gb) same_plan k)
+
+  pub closed_laid : (new : History) → LeavesLaid first (checkpoint_in work.base) new (plan_in q.head) (held_behind (closing_turns drain (state_in work.base)) (doing_of q work) (held_in work.base))
+      → LeavesLaid first (checkpoint_in work.base) new (plan_in p.head) (held_behind (ending_of drain (doing_of p work)) (doing_of p work) (held_in work.base))
+  closed_laid new laid =
+      close_laid (doing_of p work) (held_in work.base) (closing_turns drain (state_in work.base)) q is first (checkpoint_in work.base) new (plan_in p.head)
+      (subst (λ (plan : Plan). LeavesLaid first (checkpoint_in work.base) new plan (held_behind (closing_turns drain (state_in work.base)) (doing_of q work) (held_in work.base))) same_plan laid)
+
+-- where it is refused
+module _ (p : Place) (work : Work) (refusal : Refusal) (at : refusal.line ≡ line_after p.lines) (is : closing p ≡ Err refusal.kind) (drain : Bool) (first : ℕ) (disk : History)
+    (h : HoldsBase first disk (plan_in p.head) work.base) where
+  pub close_refused : (ga gb : Option (List ℕ)) → AppendsFront ga gb (refusal_text refusal)
+      → Keeps (PassesTurns (ending_of drain (doing_of p work)) (doing_of p work) (held_in work.base)) (plan_in p.head) disk disk ga gb
+  close_refused ga gb front =
+      refused_keeps (doing_of p work) (held_in work.base) (closing_turns drain (state_in work.base)) refusal.kind is (plan_in p.head) disk ga gb
+      (subst (λ (n : ℕ). AppendsFront ga gb (refusal_text (record { line = n; kind = refusal.kind }))) at front)
+      (holds_leave first (checkpoint_in work.base) disk (plan_in p.head) (held_in work.base) (store_in work.base) h)
+
+  pub close_refused_laid : LeavesLaid first (checkpoint_in work.base) disk (plan_in p.head) (held_behind (ending_of drain (doing_of p work)) (doing_of p work) (held_in work.base))
+  close_refused_laid =
+      refused_laid (doing_of p work) (held_in work.base) (closing_turns drain (state_in work.base)) refusal.kind is first (checkpoint_in work.base) disk (plan_in p.head)
+      (holds_laid first (checkpoint_in work.base) disk (plan_in p.head) (held_in work.base) (store_in work.base) h)

@@ -1,0 +1,112 @@
+-- One batch without new calls, as a part of a script.
+use Rattle.std.proofs.Common.{◌≡◌, ◌≢◌, ◌∙◌, inl, inr, sym, ap, subst, refl, ℕ, ◌+◌, ◌<◌, ◌==◌, false, List, [], ◌∷◌, length, Option, Some, None, option_map, arith}
+use Rattle.std.specs.Prelude.{Err}
+use Rattle.aria_base.specs.declared.calls.Call.{Call}
+use Rattle.aria_store.specs.Stands.{Kept, added}
+use Rattle.batch_core.specs.Steps.{State}
+use Rattle.batch_engine.specs.Engines.{most_numbered}
+use Rattle.disk_model.specs.Histories.{History, LeavesAll}
+use Rattle.image_text.specs.Payloads.{Batch}
+use Rattle.script_course.specs.Courses.{Course}
+use Rattle.script_course.specs.Served.{IsGoing, Serves}
+use Rattle.script_course.specs.declared.stops.Stop.{Stop}
+use Rattle.script_course.specs.declared.stops.Stop.TheVariants as stop
+use Rattle.serving.specs.Drains.{one_drained}
+use Rattle.serving.specs.Given.{IfTold, IsAnswered, Tells}
+use Rattle.serving.specs.Lives.{IsLike, IsNext, next_state, next_text, plan_of, state_of}
+use Rattle.serving.specs.Stored.{Holds, HoldsTurned, LeavesState, ReopensToEither, next_batch, next_due, next_store, stored_state, turned_by, with_logged}
+use Rattle.serving.specs.declared.batches.Given.{Given}
+use Rattle.serving.specs.declared.batches.Given.TheVariants as given
+use Rattle.serving.specs.declared.lives.Live.{Live}
+use Rattle.slot_images.specs.Images.{Checkpoint}
+use Rattle.run_commands.specs.Endings.{HoldsLive, IsEnd}
+use Rattle.run_commands.specs.Keeps.{Keeps}
+use Rattle.run_commands.specs.Onces.{Doing}
+use Rattle.run_commands.specs.Passes.{Drain, PassesTurns}
+use Rattle.run_commands.specs.Stops.{IsStopFor}
+use Rattle.run_commands.proofs.Drained.{one_is}
+use Rattle.run_commands.proofs.Endings.{drain_cut, drain_told}
+use Rattle.run_commands.proofs.Told.{cut_front, cut_serves, if_told, told_all, told_is}
+use Rattle.run_commands.proofs.Turned.{told_next, turned, turned_next}
+
+-- something waits
+pub some_waits : (n : ℕ) → 0 < n → (n == 0) ≡ false
+some_waits n some = grind (arith, some)
+
+-- a batch that was not told is not refused
+pub not_refused : (why : Given) (s : Stop) → IsStopFor why s → s ≢ stop.Refused
+not_refused given.Told s k = absurd k
+not_refused given.NoMemory s k = λ e. absurd (let no : stop.NoMemory ≡ stop.Refused = sym k ∙ e in cc)
+not_refused given.NoWrite s k = λ e. absurd (let no : stop.NoWrite ≡ stop.Refused = sym k ∙ e in cc)
+not_refused given.NoDisk s k = λ e. absurd (let no : stop.NoDisk ≡ stop.Refused = sym k ∙ e in cc)
+
+module _ (live : Live) (calls : List Call) (none : calls ≡ []) (line : ℕ) (below : (state_of live).batches < most_numbered) (ga gb : Option (List ℕ)) (r : Option Live × Given)
+    (tells : Tells (next_text live calls) (IsNext live calls) ga gb r) where
+  pub one_told : (next : Live) → r.0 ≡ Some next → IsGoing (state_of next) (one_drained (plan_of live) live.each line (state_of live)) ga gb
+  one_told next e =
+      let told = told_all (next_text live calls) (IsNext live calls) ga gb r next e tells in
+      subst (λ (c : Course State). IsGoing (state_of next) c ga gb) (sym (one_is live calls none line below)) (told.1.state, told.0)
+
+  pub one_cut : (s : Stop) → r.0 ≡ None → IsStopFor r.1 s → Serves {R = State} (one_drained (plan_of live) live.each line (state_of live)) ga gb (Err s)
+  one_cut s e k =
+      subst (λ (c : Course State). Serves {R = State} c ga gb (Err s)) (sym (one_is live calls none line below))
+      (cut_serves (next_text live calls) (IsNext live calls) ga gb (next_state live calls) r s e tells k)
+
+  -- ---- the database that goes on
+
+  module _ (next : Live) (e : r.0 ≡ Some next) where
+    pub next_here : IsNext live calls next
+    next_here = (told_all (next_text live calls) (IsNext live calls) ga gb r next e tells).1
+
+    pub told_here : (P : Live → Type 0) → IfTold r P → P next
+    told_here P p = if_told (next_text live calls) (IsNext live calls) ga gb P r next e tells p
+
+    pub like_next : IsLike live next
+    like_next = record {
+      plan = next_here.plan;
+      config = next_here.config;
+      each = next_here.each;
+      checkpoint = next_here.checkpoint;
+      count = next_here.count;
+      runnable = next_here.runnable;
+    }
+
+    pub counted_next : (state_of next).batches ≡ (state_of live).batches + 1
+    counted_next = ap (λ (s : State). s.batches) next_here.state
+
+    module _ (kept : IfTold r (λ (n : Live). n.store ≡ next_store live calls)) where
+      store_is : next.store ≡ next_store live calls
+      store_is = told_here (λ (n : Live). n.store ≡ next_store live calls) kept
+
+      pub stored_next : stored_state next ≡ state_of next
+      stored_next = told_next live next calls next_here store_is ∙ sym next_here.state
+
+      pub none_next : live.store ≡ None → next.store ≡ None
+      none_next off =
+          store_is ∙ ap (λ (s : Option Kept). turned_by (next_due live calls) (next_state live calls) (option_map (with_logged (plan_of live) (next_batch live calls)) s)) off
+
+      pub holds_next : (first : ℕ) (old new : History)
+          → IfTold r (λ (n : Live). (c : Checkpoint) (later : List Batch) → Holds old (plan_of live) (stored_state live) live.store c later
+          → HoldsTurned (next_due live calls) new (plan_of live) (next_state live calls) n.store c (added later live.config.rule live.config.fallback calls))
+          → HoldsLive first old live → HoldsLive first new next
+      holds_next first old new turns h =
+          turned_next first live next calls new next_here store_is
+          (turned first live calls old new next.store h
+          (told_here (λ (n : Live). (c : Checkpoint) (later : List Batch) → Holds old (plan_of live) (stored_state live) live.store c later
+          → HoldsTurned (next_due live calls) new (plan_of live) (next_state live calls) n.store c (added later live.config.rule live.config.fallback calls)) turns))
+
+  -- ---- what is kept
+
+  module _ (some : (length (state_of live).waiting == 0) ≡ false) (d : Doing) (end : IsEnd (plan_of live) live.each line (state_of live) d) (a b : History)
+      (all : LeavesAll a b (ReopensToEither (plan_of live) (stored_state live) (next_state live calls)))
+      (given : IsAnswered ga gb r.1 → LeavesState b (plan_of live) (next_state live calls)) where
+    pub keeps_told : (next : Live) → r.0 ≡ Some next → Keeps (PassesTurns (Drain ∷ []) d (stored_state live)) (plan_of live) a b ga gb
+    keeps_told next e =
+        let whole = (told_all (next_text live calls) (IsNext live calls) ga gb r next e tells).0 in
+        drain_told (plan_of live) live.each line (state_of live) d end some (stored_state live) (next_state live calls) (next_text live calls) (one_is live calls none line below) refl a b ga gb
+        whole all (given (inl (told_is (next_text live calls) (IsNext live calls) ga gb r next e tells)))
+
+    pub keeps_cut : r.0 ≡ None → Keeps (PassesTurns (Drain ∷ []) d (stored_state live)) (plan_of live) a b ga gb
+    keeps_cut e =
+        drain_cut (plan_of live) live.each line (state_of live) d end some (stored_state live) (next_state live calls) (next_text live calls) (one_is live calls none line below) refl a b ga gb
+        (cut_front (next_text live calls) (IsNext live calls) ga gb r e tells) all (λ other. given (inr other))

@@ -1,0 +1,170 @@
+-- The loop that drains what waits, over a store.
+use Rattle.std.proofs.Common.{◌≡◌, ◌∙◌, sym, ap, subst, refl, ℕ, ◌+◌, ◌-◌, ◌<◌, ◌≤◌, ◌==◌, true, false, List, [], ◌∷◌, length, replicate, Option, Some, None, IsSomeAnd, inl, inr, arith}
+use Rattle.std.specs.Prelude.{Result}
+use Rattle.std.specs.Io.KnownBytes.{Appends}
+use Rattle.std.proofs.KnownBytes.{Appends-nil}
+use Rattle.aria_base.specs.Faults.{Rose}
+use Rattle.aria_store.specs.Stands.{Kept}
+use Rattle.batch_core.specs.Steps.{State}
+use Rattle.disk_model.specs.Histories.{History}
+use Rattle.proc_lang.specs.Catalogs.{Plan}
+use Rattle.script_course.specs.Causes.{IsCause}
+use Rattle.script_course.specs.Courses.{Course, Goes, Stops}
+use Rattle.script_course.specs.Served.{IsGoing, IsStopped, Serves}
+use Rattle.script_course.specs.declared.stops.Stop.{Stop}
+use Rattle.script_course.specs.declared.stops.Stop.TheVariants as stop
+use Rattle.serving.specs.Drains.{drained, drains, one_drained}
+use Rattle.serving.specs.Lives.{IsLike, IsRunnable, plan_of, state_of}
+use Rattle.serving.specs.Stored.{stored_state}
+use Rattle.serving.specs.declared.lives.Live.{Live}
+use Rattle.run_commands.specs.Endings.{HoldsLive, IsEnd, drains_of}
+use Rattle.run_commands.specs.Keeps.{Keeps, LeavesLaid}
+use Rattle.run_commands.specs.Onces.{Doing}
+use Rattle.run_commands.specs.Passes.{Drain, PassesTurns, Turn, as_doing, held_behind, held_by_step, held_over, held_then, on_drain, on_turn}
+use Rattle.run_commands.proofs.Drained.{fuel}
+use Rattle.run_commands.proofs.Endings.{drain_is, held_after, holds_laid, holds_leave, none_held}
+use Rattle.run_commands.proofs.Kept.{keeps_cut, keeps_none, keeps_on}
+
+-- ---- faults
+
+rose_on : (a b c : ℕ) → a ≤ b → Rose b c → Rose a c
+rose_on a b c le (inl less) = inl (omega (arith, le, less))
+rose_on a b c le (inr last) = inr last
+
+disk_on : (start now : Option Kept) (a b c : ℕ) → (start ≡ None → now ≡ None) → a ≤ b → IsSomeAnd now (λ _. Rose b c) → IsSomeAnd start (λ _. Rose a c)
+disk_on None now a b c none le h = absurd (subst (λ (s : Option Kept). IsSomeAnd s (λ _. Rose b c)) (none refl) h)
+disk_on (Some store) None a b c none le h = absurd h
+disk_on (Some store) (Some now) a b c none le h = rose_on a b c le h
+
+-- a fault of a later call is one of all
+pub cause_on : (start now : Option Kept) (why : Stop) (sa sb sc da db dc : ℕ) → (start ≡ None → now ≡ None) → sa ≤ sb → da ≤ db → IsCause why (Rose sb sc) (IsSomeAnd now (λ _. Rose db dc))
+    → IsCause why (Rose sa sc) (IsSomeAnd start (λ _. Rose da dc))
+cause_on start now stop.Refused sa sb sc da db dc none s d h = tt
+cause_on start now stop.NoMemory sa sb sc da db dc none s d h = tt
+cause_on start now stop.NoWrite sa sb sc da db dc none s d h = rose_on sa sb sc s h
+cause_on start now stop.NoDisk sa sb sc da db dc none s d h = disk_on start now da db dc none d h
+cause_on start now stop.NoRead sa sb sc da db dc none s d h = absurd h
+
+-- ---- the first turn of those that are left
+
+pub going_is : (c : Course State) (next : State) (ga gb : Option (List ℕ)) → IsGoing next c ga gb → (bytes : List ℕ) × ((c ≡ Goes bytes next) × Appends ga gb bytes)
+going_is (Goes bytes s) next ga gb h = (bytes, (ap (λ (q : State). Goes bytes q) (sym h.0), h.1))
+going_is (Stops bytes) next ga gb h = absurd h
+
+stopped_is : (c : Course State) (ga gb : Option (List ℕ)) → IsStopped c ga gb → (bytes : List ℕ) × (c ≡ Stops bytes)
+stopped_is (Goes bytes s) ga gb h = absurd h
+stopped_is (Stops bytes) ga gb h = (bytes, refl)
+
+module _ (start live : Live) (line n i : ℕ) (d : Doing) (end : IsEnd (plan_of start) start.each line (state_of start) d) (like : IsLike start live) where
+  abbrev Here : Doing
+  Here = record d { state = state_of live }
+
+  pub here_end : IsEnd (plan_of live) live.each line (state_of live) Here
+  here_end = record { plan_is = end.plan_is ∙ sym like.plan; each_is = end.each_is ∙ sym like.each; line_is = end.line_is; state_is = refl }
+
+  -- nothing more is done
+  pub keeps_here : (first : ℕ) (steps : List Turn) (disk : History) (g : Option (List ℕ)) → HoldsLive first disk live → Keeps (PassesTurns steps Here (stored_state live)) (plan_of start) disk disk g g
+  keeps_here first steps disk g h =
+      subst (λ (p : Plan). Keeps (PassesTurns steps Here (stored_state live)) p disk disk g g) like.plan
+      (keeps_none on_turn held_then (plan_of live) steps Here (stored_state live) disk g (Appends-nil g)
+      (holds_leave first live.checkpoint disk (plan_of live) (stored_state live) live.store h))
+
+  pub none_left : (length (state_of live).waiting == 0) ≡ true → held_behind (replicate (n - i) Drain) Here (stored_state live) ≡ stored_state live
+  none_left none = none_held (n - i) Here (stored_state live) none
+
+  module _ (within : i < n) (some : (length (state_of live).waiting == 0) ≡ false) where
+    abbrev Rest : List Turn
+    Rest = replicate (n - (i + 1)) Drain
+
+    turns_next : replicate (n - i) Drain ≡ Drain ∷ Rest
+    turns_next = ap (λ (m : ℕ). replicate m Drain) (fuel n i within)
+
+    drain_here : on_drain Here ≡ as_doing Here (one_drained (plan_of live) live.each line (state_of live))
+    drain_here = drain_is (plan_of live) live.each line (state_of live) Here here_end some
+
+    module _ (next : Live) (ga gb : Option (List ℕ)) (counted : (state_of next).batches ≡ (state_of live).batches + 1) (told : stored_state next ≡ state_of next)
+        (serves : IsGoing (state_of next) (one_drained (plan_of live) live.each line (state_of live)) ga gb) where
+      abbrev Next : Doing
+      Next = record d { state = state_of next }
+
+      abbrev Printed : List ℕ
+      Printed = (going_is (one_drained (plan_of live) live.each line (state_of live)) (state_of next) ga gb serves).0
+
+      next_is : on_drain Here ≡ Goes Printed Next
+      next_is = drain_here ∙ ap (λ (c : Course State). as_doing Here c) (going_is (one_drained (plan_of live) live.each line (state_of live)) (state_of next) ga gb serves).1.0
+
+      next_held : held_then (stored_state live) Here Next ≡ stored_state next
+      next_held = held_after (stored_state live) Here Next counted ∙ sym told
+
+      -- what is held behind all is held behind those that are left
+      pub held_next : held_behind Rest Next (stored_state next) ≡ held_behind (replicate (n - i) Drain) Here (stored_state live)
+      held_next =
+          ap (λ (s : State). held_behind Rest Next s) (sym next_held)
+          ∙ ap (λ (c : Course Doing). held_by_step on_turn held_then Here (stored_state live) (held_over on_turn held_then Rest) c) (sym next_is)
+          ∙ ap (λ (steps : List Turn). held_behind steps Here (stored_state live)) (sym turns_next)
+
+      pub keeps_next : (a b c : History) (gc : Option (List ℕ)) → Keeps (PassesTurns (Drain ∷ []) Here (stored_state live)) (plan_of live) a b ga gb
+          → Keeps (PassesTurns Rest Next (stored_state next)) (plan_of start) b c gb gc → Keeps (PassesTurns (replicate (n - i) Drain) Here (stored_state live)) (plan_of start) a c ga gc
+      keeps_next a b c gc k l =
+          subst (λ (steps : List Turn). Keeps (PassesTurns steps Here (stored_state live)) (plan_of start) a c ga gc) (sym turns_next)
+          (keeps_on on_turn held_then (plan_of start) Drain Rest Here Next (stored_state live) Printed a b c ga gb gc next_is
+          (going_is (one_drained (plan_of live) live.each line (state_of live)) (state_of next) ga gb serves).1.1
+          (subst (λ (p : Plan). Keeps (PassesTurns (Drain ∷ []) Here (stored_state live)) p a b ga gb) like.plan k)
+          (subst (λ (s : State). Keeps (PassesTurns Rest Next s) (plan_of start) b c gb gc) (sym next_held) l))
+
+    -- one that was cut off
+    pub keeps_stop : (a b : History) (ga gb : Option (List ℕ)) → Keeps (PassesTurns (Drain ∷ []) Here (stored_state live)) (plan_of live) a b ga gb
+        → Keeps (PassesTurns (replicate (n - i) Drain) Here (stored_state live)) (plan_of start) a b ga gb
+    keeps_stop a b ga gb k =
+        subst (λ (steps : List Turn). Keeps (PassesTurns steps Here (stored_state live)) (plan_of start) a b ga gb) (sym turns_next)
+        (keeps_cut on_turn held_then (plan_of start) Drain Rest Here (stored_state live) a b ga gb
+        (subst (λ (p : Plan). Keeps (PassesTurns (Drain ∷ []) Here (stored_state live)) p a b ga gb) like.plan k))
+
+    -- one that was refused
+    pub held_refused : (ga gb : Option (List ℕ)) → IsStopped (one_drained (plan_of live) live.each line (state_of live)) ga gb
+        → held_behind (replicate (n - i) Drain) Here (stored_state live) ≡ stored_state live
+    held_refused ga gb h =
+        let stops = stopped_is (one_drained (plan_of live) live.each line (state_of live)) ga gb h in
+        let is : on_drain Here ≡ Stops stops.0 = drain_here ∙ ap (λ (c : Course State). as_doing Here c) stops.1 in
+        ap (λ (steps : List Turn). held_behind steps Here (stored_state live)) turns_next
+        ∙ ap (λ (c : Course Doing). held_by_step on_turn held_then Here (stored_state live) (held_over on_turn held_then Rest) c) is
+
+-- ---- before the first turn
+
+pub like_self : (live : Live) → IsRunnable live → IsLike live live
+like_self live runnable = record { plan = refl; config = refl; each = refl; checkpoint = refl; count = refl; runnable = runnable }
+
+less_none : (n : ℕ) → n - 0 ≡ n
+less_none n = omega arith
+
+pub leads_init : (start : Live) (line : ℕ) (now new : Option (List ℕ)) (result : Result State Stop)
+    → Serves (drained (plan_of start) start.each line (length (state_of start).waiting - 0) (state_of start)) now new result
+    → Serves (drains (plan_of start) start.each line (state_of start)) now new result
+leads_init start line now new result h =
+    subst (λ (m : ℕ). Serves (drained (plan_of start) start.each line m (state_of start)) now new result) (less_none (length (state_of start).waiting)) h
+
+module _ (start : Live) (line : ℕ) (d : Doing) (end : IsEnd (plan_of start) start.each line (state_of start) d) where
+  doing_init : record d { state = state_of start } ≡ d
+  doing_init = ap (λ (s : State). record d { state = s }) (sym end.state_is)
+
+  pub held_init : held_behind (replicate (length (state_of start).waiting - 0) Drain) (record d { state = state_of start }) (stored_state start)
+      ≡ held_behind (drains_of (state_of start)) d (stored_state start)
+  held_init =
+      ap (λ (m : ℕ). held_behind (replicate m Drain) (record d { state = state_of start }) (stored_state start)) (less_none (length (state_of start).waiting))
+      ∙ ap (λ (x : Doing). held_behind (drains_of (state_of start)) x (stored_state start)) doing_init
+
+  pub keeps_init : (a b : History) (ga gb : Option (List ℕ))
+      → Keeps (PassesTurns (replicate (length (state_of start).waiting - 0) Drain) (record d { state = state_of start }) (stored_state start)) (plan_of start) a b ga gb
+      → Keeps (PassesTurns (drains_of (state_of start)) d (stored_state start)) (plan_of start) a b ga gb
+  keeps_init a b ga gb k =
+      subst (λ (x : Doing). Keeps (PassesTurns (drains_of (state_of start)) x (stored_state start)) (plan_of start) a b ga gb) doing_init
+      (subst (λ (m : ℕ). Keeps (PassesTurns (replicate m Drain) (record d { state = state_of start }) (stored_state start)) (plan_of start) a b ga gb)
+      (less_none (length (state_of start).waiting)) k)
+
+-- ---- what a disk holds of a database that stands further on
+
+pub laid_here : (first : ℕ) (start live : Live) (disk : History) → IsLike start live → HoldsLive first disk live → LeavesLaid first start.checkpoint disk (plan_of start) (stored_state live)
+laid_here first start live disk like h =
+    subst (λ (n : ℕ). LeavesLaid first n disk (plan_of start) (stored_state live)) like.checkpoint
+    (subst (λ (p : Plan). LeavesLaid first live.checkpoint disk p (stored_state live)) like.plan
+    (holds_laid first live.checkpoint disk (plan_of live) (stored_state live) live.store h))

@@ -1,0 +1,222 @@
+-- A line over a store: what the script that goes on holds behind it.
+use Rattle.std.proofs.Common.{◌≡◌, ◌≢◌, ◌∙◌, sym, ap, subst, refl, ℕ, ◌+◌, ◌==◌, false, List, [], ◌∷◌, Option, Some, None, IfSome}
+use Rattle.std.specs.Prelude.{Result, Ok, Err, IfOk}
+use Rattle.aria_base.specs.declared.calls.Call.{Call}
+use Rattle.aria_store.specs.Stands.{Kept, added}
+use Rattle.batch_core.specs.Steps.{State}
+use Rattle.batch_rules.specs.declared.verdicts.Rule.{Rule}
+use Rattle.disk_model.specs.Histories.{History}
+use Rattle.image_text.specs.Payloads.{Batch}
+use Rattle.proc_lang.specs.Catalogs.{Plan}
+use Rattle.script_course.specs.Courses.{Stops}
+use Rattle.script_course.specs.Served.{Serves}
+use Rattle.script_course.specs.declared.stops.Stop.{Stop}
+use Rattle.script_places.proofs.Allowed.{follows}
+use Rattle.script_places.specs.Follows.{HeadStays}
+use Rattle.script_places.specs.Places.{asked}
+use Rattle.script_places.specs.declared.deeds.Deed.{Deed}
+use Rattle.script_places.specs.declared.deeds.Deed.TheVariants as deed
+use Rattle.script_places.specs.declared.heads.Head.{Head}
+use Rattle.script_places.specs.declared.heads.Head.TheVariants as head
+use Rattle.script_places.specs.declared.places.Counts.{Counts}
+use Rattle.script_places.specs.declared.places.Place.{Place}
+use Rattle.serving.specs.Lives.{IsNext, next_state, plan_of}
+use Rattle.serving.specs.Stored.{HasLines, Holds, HoldsTurned, next_due, next_store, stored_state, told_by}
+use Rattle.serving.specs.declared.lives.Live.{Live}
+use Rattle.slot_images.specs.Images.{Checkpoint}
+use Rattle.run_commands.specs.Bases.{IsBegun, IsHead, checkpoint_in, counts_of, plan_in, state_in, store_in}
+use Rattle.run_commands.specs.Keeps.{HoldsState, IsOpen, Keeps, held_of}
+use Rattle.run_commands.specs.Onces.{Doing, Running, doing_result, done, on_line, with_call, with_settings, without_calls}
+use Rattle.run_commands.specs.Passes.{Line, PassesTurns, held_then, on_turn}
+use Rattle.run_commands.specs.Standing.{IsOf, MayDo, Stands, doing_of, running_of, runs_batch}
+use Rattle.run_commands.specs.Turns.{HoldsScript, KeepsTurns, Stays}
+use Rattle.run_commands.specs.declared.bases.Base.{Base}
+use Rattle.run_commands.specs.declared.bases.Base.TheVariants as base
+use Rattle.run_commands.specs.declared.works.Work.{Work}
+use Rattle.run_commands.proofs.Asked.{line_is}
+use Rattle.run_commands.proofs.Endings.{held_after}
+use Rattle.run_commands.proofs.Ran.{held_is}
+use Rattle.run_commands.proofs.Stepped.{quiet_count, same_count, when_true}
+use Rattle.run_commands.proofs.Turned.{told_next, turned, turned_next}
+use Rattle.run_commands.proofs.Turns.{goes_to, held_one, not_both, stop_in, stops_to}
+
+-- ---- only with a store something is held
+
+store_some : (first checkpoint : ℕ) (disk : History) (plan : Plan) (state : State) (store : Option Kept) → HoldsState first checkpoint disk plan state store → store ≢ None
+store_some first checkpoint disk plan state None h = absurd h.holds
+store_some first checkpoint disk plan state (Some store) h = λ e. absurd cc
+
+-- settings alone are in no store
+told_set : (store : Option Kept) (state : State) (rule : Rule) (percent : ℕ) → store ≢ None → told_by store (record state { rule = rule; percent = percent }) ≡ told_by store state
+told_set None state rule percent some = absurd (some refl)
+told_set (Some store) state rule percent some = refl
+
+-- rows come before the first batch, and so without a store
+head_none : (b : Base) → IsHead b → store_in b ≡ None
+head_none (base.Rows tables config) h = refl
+head_none (base.Runs live) h = absurd h
+
+-- ---- a line that runs no batch
+
+module _ (place : Place) (work : Work) (ga gb : Option (List ℕ)) where
+  abbrev Store : Option Kept
+  Store = store_in work.base
+
+  abbrev Here : Running
+  Here = running_of place work
+
+  -- the catalogue stays, and what is held
+  abbrev IsQuiet : Running → Type 0
+  IsQuiet next = (plan_in next.doing.place.head ≡ plan_in place.head) × (held_of next ≡ held_of Here)
+
+  quiet_as : (e : Doing) (next : Running) → next.doing ≡ e → next.store ≡ Store → plan_in e.place.head ≡ plan_in place.head → told_by Store e.state ≡ held_of Here → IsQuiet next
+  quiet_as e next same kept plan held = (
+    ap (λ (d : Doing). plan_in d.place.head) same ∙ plan,
+    ap (λ (k : Option Kept). told_by k next.doing.state) kept ∙ ap (λ (d : Doing). told_by Store d.state) same ∙ held,
+  )
+
+  quiet_next : (asks : Deed) → runs_batch asks ≡ false → MayDo place work asks → Store ≢ None → (next : Running) → next.store ≡ Store → Serves (done Here.doing asks) ga gb (Ok next.doing) → IsQuiet next
+  quiet_next deed.Run q may some next kept h = absurd cc
+  quiet_next deed.Nothing q may some next kept h = quiet_as Here.doing next h.0 kept refl refl
+  quiet_next deed.Tell q may some next kept h = quiet_as Here.doing next h.0 kept refl refl
+  quiet_next (deed.Put key row) q may some next kept h = absurd (some (head_none work.base may.before_all))
+  quiet_next (deed.Call call) q may some next kept h = quiet_as (with_call Here.doing call) next h.0 kept refl refl
+  quiet_next (deed.Set rule percent) q may some next kept h =
+      quiet_as (with_settings Here.doing rule percent) next h.0 kept refl (told_set Store (state_in work.base) rule percent some)
+  quiet_next (deed.Keep number) q may some next kept h = quiet_as (without_calls Here.doing) next h.0 kept refl refl
+
+  module _ (first : ℕ) (disk : History) (h : HoldsScript first disk Here) (asks : Deed) (quiet : runs_batch asks ≡ false) (may : MayDo place work asks) where
+    quiet_is : (next : Running) → next.store ≡ Store → Serves (done Here.doing asks) ga gb (Ok next.doing) → IsQuiet next
+    quiet_is next kept serves = quiet_next asks quiet may (store_some first Here.checkpoint disk (plan_in place.head) (held_of Here) Store h) next kept serves
+
+    stays_by : (next : Running) → IsQuiet next → next.store ≡ Store → next.checkpoint ≡ Here.checkpoint → Stays first disk Here next
+    stays_by next q kept n = record {
+      plan = q.0;
+      checkpoint = n;
+      holds = subst (λ (k : ℕ). HoldsState first k disk (plan_in next.doing.place.head) (held_of next) next.store) (sym n)
+          (subst (λ (p : Plan). HoldsState first Here.checkpoint disk p (held_of next) next.store) (sym q.0)
+          (subst (λ (s : State). HoldsState first Here.checkpoint disk (plan_in place.head) s next.store) (sym q.1)
+          (subst (λ (k : Option Kept). HoldsState first Here.checkpoint disk (plan_in place.head) (held_of Here) k) (sym kept) h)));
+    }
+
+    pub quiet_stays : (result : Result Running Stop) → IfOk result (λ next. next.store ≡ Store) → IfOk result (λ next. next.checkpoint ≡ checkpoint_in work.base)
+        → Serves (done Here.doing asks) ga gb (doing_result result) → IfOk result (Stays first disk Here)
+    quiet_stays (Ok next) kept n serves = stays_by next (quiet_is next kept serves) kept n
+    quiet_stays (Err why) kept n serves = tt
+
+    pub quiet_held : (before : Doing) → before.state ≡ state_in work.base → (result : Result Running Stop) → IfOk result (λ next. next.store ≡ Store)
+        → Serves (done Here.doing asks) ga gb (doing_result result) → IfOk result (λ next. held_of next ≡ held_then (held_of Here) before next.doing)
+    quiet_held before same (Ok next) kept serves =
+        let went = goes_to (done Here.doing asks) next.doing ga gb serves in
+        let count : next.doing.state.batches ≡ before.state.batches =
+        quiet_count Here.doing asks quiet went.0 next.doing went.1 ∙ ap (λ (s : State). s.batches) (sym same) in
+        (quiet_is next kept serves).1
+        ∙ sym (when_true (next.doing.state.batches == before.state.batches) (held_of Here) next.doing.state (same_count next.doing.state.batches before.state.batches count))
+    quiet_held before same (Err why) kept serves = tt
+
+-- ---- a batch
+
+module _ (place : Place) (work : Work) (live : Live) (begun : IsBegun place.head work.base work.each live) where
+  abbrev Calls : List Call
+  Calls = work.calls.items
+
+  abbrev Script : Running
+  Script = running_of place work
+
+  begun_state : (first : ℕ) (disk : History) → HoldsScript first disk Script → HoldsState first live.checkpoint disk (plan_of live) (stored_state live) live.store
+  begun_state first disk h =
+      subst (λ (n : ℕ). HoldsState first n disk (plan_of live) (stored_state live) live.store) (sym begun.checkpoint)
+      (subst (λ (p : Plan). HoldsState first Script.checkpoint disk p (stored_state live) live.store) (sym begun.plan)
+      (subst (λ (s : State). HoldsState first Script.checkpoint disk (plan_in place.head) s live.store) (sym (held_is place work live begun))
+      (subst (λ (k : Option Kept). HoldsState first Script.checkpoint disk (plan_in place.head) (held_of Script) k) (sym begun.store) h)))
+
+  module _ (next : Live) (is : IsNext live Calls next) (kept : next.store ≡ next_store live Calls) (n : Work) (b : n.base ≡ base.Runs next) where
+    pub ran_stays : (first : ℕ) (old new : History) → HoldsScript first old Script
+        → ((c : Checkpoint) (later : List Batch) → Holds old (plan_of live) (stored_state live) live.store c later
+        → HoldsTurned (next_due live Calls) new (plan_of live) (next_state live Calls) next.store c (added later live.config.rule live.config.fallback Calls))
+        → Stays first new Script (running_of place n)
+    ran_stays first old new h turns =
+        let held = turned_next first live next Calls new is kept (turned first live Calls old new next.store (begun_state first old h) turns) in
+        record {
+          plan = refl;
+          checkpoint = ap checkpoint_in b ∙ is.checkpoint ∙ begun.checkpoint;
+          holds = subst (λ (x : Base). HoldsState first (checkpoint_in x) new (plan_in place.head) (told_by (store_in x) (state_in x)) (store_in x)) (sym b)
+              (subst (λ (p : Plan). HoldsState first next.checkpoint new p (stored_state next) next.store) (is.plan ∙ begun.plan) held);
+        }
+
+    pub ran_held : (before : Doing) → before.state ≡ state_in work.base → held_of (running_of place n) ≡ held_then (held_of Script) before (doing_of place n)
+    ran_held before same =
+        let state : state_in n.base ≡ next_state live Calls = ap state_in b ∙ is.state in
+        let count : (doing_of place n).state.batches ≡ before.state.batches + 1 =
+        ap (λ (s : State). s.batches) state ∙ ap (λ (s : State). s.batches + 1) (begun.state ∙ sym same) in
+        ap (λ (x : Base). told_by (store_in x) (state_in x)) b
+        ∙ told_next live next Calls is kept
+        ∙ sym state
+        ∙ sym (held_after (held_of Script) before (doing_of place n) count)
+
+-- ---- a line as a whole
+
+-- the catalogue of a database that runs stays
+head_plan : (h next : Head) (calls : List Call) (b : Base) → HeadStays h next → IsOf h calls b → store_in b ≢ None → plan_in next ≡ plan_in h
+head_plan h next calls (base.Rows tables config) on of some = absurd (some refl)
+head_plan head.Unnamed next calls (base.Runs live) on of some = absurd of.1
+head_plan (head.Text text) next calls (base.Runs live) on of some = absurd of.1
+head_plan (head.Ready plan) next calls (base.Runs live) on of some = ap plan_in on
+
+lines_on : (p q : Plan) (calls : List Call) (store : Option Kept) → (store ≢ None → q ≡ p) → IfSome store (λ _. HasLines p calls) → IfSome store (λ _. HasLines q calls)
+lines_on p q calls None same h = tt
+lines_on p q calls (Some store) same h = subst (λ (x : Plan). HasLines x calls) (sym (same (λ e. absurd cc))) h
+
+pub if_any : (store : Option Kept) (P : Type 0) → P → IfSome store (λ _. P)
+if_any None P h = tt
+if_any (Some store) P h = h
+
+done_goes : {X : Type 0} (d : Doing) (asks : Deed) (bytes : List ℕ) → done d asks ≡ Stops bytes → X
+done_goes d deed.Run bytes e = not_both bytes _ _ (sym e)
+done_goes d deed.Nothing bytes e = not_both bytes _ _ (sym e)
+done_goes d deed.Tell bytes e = not_both bytes _ _ (sym e)
+done_goes d (deed.Put key row) bytes e = not_both bytes _ _ (sym e)
+done_goes d (deed.Call call) bytes e = not_both bytes _ _ (sym e)
+done_goes d (deed.Set rule percent) bytes e = not_both bytes _ _ (sym e)
+done_goes d (deed.Keep number) bytes e = not_both bytes _ _ (sym e)
+
+module _ (place after : Place) (work : Work) (stands : Stands place work) (counts : Counts) (same : counts ≡ counts_of (state_in work.base)) (line : List ℕ) (asks : Deed)
+    (is : asked place counts line ≡ Ok (after, asks)) where
+  abbrev From : Running
+  From = running_of place work
+
+  abbrev To : Running
+  To = running_of after work
+
+  ask_plan : store_in work.base ≢ None → plan_in after.head ≡ plan_in place.head
+  ask_plan some = head_plan place.head after.head work.calls.items work.base (follows place counts line after asks is).head_stays stands.holds.of_head some
+
+  pub ask_open : (disk : History) → IsOpen disk From → IsOpen disk To
+  ask_open disk o = record { logging = o.logging; lines = lines_on (plan_in place.head) (plan_in after.head) work.calls.items (store_in work.base) ask_plan o.lines }
+
+  module _ (first : ℕ) (old : History) (h : HoldsScript first old From) where
+    plan_is : plan_in after.head ≡ plan_in place.head
+    plan_is = ask_plan (store_some first From.checkpoint old (plan_in place.head) (held_of From) (store_in work.base) h)
+
+    pub ask_holds : HoldsScript first old To
+    ask_holds = subst (λ (p : Plan). HoldsState first From.checkpoint old p (held_of From) (store_in work.base)) (sym plan_is) h
+
+    pub line_kept : (new : History) (ga gb : Option (List ℕ)) (result : Result Running Stop) → Serves (on_line From.doing line) ga gb (doing_result result)
+        → Keeps (PassesTurns (Line line ∷ []) From.doing (held_of To)) (plan_in after.head) old new ga gb → IfOk result (Stays first new To)
+        → IfOk result (λ next. held_of next ≡ held_then (held_of To) From.doing next.doing) → KeepsTurns first (Line line ∷ []) From old new ga gb result
+    line_kept new ga gb (Ok next) serves keeps stays held =
+        let went = goes_to (on_line From.doing line) next.doing ga gb serves in
+        record {
+          keeps = subst (λ (p : Plan). Keeps (PassesTurns (Line line ∷ []) From.doing (held_of From)) p old new ga gb) plan_is keeps;
+          stays = record { plan = stays.plan ∙ plan_is; checkpoint = stays.checkpoint; holds = stays.holds };
+          held = held ∙ sym (held_one on_turn held_then (Line line) From.doing next.doing (held_of From) went.0 went.1);
+          refused = λ e. absurd cc;
+        }
+    line_kept new ga gb (Err why) serves keeps stays held = record {
+      keeps = subst (λ (p : Plan). Keeps (PassesTurns (Line line ∷ []) From.doing (held_of From)) p old new ga gb) plan_is keeps;
+      stays = tt;
+      held = tt;
+      refused = λ e.
+          let stopped = stops_to (on_line From.doing line) ga gb (subst (λ (s : Stop). Serves (on_line From.doing line) ga gb (Err s)) (ap stop_in e) serves) in
+          done_goes To.doing asks stopped.0 (sym (line_is place work counts line same (Ok (after, asks)) is) ∙ stopped.1);
+    }

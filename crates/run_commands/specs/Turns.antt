@@ -1,0 +1,29 @@
+-- What turns of a script do to its store.
+use Rattle.std.specs.Prelude.{◌≡◌, ℕ, List, Option, Result, Err, IfOk}
+use Rattle.disk_model.specs.Histories.{History}
+use Rattle.script_course.specs.declared.stops.Stop.{Stop}
+use Rattle.script_course.specs.declared.stops.Stop.TheVariants as stop
+use Rattle.run_commands.specs.Bases.{plan_in}
+use Rattle.run_commands.specs.Keeps.{HoldsState, Keeps, LeavesLaid, held_of}
+use Rattle.run_commands.specs.Onces.{Running}
+use Rattle.run_commands.specs.Passes.{PassesTurns, Turn, held_behind}
+
+-- what the disk holds of a script over its store; nothing where it has none
+abbrev pub HoldsScript : ℕ → History → Running → Type 0
+HoldsScript first disk script = HoldsState first script.checkpoint disk (plan_in script.doing.place.head) (held_of script) script.store
+
+-- a script further on: it has the same catalogue, lays checkpoints behind as many batches each, and the disk holds its state
+pub record Stays (first : ℕ) (disk : History) (script next : Running) : Type 0 where
+  pub plan : plan_in next.doing.place.head ≡ plan_in script.doing.place.head
+  pub checkpoint : next.checkpoint ≡ script.checkpoint
+  pub holds : HoldsScript first disk next
+
+-- These turns were taken, or cut off. A stop at any moment leaves a state that passes in them. The script that goes on holds the state
+-- behind them; and where a line was refused, the disk holds the state of those before it.
+pub record KeepsTurns (first : ℕ) (steps : List Turn) (script : Running) (old new : History) (given_old given_new : Option (List ℕ))
+    (result : Result Running Stop) : Type 0 where
+  pub keeps : Keeps (PassesTurns steps script.doing (held_of script)) (plan_in script.doing.place.head) old new given_old given_new
+  pub stays : IfOk result (Stays first new script)
+  pub held : IfOk result (λ next. held_of next ≡ held_behind steps script.doing (held_of script))
+  pub refused : result ≡ Err stop.Refused
+      → LeavesLaid first script.checkpoint new (plan_in script.doing.place.head) (held_behind steps script.doing (held_of script))

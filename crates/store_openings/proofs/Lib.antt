@@ -1,0 +1,4 @@
+pub mod Fits
+pub mod Ways
+pub mod Keeping
+pub mod Readings
