@@ -1,0 +1,17 @@
+mod Asks
+mod Batches
+mod Builtins
+mod Closings
+mod Deeds
+mod Drains
+mod Items
+mod Joined
+mod Lines
+mod Listed
+mod Plans
+mod Runs
+mod Scripts
+mod Texts
+mod Told
+mod Values
+mod Whole
