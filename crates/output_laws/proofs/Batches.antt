@@ -98,9 +98,10 @@ module _ (tree : Request → Run) (runs : (r : Request) → PrintedRequest r →
   lates_printed declared_of db [] a h = tt
   lates_printed declared_of db (d ∷ ds) a h =
       let run = tree d.request in
-      let is = runs d.request a.0 in
-      (fate_printed (outside key_cmp (declared_of d) (trace_of run db)) (end_of run db) (outside_printed (declared_of d) run db is h) (end_printed run db is h),
-       lates_printed declared_of (late_map is_done (declared_of d) run db) ds a.1 (left (has_ended (late_fate (declared_of d) run db)) run is))
+      let is = runs d.request a.0 in (
+        fate_printed (outside key_cmp (declared_of d) (trace_of run db)) (end_of run db) (outside_printed (declared_of d) run db is h) (end_printed run db is h),
+        lates_printed declared_of (late_map is_done (declared_of d) run db) ds a.1 (left (has_ended (late_fate (declared_of d) run db)) run is),
+      )
     where
       left : (b : Bool) (run : Run) → PrintedRun run → PrintedRows (cond b (map_after is_done run db) db)
       left true run is = after_printed run db is h
@@ -137,7 +138,7 @@ module _ (tree : Request → Run) (runs : (r : Request) → PrintedRequest r →
     after_printed_commit : PrintedRows (after_commit (on_start is_done tree start) start ds)
     after_printed_commit =
         let kept = kept_by_batch key_cmp_total key_cmp-IsAntisymmetric is_done tree PrintedRows rule 101 start list
-            (at_each Keeping list (keeping list asks)) rows in
+        (at_each Keeping list (keeping list asks)) rows in
         subst PrintedRows (ap (λ b. cond b (late_rest (on_start is_done tree start) is_done tree (after_commit (on_start is_done tree start) start ds) ds) (after_commit (on_start is_done tree start) start ds))
         (never_late (length (waiting ds)) (length ds) (filter_short (λ (d : Judged Request). waits d.verdict) ds))) kept
 

@@ -115,125 +115,153 @@ module _ (lines : PrintedLines) (each : Bool) (rule : Rule) (percent : ℕ) wher
 
     go : (asks : Deed) → Asks (after, asks) → Follows o.place (counts_of o.state) after asks → asked o.place (counts_of o.state) line ≡ Ok (after, asks)
         → StepOn bytes (once.done (record o { place = after }) asks) (check.done (record c { place = as_mode mode.Check after }) line asks)
-    go deed.Nothing is f e = (Checked, script, refl, record {
-      place = refl;
-      mode_is = is.mode_is;
-      quiet = is.quiet;
-      head = is.head;
-      each_is = b.each_is;
-      counted = f.allows.calls ∙ b.counted;
-      calls = b.calls;
-      asks = b.asks;
-      state = b.state;
-      told = still deed.Nothing is f.head_stays;
-      script_is = b.script_is;
-      ends = b.ends;
-      requests = b.requests;
-      report = b.report;
-      early = λ k. b.early (before_false o.place.rows_ended after.rows_ended f.allows.rows k);
-      ready = ready_now deed.Nothing is f.head_stays;
-    })
-    go (deed.Put key row) is f e = (check.with_row Checked key row, script, refl, record {
-      place = refl;
-      mode_is = is.mode_is;
-      quiet = is.quiet;
-      head = is.head;
-      each_is = b.each_is;
-      counted = f.allows.calls ∙ b.counted;
-      calls = b.calls;
-      asks = b.asks;
-      state = record { rows = insert_printed o.state.rows key row b.state.rows is.deed.0 is.deed.1; waiting = b.state.waiting };
-      told = put_told o.each rule percent (plan_in after.head) c.rows script o.state (bytes ++ []) key row (b.early f.allows.rows) (still (deed.Put key row) is f.head_stays);
-      script_is = b.script_is;
-      ends = b.ends;
-      requests = b.requests;
-      report = b.report;
-      early = λ k. b.early f.allows.rows;
-      ready = ready_now (deed.Put key row) is f.head_stays;
-    })
-    go (deed.Call call) is f e = (check.with_call Checked call, script, refl, record {
-      place = refl;
-      mode_is = is.mode_is;
-      quiet = is.quiet;
-      head = is.head;
-      each_is = b.each_is;
-      counted = f.allows.calls ∙ ap (λ (n : ℕ). n + 1) b.counted ∙ sym (length-append o.calls (call ∷ []));
-      calls = ap (λ (l : List Call). l ++ call ∷ []) b.calls;
-      asks = all_joined PrintedCall o.calls (call ∷ []) b.asks (is.deed, tt);
-      state = b.state;
-      told = still (deed.Call call) is f.head_stays;
-      script_is = b.script_is;
-      ends = b.ends;
-      requests = b.requests;
-      report = b.report;
-      early = λ k. never_false after.rows_ended f.allows.rows k;
-      ready = ready_now (deed.Call call) is f.head_stays;
-    })
-    go (deed.Set r p) is f e = (Checked, script, refl, record {
-      place = refl;
-      mode_is = is.mode_is;
-      quiet = is.quiet;
-      head = is.head;
-      each_is = b.each_is;
-      counted = f.allows.calls ∙ b.counted;
-      calls = b.calls;
-      asks = b.asks;
-      state = record { rows = b.state.rows; waiting = b.state.waiting };
-      told = set_told o.each rule percent (plan_in after.head) c.rows script o.state (bytes ++ []) r p (still (deed.Set r p) is f.head_stays);
-      script_is = b.script_is;
-      ends = b.ends;
-      requests = b.requests;
-      report = b.report;
-      early = λ k. never_false after.rows_ended f.allows.rows k;
-      ready = ready_now (deed.Set r p) is f.head_stays;
-    })
+    go deed.Nothing is f e = (
+      Checked,
+      script,
+      refl,
+      record {
+        place = refl;
+        mode_is = is.mode_is;
+        quiet = is.quiet;
+        head = is.head;
+        each_is = b.each_is;
+        counted = f.allows.calls ∙ b.counted;
+        calls = b.calls;
+        asks = b.asks;
+        state = b.state;
+        told = still deed.Nothing is f.head_stays;
+        script_is = b.script_is;
+        ends = b.ends;
+        requests = b.requests;
+        report = b.report;
+        early = λ k. b.early (before_false o.place.rows_ended after.rows_ended f.allows.rows k);
+        ready = ready_now deed.Nothing is f.head_stays;
+      },
+    )
+    go (deed.Put key row) is f e = (
+      check.with_row Checked key row,
+      script,
+      refl,
+      record {
+        place = refl;
+        mode_is = is.mode_is;
+        quiet = is.quiet;
+        head = is.head;
+        each_is = b.each_is;
+        counted = f.allows.calls ∙ b.counted;
+        calls = b.calls;
+        asks = b.asks;
+        state = record { rows = insert_printed o.state.rows key row b.state.rows is.deed.0 is.deed.1; waiting = b.state.waiting };
+        told = put_told o.each rule percent (plan_in after.head) c.rows script o.state (bytes ++ []) key row (b.early f.allows.rows) (still (deed.Put key row) is f.head_stays);
+        script_is = b.script_is;
+        ends = b.ends;
+        requests = b.requests;
+        report = b.report;
+        early = λ k. b.early f.allows.rows;
+        ready = ready_now (deed.Put key row) is f.head_stays;
+      },
+    )
+    go (deed.Call call) is f e = (
+      check.with_call Checked call,
+      script,
+      refl,
+      record {
+        place = refl;
+        mode_is = is.mode_is;
+        quiet = is.quiet;
+        head = is.head;
+        each_is = b.each_is;
+        counted = f.allows.calls ∙ ap (λ (n : ℕ). n + 1) b.counted ∙ sym (length-append o.calls (call ∷ []));
+        calls = ap (λ (l : List Call). l ++ call ∷ []) b.calls;
+        asks = all_joined PrintedCall o.calls (call ∷ []) b.asks (is.deed, tt);
+        state = b.state;
+        told = still (deed.Call call) is f.head_stays;
+        script_is = b.script_is;
+        ends = b.ends;
+        requests = b.requests;
+        report = b.report;
+        early = λ k. never_false after.rows_ended f.allows.rows k;
+        ready = ready_now (deed.Call call) is f.head_stays;
+      },
+    )
+    go (deed.Set r p) is f e = (
+      Checked,
+      script,
+      refl,
+      record {
+        place = refl;
+        mode_is = is.mode_is;
+        quiet = is.quiet;
+        head = is.head;
+        each_is = b.each_is;
+        counted = f.allows.calls ∙ b.counted;
+        calls = b.calls;
+        asks = b.asks;
+        state = record { rows = b.state.rows; waiting = b.state.waiting };
+        told = set_told o.each rule percent (plan_in after.head) c.rows script o.state (bytes ++ []) r p (still (deed.Set r p) is f.head_stays);
+        script_is = b.script_is;
+        ends = b.ends;
+        requests = b.requests;
+        report = b.report;
+        early = λ k. never_false after.rows_ended f.allows.rows k;
+        ready = ready_now (deed.Set r p) is f.head_stays;
+      },
+    )
     go (deed.Keep number) is f e =
-        let batch : ℕ × Handed = (number, record { rule = o.state.rule; percent = o.state.percent; calls = [] }) in
-        (check.with_kept Checked number, script ++ batch ∷ [], refl, record {
-          place = refl;
-          mode_is = is.mode_is;
-          quiet = is.quiet;
-          head = is.head;
-      each_is = b.each_is;
-          counted = f.allows.calls;
-          calls = refl;
-          asks = tt;
-          state = b.state;
-          told = keep_told o.each rule percent (plan_in after.head) lines c.rows script o.state bytes (here (deed.Keep number) is f.head_stays) batch (kept_before (counts_of o.state) o.place line after number e);
-          script_is = ap (λ (l : List (ℕ × List Call)). l ++ (number, []) ∷ []) b.script_is ∙ sym (map-append (λ (x : ℕ × Handed). (x.0, x.1.calls)) script (batch ∷ []));
-          ends = b.ends;
-          requests = b.requests;
-          report = b.report;
-          early = λ k. never_false after.rows_ended f.allows.rows k;
-          ready = inr is.ready;
-        })
+        let batch : ℕ × Handed = (number, record { rule = o.state.rule; percent = o.state.percent; calls = [] }) in (
+          check.with_kept Checked number,
+          script ++ batch ∷ [],
+          refl,
+          record {
+            place = refl;
+            mode_is = is.mode_is;
+            quiet = is.quiet;
+            head = is.head;
+            each_is = b.each_is;
+            counted = f.allows.calls;
+            calls = refl;
+            asks = tt;
+            state = b.state;
+            told = keep_told o.each rule percent (plan_in after.head) lines c.rows script o.state bytes (here (deed.Keep number) is f.head_stays) batch (kept_before (counts_of o.state) o.place line after number e);
+            script_is = ap (λ (l : List (ℕ × List Call)). l ++ (number, []) ∷ []) b.script_is ∙ sym (map-append (λ (x : ℕ × Handed). (x.0, x.1.calls)) script (batch ∷ []));
+            ends = b.ends;
+            requests = b.requests;
+            report = b.report;
+            early = λ k. never_false after.rows_ended f.allows.rows k;
+            ready = inr is.ready;
+          },
+        )
     go deed.Run is f e =
         let number : ℕ = length c.ends + 1 in
         let handed : Handed = record { rule = o.state.rule; percent = o.state.percent; calls = o.calls } in
         let new : o.state.batches < number = omega (arith, b.ends) in
         let room : length o.state.waiting + length o.calls ≤ MOST_REQUESTS =
-            subst (λ (n : ℕ). length o.state.waiting + n ≤ MOST_REQUESTS) b.counted (f.allows.room (ap is_check b.mode_is)) in
+        subst (λ (n : ℕ). length o.state.waiting + n ≤ MOST_REQUESTS) b.counted (f.allows.room (ap is_check b.mode_is)) in
         let within : o.state.requests + length o.calls ≤ GREATEST_NUMBER =
-            subst (λ (n : ℕ). o.state.requests + n ≤ GREATEST_NUMBER) b.counted f.allows.requests in
-        let named = named_plan after.head is.head in
-        (check.with_run Checked, script ++ (number, handed) ∷ [], refl, record {
-          place = refl;
-          mode_is = is.mode_is;
-          quiet = is.quiet;
-          head = is.head;
-      each_is = b.each_is;
-          counted = f.allows.calls;
-          calls = refl;
-          asks = tt;
-          state = plan_step (plan_in after.head) o.state handed named b.state b.asks;
-          told = run_told o.each rule percent (plan_in after.head) lines c.rows script o.state bytes (here deed.Run is f.head_stays) named b.state number o.calls new b.asks room (omega (arith, within));
-          script_is = (λ i. b.script_is i ++ (number, b.calls i) ∷ []) ∙ sym (map-append (λ (x : ℕ × Handed). (x.0, x.1.calls)) script ((number, handed) ∷ []));
-          ends = length-append c.ends (after.lines ∷ []) ∙ ap (λ (n : ℕ). n + 1) b.ends;
-          requests = λ i. b.requests i + length (b.calls i);
-          report = b.report;
-          early = λ k. never_false after.rows_ended f.allows.rows k;
-          ready = inr is.ready;
-        })
+        subst (λ (n : ℕ). o.state.requests + n ≤ GREATEST_NUMBER) b.counted f.allows.requests in
+        let named = named_plan after.head is.head in (
+          check.with_run Checked,
+          script ++ (number, handed) ∷ [],
+          refl,
+          record {
+            place = refl;
+            mode_is = is.mode_is;
+            quiet = is.quiet;
+            head = is.head;
+            each_is = b.each_is;
+            counted = f.allows.calls;
+            calls = refl;
+            asks = tt;
+            state = plan_step (plan_in after.head) o.state handed named b.state b.asks;
+            told = run_told o.each rule percent (plan_in after.head) lines c.rows script o.state bytes (here deed.Run is f.head_stays) named b.state number o.calls new b.asks room (omega (arith, within));
+            script_is = (λ i. b.script_is i ++ (number, b.calls i) ∷ []) ∙ sym (map-append (λ (x : ℕ × Handed). (x.0, x.1.calls)) script ((number, handed) ∷ []));
+            ends = length-append c.ends (after.lines ∷ []) ∙ ap (λ (n : ℕ). n + 1) b.ends;
+            requests = λ i. b.requests i + length (b.calls i);
+            report = b.report;
+            early = λ k. never_false after.rows_ended f.allows.rows k;
+            ready = inr is.ready;
+          },
+        )
     go deed.Tell is f e = absurd is.deed
 
   -- ---- a line
@@ -244,6 +272,7 @@ module _ (lines : PrintedLines) (each : Bool) (rule : Rule) (percent : ℕ) wher
     where
       same : asked c.place (check.counts_of c) line ≡ asked (as_mode mode.Check o.place) (unwaited (counts_of o.state)) line
       same = λ i. asked (b.place i) (record { batches = b.ends i; requests = b.requests i; waiting = 0 }) line
+
       by : (a : Asked) → asked o.place (counts_of o.state) line ≡ a → StepOn bytes (once.done_by o a) (check.on_line c line)
       by (Err kind) e = tt
       by (Ok (after, asks)) e =

@@ -65,6 +65,7 @@ module _ (lines : PrintedLines) (plan : Plan) (each : Bool) (named : PrintedPlan
           → DrainedBy state (behind (batch_text plan each state (no_calls state)) c)
       more (Goes bytes last) d some = one_more state bytes last is some d
       more (Stops bytes) d some = tt
+
       by : (a : Bool) → (length state.waiting == 0) ≡ a → (b : Bool)
           → DrainedBy (step (run_of plan) state (no_calls state)) (drained plan each line n (step (run_of plan) state (no_calls state)))
           → DrainedBy state (cond a (Goes [] state) (goes_on (drained plan each line n)

@@ -110,11 +110,12 @@ module _ (tables : List Table) (names : AllByRecursion (λ (t : Table). Printed 
   numbers_printed (n ∷ order) = joined_printed (decimal n) (spaced decimal order) (decimal_printed n) (numbers_printed order)
 
   answer_printed : (a : Answer) → PrintedAnswer a → Lines (answer_lines tables a)
-  answer_printed a h =
-      (counted_printed (codes "batch ") a.number refl,
-       all_joined Printed (map (reply_line tables) a.lines) (numbers_line a.order ∷ end_line a.number ∷ [])
-       (all_mapped (λ (line : Line). PrintedReply line.reply) Printed (reply_line tables) line_printed a.lines h)
-       (joined_printed order_word (spaced decimal a.order) refl (numbers_printed a.order), (counted_printed (codes "end ") a.number refl, tt)))
+  answer_printed a h = (
+    counted_printed (codes "batch ") a.number refl,
+    all_joined Printed (map (reply_line tables) a.lines) (numbers_line a.order ∷ end_line a.number ∷ [])
+        (all_mapped (λ (line : Line). PrintedReply line.reply) Printed (reply_line tables) line_printed a.lines h)
+        (joined_printed order_word (spaced decimal a.order) refl (numbers_printed a.order), (counted_printed (codes "end ") a.number refl, tt)),
+  )
 
 pub kept_printed : (n : ℕ) → Printed (kept_line n)
 kept_printed n = joined_printed (batch_line n) (codes " kept") (joined_printed (codes "batch ") (decimal n) refl (decimal_printed n)) refl
@@ -130,11 +131,12 @@ entries_printed db h = from_each (λ (row : Key × Cells). PrintedKey row.0 × P
     (λ i d below. h (get_or (fin.entries db) i d).0 (get_or (fin.entries db) i d).1 (entry_there db i d below))
 
 pub state_printed : (plan : Plan) (state : State) → PrintedPlan plan → PrintedState state → Lines (state_lines plan state)
-state_printed plan state p is =
-    (joined_printed (codes "state ") (decimal state.batches) refl (decimal_printed state.batches),
-     all_joined Printed (row_lines plan state.rows) (end_state_line ∷ [])
-     (all_mapped (λ (row : Key × Cells). PrintedKey row.0 × PrintedCells row.1) Printed (λ (row : Key × Cells). row_line plan.tables row.0 row.1)
-     (λ row h. row_printed plan.tables p.tables row.0 row.1 h.0 h.1) (fin.entries state.rows) (entries_printed state.rows is.rows)) (refl, tt))
+state_printed plan state p is = (
+  joined_printed (codes "state ") (decimal state.batches) refl (decimal_printed state.batches),
+  all_joined Printed (row_lines plan state.rows) (end_state_line ∷ [])
+      (all_mapped (λ (row : Key × Cells). PrintedKey row.0 × PrintedCells row.1) Printed (λ (row : Key × Cells). row_line plan.tables row.0 row.1)
+      (λ row h. row_printed plan.tables p.tables row.0 row.1 h.0 h.1) (fin.entries state.rows) (entries_printed state.rows is.rows)) (refl, tt),
+)
 
 -- ---- batches
 

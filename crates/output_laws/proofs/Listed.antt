@@ -18,8 +18,10 @@ module _ (plan : Plan) where
     where
       rest : List (List ℕ)
       rest = script_lines plan true (next plan state batch) more
+
       first : Bool → List (List ℕ)
       first b = cond b (kept_line batch.0 ∷ []) (batch_lines plan true state batch.1)
+
       by : (b : Bool) → ((cond b false true ≡ false) × (rest ≡ [])) ⊎ EndsKept rest → ((now ≡ false) × (first b ++ rest ≡ [])) ⊎ EndsKept (first b ++ rest)
       by true (inl h) = inr ([], batch.0, ap (λ (l : List (List ℕ)). kept_line batch.0 ∷ l) h.1)
       by false (inl h) = let clash : true ≡ false = h.0 in cc
@@ -57,9 +59,9 @@ module _ (plan : Plan) (state : State) (script : List (ℕ × Handed)) (drains :
   ends_kept none h =
       let lines = script_lines plan true state script in
       let whole : report plan true state script drains ≡ h.0 ++ kept_line h.1 ∷ [] =
-          ap (λ (d : List Handed). (lines ++ drain_lines plan true (left plan state script) d) ++ []) none ∙ append-nil (lines ++ []) ∙ append-nil lines ∙ h.2 in
+      ap (λ (d : List Handed). (lines ++ drain_lines plan true (left plan state script) d) ++ []) none ∙ append-nil (lines ++ []) ∙ append-nil lines ∙ h.2 in
       let same : kept_line h.1 ≡ end_state_line =
-          sym (last_is h.0 (kept_line h.1) []) ∙ ap (λ (l : List (List ℕ)). last_of l []) (sym whole ∙ last) ∙ last_is before end_state_line [] in
+      sym (last_is h.0 (kept_line h.1) []) ∙ ap (λ (l : List (List ℕ)). last_of l []) (sym whole ∙ last) ∙ last_is before end_state_line [] in
       kept_is_not h.1 same
 
   ends_empty : drains ≡ [] → script_lines plan true state script ≡ [] → ⊥
@@ -67,7 +69,7 @@ module _ (plan : Plan) (state : State) (script : List (ℕ × Handed)) (drains :
   ends_empty none h =
       let lines = script_lines plan true state script in
       let whole : report plan true state script drains ≡ [] =
-          ap (λ (d : List Handed). (lines ++ drain_lines plan true (left plan state script) d) ++ []) none ∙ append-nil (lines ++ []) ∙ append-nil lines ∙ h in
+      ap (λ (d : List Handed). (lines ++ drain_lines plan true (left plan state script) d) ++ []) none ∙ append-nil (lines ++ []) ∙ append-nil lines ∙ h in
       let same : [] ≡ end_state_line = ap (λ (l : List (List ℕ)). last_of l []) (sym whole ∙ last) ∙ last_is before end_state_line [] in
       cc
 

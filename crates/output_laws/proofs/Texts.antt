@@ -78,6 +78,7 @@ onto_printed (suc k) n acc h = by (n / 10 == 0) (onto_printed k (n / 10) (digit_
   where
     more : Printed (digit_glyph false (n % 10) ∷ acc)
     more = and_from (nat_le 32 (digit_glyph false (n % 10)) && nat_le (digit_glyph false (n % 10)) 126) (is_printed acc) (glyph_printed (n % 10) (omega arith)) h
+
     by : (b : Bool) → Printed (digits_onto k 10 false (n / 10) (digit_glyph false (n % 10) ∷ acc))
         → Printed (cond b (digit_glyph false (n % 10) ∷ acc) (digits_onto k 10 false (n / 10) (digit_glyph false (n % 10) ∷ acc)))
     by true rest = more

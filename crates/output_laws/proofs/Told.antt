@@ -51,6 +51,7 @@ close_check p settled none = by p.head settled
   where
     shuts : places.shut (next_line p) ≡ Ok (next_line p)
     shuts = ap (λ (b : Bool). cond b (Ok (next_line p)) (Err Unfinished)) none
+
     by : (h : Head) → IsSettled h → places.closed_by (next_line p) h ≡ Ok (next_line p)
     by head.Unnamed is = shuts
     by (head.Ready plan) is = shuts

@@ -151,6 +151,7 @@ module _ (r : Request) (printed : PrintedCall r.call) (item : List ℤ) (regs : 
       part_printed : (v : Value) → PrintedValue v → PrintedPart (part_of v)
       part_printed (value.Int n) h = tt
       part_printed (value.Text bytes) h = h
+
       parts_when : (b : Bool) (vs : List Value) → PrintedCells vs → AllByRecursion PrintedPart (cond b (map part_of vs) (part.Int (pos 0) ∷ []))
       parts_when true vs h = all_mapped PrintedValue PrintedPart part_of part_printed vs h
       parts_when false vs h = (tt, tt)

@@ -213,9 +213,9 @@ module _ (own : (plan : Plan) (rule : Rule) (percent : ℕ) (rows : Database) �
   by_course (Goes bytes o) e =
       let none = goes_within once.on_line outs.no_line start o text bytes e in
       let run_so : with_lines once.on_line (Goes [] start) (lines_of text) ≡ Goes bytes o =
-          sym (whole_lines once.on_line limits.MOST_BYTES limits.LONGEST_LINE start text none) ∙ e in
+      sym (whole_lines once.on_line limits.MOST_BYTES limits.LONGEST_LINE start text none) ∙ e in
       let beside = subst (λ (k : Course once.Doing). LinesOn lines each settings.rule settings.fallback k (with_lines check.on_line (Goes [] check.start) (lines_of text))) run_so
-          (lines_beside lines each settings.rule settings.fallback (lines_of text) start check.start [] [] begun) in
+      (lines_beside lines each settings.rule settings.fallback (lines_of text) start check.start [] [] begun) in
       by_closed o bytes beside.1 beside.0 beside.2 beside.3 (closing o.place) refl
 
   pub passes_check : PassesCheck settings text
