@@ -1,18 +1,16 @@
 -- What a line asks for where `check` reads a script is what it asks for where `once` does: the place differs in its mode alone.
-use Rattle.std.proofs.Common.{◌≡◌, ◌∙◌, sym, ap, subst, refl, ℕ, ℤ, ◌+◌, Bool, true, false, not, cond, nat_lt, ◌==◌, List, [], ◌∷◌, ◌++◌, length, Option, Some, None, Ok, Err, IfOk}
-use Rattle.std.specs.Prelude.{⊤, ◌&&◌, ◌||◌, nat_le, IfSome, Result, codes, bytes_eq, if◌then◌else◌}
+use Rattle.std.proofs.Common.{◌≡◌, ◌∙◌, sym, subst, refl, ℕ, ℤ, ◌+◌, Bool, true, false, not, cond, nat_lt, ◌==◌, List, [], ◌++◌, length, Option, Some, None, Ok, Err, IfOk}
+use Rattle.std.specs.Prelude.{⊤, ◌||◌, nat_le, IfSome, Result, codes, bytes_eq}
 use Rattle.std.specs.List.{AllByRecursion}
 use Rattle.aria_base.specs.Orders.{Cells}
 use Rattle.aria_base.specs.declared.calls.Arg.{Arg}
 use Rattle.aria_base.specs.declared.calls.Call.{Call}
-use Rattle.aria_base.specs.declared.keys.Key.{Key}
 use Rattle.aria_base.specs.declared.keys.Part.{Part}
 use Rattle.aria_base.specs.declared.limits.TheConstants.{GREATEST_NUMBER, MOST_REQUESTS}
 use Rattle.cat_builtin.specs.Builtins.{builtin_named}
 use Rattle.cat_text.specs.Texts.{catalog_of}
 use Rattle.proc_lang.specs.Catalogs.{Plan}
-use Rattle.script_places.specs.Places.{Asked, asked, asked_at, at_call, at_catalog, at_end, at_item, at_piece, at_report, at_row, at_settings, behind_text, by_head, calls, closed, closing, ends, found, in_text, is_byte, is_ready, is_unnamed, item_in_text, next_line, puts, read_text, refused_in_text, runs, sets, shut, under, within_text, without_head}
-use Rattle.script_places.specs.Places as places
+use Rattle.script_places.specs.Places.{Asked, asked, asked_at, at_call, at_catalog, at_item, at_piece, at_row, at_settings, behind_text, by_head, calls, closed, ends, found, in_text, is_byte, is_ready, is_unnamed, item_in_text, next_line, puts, refused_in_text, runs, sets, under, without_head}
 use Rattle.script_places.specs.declared.deeds.Deed.{Deed}
 use Rattle.script_places.specs.declared.deeds.Deed.TheVariants as deed
 use Rattle.script_places.specs.declared.heads.Head.{Head}

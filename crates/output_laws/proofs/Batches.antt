@@ -1,14 +1,14 @@
 -- A batch over rows of printed bytes: its answer has no other, and neither has the state that it leaves.
-use Rattle.std.proofs.Common.{◌≡◌, ℕ, zero, suc, ◌+◌, ◌*◌, ◌≤◌, ◌<◌, Bool, true, false, cond, nat_lt, List, [], ◌∷◌, ◌++◌, length, map, Option, Some, None, refl, sym, ap, ◌∙◌, subst, arith}
+use Rattle.std.proofs.Common.{◌≡◌, ℕ, zero, suc, ◌+◌, ◌*◌, ◌≤◌, Bool, true, false, cond, nat_lt, List, [], ◌∷◌, ◌++◌, length, Option, Some, None, refl, ap, subst, arith}
 use Rattle.std.specs.Prelude.{⊤, ◌&&◌, nat_le, IfSome}
 use Rattle.std.specs.List.{All, AllByRecursion, filter}
 use Rattle.std.proofs.lemmas.Bool.{leb-true, ltb-true}
-use Rattle.aria_base.specs.Orders.{Cells, Database, key_cmp}
+use Rattle.aria_base.specs.Orders.{Database, key_cmp}
 use Rattle.aria_base.proofs.Orders.{key_cmp_total, key_cmp-IsAntisymmetric}
 use Rattle.aria_base.specs.declared.calls.Call.{Call}
 use Rattle.aria_base.specs.declared.calls.Request.{Request}
 use Rattle.aria_base.specs.declared.keys.Key.{Key}
-use Rattle.batch_core.specs.Steps.{Handed, State, answer, line_of, list_of, numbered, outcome, reply_by, reply_of, step, wait_of}
+use Rattle.batch_core.specs.Steps.{Handed, State, answer, line_of, list_of, numbered, outcome, reply_by, step}
 use Rattle.batch_core.specs.declared.answers.Answer.{Answer}
 use Rattle.batch_core.specs.declared.answers.Line.{Line}
 use Rattle.batch_core.specs.declared.answers.Reply.{Reply}

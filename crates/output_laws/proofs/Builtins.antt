@@ -1,6 +1,6 @@
 -- The texts of the catalogues that every database has are of printed bytes.
-use Rattle.std.proofs.Common.{◌≡◌, ℕ, Bool, true, false, cond, List, [], ◌∷◌, Option, Some, None, refl}
-use Rattle.std.specs.Prelude.{⊤, ◌&&◌, IfSome, codes}
+use Rattle.std.proofs.Common.{◌≡◌, ℕ, Bool, true, cond, List, [], ◌∷◌, Some, None, refl}
+use Rattle.std.specs.Prelude.{◌&&◌, IfSome, codes}
 use Rattle.std.specs.Str.{bytes_eq}
 use Rattle.std.specs.List.{AllByRecursion, list_all}
 use Rattle.std.proofs.lemmas.Bool.{and_parts}

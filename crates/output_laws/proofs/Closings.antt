@@ -1,39 +1,23 @@
 -- Where `once` comes to the end of a script, `check` comes to the line behind which its report begins.
-use Rattle.std.proofs.Common.{◌≡◌, ◌∙◌, sym, ap, subst, refl, ℕ, ℤ, ◌+◌, Bool, true, false, not, cond, nat_lt, ◌==◌, List, [], ◌∷◌, ◌++◌, length, Option, Some, None, Ok, Err, IfOk}
-use Rattle.std.specs.Prelude.{⊤, ◌&&◌, ◌||◌, nat_le, IfSome, Result, codes, bytes_eq, if◌then◌else◌}
-use Rattle.std.specs.List.{AllByRecursion}
-use Rattle.aria_base.specs.Orders.{Cells}
-use Rattle.aria_base.specs.declared.calls.Arg.{Arg}
-use Rattle.aria_base.specs.declared.calls.Call.{Call}
-use Rattle.aria_base.specs.declared.keys.Key.{Key}
-use Rattle.aria_base.specs.declared.keys.Part.{Part}
-use Rattle.aria_base.specs.declared.limits.TheConstants.{GREATEST_NUMBER, MOST_REQUESTS}
-use Rattle.cat_builtin.specs.Builtins.{builtin_named}
+use Rattle.std.proofs.Common.{◌≡◌, ◌∙◌, sym, ap, subst, refl, Bool, true, false, cond, ◌==◌, Ok, Err, IfOk}
+use Rattle.std.specs.Prelude.{⊤, Result, codes}
 use Rattle.cat_text.specs.Texts.{catalog_of}
 use Rattle.proc_lang.specs.Catalogs.{Plan}
 use Rattle.script_places.specs.Places.{Asked, asked, asked_at, at_call, at_catalog, at_end, at_item, at_piece, at_report, at_row, at_settings, behind_text, by_head, calls, closed, closing, ends, found, in_text, is_byte, is_ready, is_unnamed, item_in_text, next_line, puts, read_text, refused_in_text, runs, sets, shut, under, within_text, without_head}
 use Rattle.script_places.specs.Places as places
-use Rattle.script_places.specs.declared.deeds.Deed.{Deed}
 use Rattle.script_places.specs.declared.deeds.Deed.TheVariants as deed
 use Rattle.script_places.specs.declared.heads.Head.{Head}
 use Rattle.script_places.specs.declared.heads.Head.TheVariants as head
-use Rattle.script_places.specs.declared.limits.TheConstants.{MOST_CATALOG}
 use Rattle.script_places.specs.declared.places.Counts.{Counts}
-use Rattle.script_places.specs.declared.places.Mode.{Mode}
 use Rattle.script_places.specs.declared.places.Mode.TheVariants as mode
 use Rattle.script_places.specs.declared.places.Place.{Place}
-use Rattle.script_text.specs.Fits.{and_then, placed_call, placed_row, placed_settings}
+use Rattle.script_text.specs.Fits.{and_then}
 use Rattle.script_text.specs.Forms.{said}
-use Rattle.script_text.specs.declared.items.Item.{Item}
 use Rattle.script_text.specs.declared.items.Item.TheVariants as item
-use Rattle.script_text.specs.declared.refusals.CatFault.TheVariants as fault
 use Rattle.script_text.specs.declared.refusals.Kind8.{Kind8}
 use Rattle.script_text.specs.declared.refusals.Kind8.TheVariants as kind
-use Rattle.output_laws.proofs.Builtins.{builtin_printed}
-use Rattle.output_laws.proofs.Items.{PrintedItem, PrintedPair, placed_call_printed, placed_row_printed, said_printed}
 use Rattle.output_laws.proofs.Plans.{catalog_printed}
 use Rattle.output_laws.proofs.Runs.{PrintedPlan}
-use Rattle.output_laws.proofs.Texts.{PrintedArg, PrintedCall, PrintedCells, PrintedKey, PrintedPart}
 use Rattle.output_laws.proofs.Asks.{PrintedHead, as_mode}
 
 pub says_report : said (codes "report") ≡ Ok item.Report

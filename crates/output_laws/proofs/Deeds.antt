@@ -1,37 +1,34 @@
 -- Line by line `check` stands beside `once`: at the same place of the script, with the batches that were told so far.
-use Rattle.std.proofs.Common.{◌≡◌, ◌⊎◌, inl, inr, ◌∙◌, sym, ap, subst, refl, ℕ, ◌+◌, ◌<◌, ◌≤◌, ◌^◌, Bool, true, false, List, [], ◌∷◌, ◌++◌, length, map, Ok, Err, arith}
+use Rattle.std.proofs.Common.{◌≡◌, ◌⊎◌, inr, ◌∙◌, sym, ap, subst, refl, ℕ, ◌+◌, ◌<◌, ◌≤◌, Bool, true, false, List, [], ◌∷◌, ◌++◌, length, Ok, Err, arith}
 use Rattle.std.specs.Prelude.{⊤}
-use Rattle.std.specs.FinMap as fin
 use Rattle.std.specs.List.{AllByRecursion}
 use Rattle.std.proofs.lemmas.List.{length-append, map-append}
-use Rattle.aria_base.specs.Orders.{Cells, Database}
+use Rattle.aria_base.specs.Orders.{Database}
 use Rattle.aria_base.specs.declared.calls.Call.{Call}
 use Rattle.aria_base.specs.declared.limits.TheConstants.{GREATEST_NUMBER, MOST_REQUESTS}
 use Rattle.batch_core.specs.Steps.{Handed, State}
 use Rattle.batch_rules.specs.declared.verdicts.Rule.{Rule}
 use Rattle.check_command.proofs.Asked.{kept_before}
 use Rattle.check_command.specs.Checks as check
-use Rattle.proc_lang.specs.Catalogs.{Plan}
 use Rattle.report_laws.specs.Laws.{PrintedLines}
 use Rattle.report_laws.specs.Scripts.{calls_of}
 use Rattle.run_commands.specs.Bases.{counts_of, plan_in}
 use Rattle.run_commands.specs.Onces as once
 use Rattle.script_course.proofs.Turns.{stopped_lines}
-use Rattle.script_course.specs.Courses.{Course, Goes, Stops, behind, with_line, with_lines}
+use Rattle.script_course.specs.Courses.{Course, Goes, Stops, behind, with_lines}
 use Rattle.script_places.proofs.Allowed.{follows}
-use Rattle.script_places.specs.Follows.{Allows, Follows, HeadStays}
+use Rattle.script_places.specs.Follows.{Follows, HeadStays}
 use Rattle.script_places.specs.Places.{Asked, asked, is_check, is_ready}
 use Rattle.script_places.specs.declared.deeds.Deed.{Deed}
 use Rattle.script_places.specs.declared.deeds.Deed.TheVariants as deed
-use Rattle.script_places.specs.declared.heads.Head.{Head}
-use Rattle.script_places.specs.declared.heads.Head.TheVariants as head
 use Rattle.script_places.specs.declared.places.Counts.{Counts}
 use Rattle.script_places.specs.declared.places.Mode.TheVariants as mode
 use Rattle.script_places.specs.declared.places.Place.{Place}
 use Rattle.output_laws.proofs.Asks.{Asks, PrintedHead, as_mode, asked_beside, unwaited}
 use Rattle.output_laws.proofs.Batches.{PrintedState, plan_step}
-use Rattle.output_laws.proofs.Runs.{PrintedPlan, insert_printed}
-use Rattle.output_laws.proofs.Scripts.{IsTold, keep_told, nothing_told, other_plan, put_told, run_told, set_told}
+use Rattle.output_laws.proofs.Heads.{named_plan, ready_on, told_on}
+use Rattle.output_laws.proofs.Runs.{insert_printed}
+use Rattle.output_laws.proofs.Scripts.{IsTold, keep_told, nothing_told, put_told, run_told, set_told}
 use Rattle.output_laws.proofs.Texts.{PrintedCall, all_joined}
 
 -- `once` and `check` behind the same lines of a script, of which these batches were told by these bytes
@@ -52,28 +49,6 @@ pub record Beside (each : Bool) (rule : Rule) (percent : ℕ) (o : once.Doing) (
   pub report : c.report ≡ []
   pub early : o.place.rows_ended ≡ false → script ≡ []
   pub ready : (script ≡ []) ⊎ (is_ready o.place.head ≡ true)
-
-pub named_plan : (h : Head) → PrintedHead h → PrintedPlan (plan_in h)
-named_plan head.Unnamed p = record { tables = tt; procs = tt }
-named_plan (head.Text text) p = record { tables = tt; procs = tt }
-named_plan (head.Ready plan) p = p
-
--- ---- the catalogue
-
-ready_on : (script : List (ℕ × Handed)) (h k : Head) → HeadStays h k → (script ≡ []) ⊎ (is_ready h ≡ true) → (script ≡ []) ⊎ (is_ready k ≡ true)
-ready_on script h k stays (inl none) = inl none
-ready_on script (head.Ready plan) k stays (inr e) = inr (ap is_ready stays)
-ready_on script head.Unnamed k stays (inr e) = cc
-ready_on script (head.Text text) k stays (inr e) = cc
-
-module _ (each : Bool) (rule : Rule) (percent : ℕ) (rows : Database) (state : State) (bytes : List ℕ) where
-  pub told_on : (script : List (ℕ × Handed)) (h k : Head) → HeadStays h k → (script ≡ []) ⊎ (is_ready h ≡ true) → IsTold (plan_in h) each rule percent rows script state bytes
-      → IsTold (plan_in k) each rule percent rows script state bytes
-  told_on [] h k stays r t = other_plan each rule percent (plan_in h) (plan_in k) rows state bytes t
-  told_on (b ∷ script) h k stays (inl none) t = absurd cc
-  told_on (b ∷ script) (head.Ready plan) k stays (inr e) t = subst (λ (x : Head). IsTold (plan_in x) each rule percent rows (b ∷ script) state bytes) (sym stays) t
-  told_on (b ∷ script) head.Unnamed k stays (inr e) t = absurd cc
-  told_on (b ∷ script) (head.Text text) k stays (inr e) t = absurd cc
 
 before_false : (x y : Bool) → (x ≡ true → y ≡ true) → y ≡ false → x ≡ false
 before_false true y h e = let clash : true ≡ false = sym (h refl) ∙ e in cc

@@ -1,8 +1,7 @@
 -- What a script prints behind its last line: batches without new calls, and the listing.
-use Rattle.std.proofs.Common.{◌≡◌, ◌∙◌, sym, ap, subst, refl, ℕ, zero, suc, ◌+◌, ◌<◌, Bool, true, false, cond, ◌==◌, nat_lt, List, [], ◌∷◌, ◌++◌, length, arith, append_assoc, append-nil}
-use Rattle.std.specs.Prelude.{⊤, if◌then◌else◌}
+use Rattle.std.proofs.Common.{◌≡◌, ◌∙◌, sym, refl, ℕ, zero, suc, ◌<◌, Bool, true, false, cond, ◌==◌, nat_lt, List, [], ◌∷◌, ◌++◌, length, arith}
+use Rattle.std.specs.Prelude.{⊤}
 use Rattle.std.specs.List.{AllByRecursion}
-use Rattle.std.proofs.lemmas.Bool.{eq-eqb}
 use Rattle.answer_text.specs.Refusals.{refusal_text}
 use Rattle.batch_core.specs.Steps.{Handed, State, run, step}
 use Rattle.batch_engine.specs.Engines.{most_numbered}
@@ -13,10 +12,10 @@ use Rattle.report_laws.specs.Printed.{fed, state_lines}
 use Rattle.report_laws.specs.Scripts.{AreDrains, batch_lines, drain_lines}
 use Rattle.script_course.specs.Courses.{Course, Goes, Stops, behind}
 use Rattle.script_text.specs.declared.refusals.Kind8.TheVariants.{Numbers}
-use Rattle.serving.specs.Drains.{drained, goes_on, no_calls, one_drained}
+use Rattle.serving.specs.Drains.{drained, goes_on, no_calls}
 use Rattle.serving.specs.Lives.{batch_text}
 use Rattle.output_laws.proofs.Batches.{PrintedState, plan_step}
-use Rattle.output_laws.proofs.Lines.{batch_printed, state_printed}
+use Rattle.output_laws.proofs.Lines.{batch_printed}
 use Rattle.output_laws.proofs.Runs.{PrintedPlan}
 use Rattle.output_laws.proofs.Scripts.{fed_more, settled}
 use Rattle.output_laws.proofs.Texts.{Printed, all_joined}

@@ -1,5 +1,5 @@
 -- The lines of a text with more behind it, and a course as a fold over them.
-use Rattle.std.proofs.Common.{◌≡◌, ◌⊎◌, inl, inr, ◌∙◌, sym, ap, subst, refl, ℕ, zero, suc, ◌+◌, ◌<◌, Bool, true, false, cond, not, ◌==◌, List, [], ◌∷◌, ◌++◌, length, map, Option, Some, None, arith, append_assoc, append-nil}
+use Rattle.std.proofs.Common.{◌≡◌, ◌⊎◌, inl, inr, ◌∙◌, sym, ap, refl, ℕ, suc, ◌<◌, Bool, true, false, cond, not, ◌==◌, List, [], ◌∷◌, ◌++◌, length, map, Option, Some, None, arith, append_assoc, append-nil}
 use Rattle.std.specs.Prelude.{codes, option_to_list}
 use Rattle.std.specs.List.{slice_split, onto_first}
 use Rattle.std.proofs.lemmas.Bool.{eqb-true, ne_eqb}
@@ -7,8 +7,8 @@ use Rattle.std.proofs.lemmas.List.{map-append}
 use Rattle.std.proofs.lemmas.List.Splits.{length-slice_split}
 use Rattle.script_course.specs.Courses.{Course, Goes, Stops, told_whole, with_fault, with_last, with_line, with_lines}
 use Rattle.script_text.proofs.Scans.{whole}
-use Rattle.script_text.specs.Laws.{all_lines, filled, lines_of}
-use Rattle.script_text.specs.Lines.{Feed, Scan, blank, last_line, scan, unreturned}
+use Rattle.script_text.specs.Laws.{filled, lines_of}
+use Rattle.script_text.specs.Lines.{Feed, blank, last_line, scan, unreturned}
 use Rattle.script_text.specs.declared.refusals.Refusal.{Refusal}
 use Rattle.output_laws.specs.Outputs.{ended, ends_open}
 

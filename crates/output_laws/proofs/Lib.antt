@@ -4,6 +4,7 @@ mod Builtins
 mod Closings
 mod Deeds
 mod Drains
+mod Heads
 mod Items
 mod Joined
 mod Lines

@@ -1,9 +1,9 @@
 -- The lines that are printed are of printed bytes.
-use Rattle.std.proofs.Common.{◌≡◌, ℕ, zero, suc, get_or, arith, Bool, true, false, cond, List, [], ◌∷◌, ◌++◌, map, Option, Some, None, refl, sym, ap, ◌∙◌, subst}
-use Rattle.std.specs.Prelude.{⊤, codes, decimal, flat_map, if◌then◌else◌}
+use Rattle.std.proofs.Common.{ℕ, zero, suc, get_or, arith, Bool, true, false, cond, List, [], ◌∷◌, ◌++◌, map, refl}
+use Rattle.std.specs.Prelude.{codes, decimal}
 use Rattle.std.specs.FinMap as fin
 use Rattle.std.specs.List.{All, AllByRecursion, slice_get}
-use Rattle.aria_base.specs.Orders.{Cells, Database, key_cmp}
+use Rattle.aria_base.specs.Orders.{Cells, Database}
 use Rattle.image_text.proofs.RowsRise.{entry_there}
 use Rattle.aria_base.specs.declared.keys.Key.{Key}
 use Rattle.aria_base.specs.declared.keys.Part.{Part}
@@ -24,9 +24,9 @@ use Rattle.proc_lang.specs.declared.ends.End.{End}
 use Rattle.proc_lang.specs.declared.ends.End.TheVariants as end
 use Rattle.proc_lang.specs.declared.ends.Trap.{Trap}
 use Rattle.proc_lang.specs.declared.ends.Trap.TheVariants as trap
-use Rattle.script_text.specs.Tokens.{behind, part_token, quoted, spaced, value_token}
+use Rattle.script_text.specs.Tokens.{part_token, quoted, spaced, value_token}
 use Rattle.script_text.specs.Written.{key_text, row_line, table_name, table_name_or}
-use Rattle.serial_check.specs.Lines.{batch_line, end_line, end_state_line, kept_line, order_word, state_line}
+use Rattle.serial_check.specs.Lines.{batch_line, end_line, end_state_line, kept_line, order_word}
 use Rattle.serial_check.specs.Reports.{row_lines}
 use Rattle.report_laws.specs.Printed.{answer_lines, numbers_line, reply_line, state_lines}
 use Rattle.report_laws.specs.Scripts.{batch_lines}

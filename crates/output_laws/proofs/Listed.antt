@@ -1,10 +1,11 @@
--- Where the last line printed is one of a listing, the report ends with a listing.
-use Rattle.std.proofs.Common.{◌≡◌, ◌⊎◌, inl, inr, ◌∙◌, sym, ap, refl, ℕ, ◌+◌, Bool, true, false, cond, List, [], ◌∷◌, ◌++◌, append_assoc, append-nil, arith}
-use Rattle.std.specs.Prelude.{slice_index}
-use Rattle.batch_core.specs.Steps.{Handed, State, run}
+-- The last line printed is one of a listing just where the report ends with a listing.
+use Rattle.std.proofs.Common.{◌≡◌, ◌⊎◌, inl, inr, ◌∙◌, sym, ap, subst, refl, ℕ, Bool, true, false, cond, List, [], ◌∷◌, ◌++◌, append_assoc, append-nil, arith}
+use Rattle.batch_core.specs.Steps.{Handed, State, answer, step}
 use Rattle.proc_lang.specs.Catalogs.{Plan, run_of}
+use Rattle.report_laws.specs.Printed.{answer_lines}
 use Rattle.report_laws.specs.Scripts.{batch_lines, drain_lines, ends_listed, is_kept, left, listed_drains, listed_script, next, report, script_lines}
-use Rattle.serial_check.specs.Lines.{end_state_line, kept_line}
+use Rattle.serial_check.specs.Lines.{end_state_line, kept_line, state_line}
+use Rattle.serial_check.specs.Reports.{row_lines}
 
 module _ (plan : Plan) where
   -- where the last batch of a script has no listing, nothing was printed, or its line tells that it was run before
@@ -85,3 +86,70 @@ module _ (plan : Plan) (state : State) (script : List (ℕ × Handed)) (drains :
           shut : drains ≡ [] → ((false ≡ false) × (script_lines plan true state script ≡ [])) ⊎ EndsKept plan (script_lines plan true state script) → ⊥
           shut none (inl h) = ends_empty none h.1
           shut none (inr h) = ends_kept none h
+
+-- ---- and where a listing was printed last, its last line is the last one
+
+abbrev EndsListed : List (List ℕ) → Type 0
+EndsListed lines = (before : List (List ℕ)) × (lines ≡ before ++ end_state_line ∷ [])
+
+module _ (plan : Plan) where
+  behind_ends : (front lines : List (List ℕ)) → EndsListed lines → EndsListed (front ++ lines)
+  behind_ends front lines h =
+      (front ++ h.0, ap (λ (l : List (List ℕ)). front ++ l) h.1 ∙ sym (append_assoc front h.0 (end_state_line ∷ [])))
+
+  batch_ends : (state : State) (handed : Handed) → EndsListed (batch_lines plan true state handed)
+  batch_ends state handed =
+      let next = step (run_of plan) state handed in
+      let rows = row_lines plan next.rows in
+      let answered = answer_lines plan.tables (answer (run_of plan) state handed) in (
+        answered ++ state_line next.batches ∷ rows,
+        sym (append_assoc answered (state_line next.batches ∷ rows) (end_state_line ∷ [])),
+      )
+
+  script_ends : (now : Bool) (state : State) (script : List (ℕ × Handed)) → listed_script plan true now state script ≡ true
+      → ((now ≡ true) × (script_lines plan true state script ≡ [])) ⊎ EndsListed (script_lines plan true state script)
+  script_ends now state [] e = inl (e, refl)
+  script_ends now state (batch ∷ more) e = by (is_kept state batch) (script_ends (cond (is_kept state batch) false true) (next plan state batch) more e)
+    where
+      rest : List (List ℕ)
+      rest = script_lines plan true (next plan state batch) more
+
+      first : Bool → List (List ℕ)
+      first b = cond b (kept_line batch.0 ∷ []) (batch_lines plan true state batch.1)
+
+      by : (b : Bool) → ((cond b false true ≡ true) × (rest ≡ [])) ⊎ EndsListed rest → ((now ≡ true) × (first b ++ rest ≡ [])) ⊎ EndsListed (first b ++ rest)
+      by true (inl h) = let clash : false ≡ true = h.0 in cc
+      by false (inl h) =
+          inr (subst EndsListed (sym (ap (λ (l : List (List ℕ)). batch_lines plan true state batch.1 ++ l) h.1 ∙ append-nil (batch_lines plan true state batch.1)))
+          (batch_ends state batch.1))
+      by b (inr h) = inr (behind_ends (first b) rest h)
+
+  drains_end : (state : State) (drains : List Handed) → (drains ≡ []) ⊎ EndsListed (drain_lines plan true state drains)
+  drains_end state [] = inl refl
+  drains_end state (handed ∷ more) = inr (by (drains_end (step (run_of plan) state handed) more))
+    where
+      by : (more ≡ []) ⊎ EndsListed (drain_lines plan true (step (run_of plan) state handed) more)
+          → EndsListed (batch_lines plan true state handed ++ drain_lines plan true (step (run_of plan) state handed) more)
+      by (inl none) =
+          subst EndsListed (sym (ap (λ (d : List Handed). batch_lines plan true state handed ++ drain_lines plan true (step (run_of plan) state handed) d) none
+          ∙ append-nil (batch_lines plan true state handed))) (batch_ends state handed)
+      by (inr h) = behind_ends (batch_lines plan true state handed) (drain_lines plan true (step (run_of plan) state handed) more) h
+
+  module _ (state : State) (script : List (ℕ × Handed)) (drains : List Handed) where
+    abbrev Front : List (List ℕ)
+    Front = script_lines plan true state script
+
+    abbrev Back : List (List ℕ)
+    Back = drain_lines plan true (left plan state script) drains
+
+    pub ends_listed_so : ends_listed plan true state script drains ≡ true → (before : List (List ℕ)) × (report plan true state script drains ≡ before ++ end_state_line ∷ [])
+    ends_listed_so e = subst EndsListed (sym (append-nil (Front ++ Back))) (by (drains_end (left plan state script) drains))
+      where
+        kept : drains ≡ [] → ((false ≡ true) × (Front ≡ [])) ⊎ EndsListed Front → EndsListed (Front ++ Back)
+        kept none (inl h) = let clash : false ≡ true = h.0 in cc
+        kept none (inr h) =
+            subst EndsListed (sym (ap (λ (d : List Handed). Front ++ drain_lines plan true (left plan state script) d) none ∙ append-nil Front)) h
+
+        by : (drains ≡ []) ⊎ EndsListed Back → EndsListed (Front ++ Back)
+        by (inl none) = kept none (script_ends false state script (ap (λ (d : List Handed). listed_drains plan true (listed_script plan true false state script) d) (sym none) ∙ e))
+        by (inr h) = behind_ends Front Back h

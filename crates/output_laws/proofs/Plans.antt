@@ -1,22 +1,22 @@
 -- The texts of a catalogue that a text says are of printed bytes.
-use Rattle.std.proofs.Common.{◌≡◌, ℕ, ◌+◌, ◌≤◌, Bool, true, false, cond, List, [], ◌∷◌, ◌++◌, length, map, Option, Some, None, Ok, Err, IfOk, refl, ap, subst, arith, Result}
-use Rattle.std.specs.Prelude.{⊤, ◌&&◌, nat_le, option_and_then}
+use Rattle.std.proofs.Common.{◌≡◌, ℕ, ◌+◌, Bool, true, false, cond, List, [], ◌∷◌, ◌++◌, length, map, Option, Some, None, Ok, Err, IfOk, refl, subst, arith, Result}
+use Rattle.std.specs.Prelude.{nat_le, option_and_then}
 use Rattle.std.specs.Str.{is_utf8}
 use Rattle.std.specs.List.{AllByRecursion, list_all}
 use Rattle.std.proofs.lemmas.Bool.{and_parts}
 use Rattle.std.proofs.lemmas.Grind.{common_steps}
 use Rattle.aria_base.specs.Texts.{is_word, may_hold}
-use Rattle.aria_base.specs.declared.limits.TheConstants.{LONGEST_TEXT, FEWEST_PARTS, MOST_ARGS, MOST_COLUMNS, MOST_PARTS}
+use Rattle.aria_base.specs.declared.limits.TheConstants.{LONGEST_TEXT, MOST_ARGS}
 use Rattle.aria_base.specs.declared.schemas.Table.{Table}
 use Rattle.serde_json.specs.Data.{Data, null, boolean, number, string, array, object, Items, no_items, item}
 use Rattle.serde_json.specs.Find.{as_array, as_i64, as_str}
 use Rattle.serde_json.specs.Read.{read}
 use Rattle.proc_lang.specs.declared.flaws.Wrong.{Wrong}
-use Rattle.proc_lang.specs.declared.limits.TheConstants.{MOST_FRONT, MOST_PROCS, MOST_REGS, MOST_TABLES}
+use Rattle.proc_lang.specs.declared.limits.TheConstants.{MOST_FRONT, MOST_PROCS, MOST_REGS}
 use Rattle.proc_lang.specs.declared.procs.PathPart.{PathPart}
 use Rattle.proc_lang.specs.declared.procs.Proc.{Proc}
-use Rattle.proc_lang.specs.Catalogs.{Plan, is_between, table_fits}
-use Rattle.proc_lang.specs.Steps.{Traps, Fails, Blanks, Step, Steps, NoMore, More, Let, Read, Put, Del, If, Each, Give, Fail}
+use Rattle.proc_lang.specs.Catalogs.{Plan, table_fits}
+use Rattle.proc_lang.specs.Steps.{Traps, Fails, Blanks, Step, Steps, Let, Read, Put, Del, If, Each, Give, Fail}
 use Rattle.proc_lang.specs.Syntax.{in_turn}
 use Rattle.proc_lang.specs.Terms.{Term, Num, Text, Me, Named, Unary, Binary, MulDiv, Front}
 use Rattle.proc_lang.specs.Values.{both}

@@ -15,20 +15,18 @@ use Rattle.aria_base.specs.declared.values.Kind.TheVariants as kind
 use Rattle.aria_base.specs.declared.values.Value.{Value}
 use Rattle.aria_base.specs.declared.values.Value.TheVariants as value
 use Rattle.batch_rules.specs.Touches.{Declared, may_read, may_write, outside, map_after}
-use Rattle.batch_rules.specs.Trees.{Tree, Ends, Reads, Writes, set_at, trace_of, end_of, left_by}
+use Rattle.batch_rules.specs.Trees.{Ends, Reads, Writes, set_at, trace_of, end_of, left_by}
 use Rattle.batch_rules.proofs.Maps.{get-set_at, same_key}
-use Rattle.proc_lang.specs.declared.ends.End.{End}
 use Rattle.proc_lang.specs.declared.ends.End.TheVariants as end
-use Rattle.proc_lang.specs.declared.ends.Trap.TheVariants.{Absent, Many}
+use Rattle.proc_lang.specs.declared.ends.Trap.TheVariants.{Many}
 use Rattle.proc_lang.specs.declared.limits.TheConstants.{MOST_ACCESSES, MOST_GIVEN}
 use Rattle.proc_lang.specs.declared.procs.Proc.{Proc}
 use Rattle.proc_lang.specs.Catalogs.{Plan, run_by, run_of}
-use Rattle.proc_lang.specs.Meaning.{Frame, Next, Run, begun, blank_all, blank_one, counted, done, find_in, for_each, gives, is_done, key_from, read_or, reads, row_from, row_or, script, set_all, set_to, step_run, steps_run, value_of, with, writes}
+use Rattle.proc_lang.specs.Meaning.{Frame, Next, Run, begun, blank_all, counted, done, for_each, gives, is_done, key_from, reads, row_from, row_or, script, set_all, set_to, step_run, steps_run, value_of, with, writes}
 use Rattle.proc_lang.specs.Steps.{Absence, Traps, Fails, Blanks, Step, Steps, NoMore, More}
 use Rattle.proc_lang.specs.Steps as step
-use Rattle.proc_lang.specs.Terms.{Term}
 use Rattle.proc_lang.specs.Values.{Got, blank, both, got, tuples_of}
-use Rattle.output_laws.proofs.Texts.{Printed, PrintedCall, PrintedCells, PrintedEnd, PrintedKey, PrintedRow, PrintedValue, all_joined, all_mapped, all_set}
+use Rattle.output_laws.proofs.Texts.{Printed, PrintedCall, PrintedCells, PrintedEnd, PrintedKey, PrintedRow, PrintedValue, all_joined, all_set}
 use Rattle.output_laws.proofs.Values.{PrintedTerm, both_hold, got_holds, key_gives, row_gives, value_gives}
 
 -- ---- trees

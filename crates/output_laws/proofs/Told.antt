@@ -1,12 +1,9 @@
 -- The lines of a report, as `check` reads them behind a script, and its end.
-use Rattle.std.proofs.Common.{◌≡◌, ◌∙◌, sym, ap, subst, refl, ℕ, Bool, true, false, cond, ◌==◌, List, [], ◌∷◌, ◌++◌, Ok, Err, append_assoc, append-nil}
-use Rattle.std.specs.Prelude.{Result}
+use Rattle.std.proofs.Common.{◌≡◌, ◌∙◌, sym, ap, subst, refl, ℕ, Bool, true, cond, ◌==◌, List, [], ◌∷◌, ◌++◌, Ok, Err, append_assoc, append-nil}
 use Rattle.check_command.specs.Checks as check
-use Rattle.check_command.specs.Texts.{holds_text}
 use Rattle.proc_lang.specs.Catalogs.{Plan}
 use Rattle.run_commands.specs.Bases.{plan_in}
-use Rattle.script_course.specs.Courses.{Course, Goes, Out, behind, with_lines}
-use Rattle.script_course.specs.declared.statuses.TheConstants.{DONE}
+use Rattle.script_course.specs.Courses.{Course, Goes, behind, with_lines}
 use Rattle.script_places.specs.Places.{by_head, closing, next_line}
 use Rattle.script_places.specs.Places as places
 use Rattle.script_places.specs.declared.deeds.Deed.TheVariants as deed
@@ -14,11 +11,8 @@ use Rattle.script_places.specs.declared.heads.Head.{Head}
 use Rattle.script_places.specs.declared.heads.Head.TheVariants as head
 use Rattle.script_places.specs.declared.places.Place.{Place}
 use Rattle.script_text.specs.Forms.{said}
-use Rattle.script_text.specs.declared.refusals.Kind8.{Kind8}
 use Rattle.script_text.specs.declared.refusals.Kind8.TheVariants.{Unfinished}
 use Rattle.serial_check.specs.Reports as serial
-use Rattle.serial_check.specs.declared.findings.Finding.{Finding}
-use Rattle.serial_check.specs.declared.findings.Finding.TheVariants.{Holds}
 use Rattle.output_laws.proofs.Closings.{IsSettled}
 
 -- ---- lines
@@ -62,11 +56,11 @@ same_plan head.Unnamed = refl
 same_plan (head.Text text) = refl
 same_plan (head.Ready plan) = refl
 
--- where the report holds, so the end tells
+-- the end tells what is found of the report
 pub told_end : (c : check.Doing) (lines : List (List ℕ)) → IsSettled c.place.head → (c.place.open_calls == 0) ≡ true
-    → serial.finding (plan_in c.place.head) (c.report ++ lines) c.rows c.script ≡ Holds
-    → check.on_end (record c { place = passed lines c.place; report = c.report ++ lines }) ≡ record { bytes = holds_text; status = DONE }
-told_end c lines settled none holds =
+    → check.on_end (record c { place = passed lines c.place; report = c.report ++ lines })
+    ≡ check.out_of_finding c.ends (serial.finding (plan_in c.place.head) (c.report ++ lines) c.rows c.script)
+told_end c lines settled none =
     let p = passed lines c.place in
     let last : check.Doing = record c { place = p; report = c.report ++ lines } in
     let settled_there = subst (λ (q : Place). IsSettled q.head) (sym (passed_is lines c.place)) settled in
@@ -74,4 +68,3 @@ told_end c lines settled none holds =
     let plan : check.plan_in p.head ≡ plan_in c.place.head = same_plan p.head ∙ ap (λ (q : Place). plan_in q.head) (passed_is lines c.place) in
     ap (check.closed_by last) (close_check p settled_there none_there)
     ∙ ap (λ (x : Plan). check.out_of_finding c.ends (serial.finding x (c.report ++ lines) c.rows c.script)) plan
-    ∙ ap (check.out_of_finding c.ends) holds

@@ -1,18 +1,15 @@
 -- An expression over values of printed bytes gives such a value.
-use Rattle.std.proofs.Common.{◌≡◌, ℕ, ℤ, zero, suc, pos, Bool, true, false, cond, nat_lt, List, [], ◌∷◌, ◌++◌, length, map, take, Option, Some, None, Ok, Err, IfOk, refl}
-use Rattle.std.specs.Prelude.{⊤, ◌&&◌, nat_le, min, ◌+ℤ◌, ◌-ℤ◌, ◌*ℤ◌, slice_get, slice_index_or}
+use Rattle.std.proofs.Common.{ℕ, ℤ, zero, suc, pos, Bool, true, false, cond, nat_lt, List, [], ◌∷◌, ◌++◌, length, map, take, Ok, Err, IfOk, refl}
+use Rattle.std.specs.Prelude.{⊤, ◌&&◌, nat_le, min, ◌+ℤ◌, ◌-ℤ◌, ◌*ℤ◌, slice_get}
 use Rattle.std.specs.List.{AllByRecursion}
-use Rattle.std.specs.Fmt.{signed_decimal}
 use Rattle.std.specs.Ordering.{int_eq}
 use Rattle.aria_base.specs.declared.calls.Arg.{Arg}
 use Rattle.aria_base.specs.declared.calls.Arg.TheVariants as arg
 use Rattle.aria_base.specs.declared.calls.Request.{Request}
-use Rattle.aria_base.specs.declared.keys.Part.{Part}
 use Rattle.aria_base.specs.declared.keys.Part.TheVariants as part
 use Rattle.aria_base.specs.declared.values.Value.{Value}
 use Rattle.aria_base.specs.declared.values.Value.TheVariants as value
 use Rattle.aria_base.specs.declared.limits.TheConstants.{LONGEST_TEXT, MOST_PARTS, MOST_COLUMNS}
-use Rattle.proc_lang.specs.declared.ends.Trap.{Trap}
 use Rattle.proc_lang.specs.declared.ends.Trap.TheVariants.{Overflow, Zero, Long}
 use Rattle.proc_lang.specs.declared.operators.Source.{Source}
 use Rattle.proc_lang.specs.declared.operators.Source.TheVariants as source
@@ -22,7 +19,7 @@ use Rattle.proc_lang.specs.declared.operators.BinaryOp.{BinaryOp}
 use Rattle.proc_lang.specs.declared.operators.BinaryOp.TheVariants as binary
 use Rattle.proc_lang.specs.Terms.{Term}
 use Rattle.proc_lang.specs.Terms as term
-use Rattle.proc_lang.specs.Values.{Got, got, both, int_of, text_of, is_i64, number, divided, remainder, quotient, joined, front, value_of_arg}
+use Rattle.proc_lang.specs.Values.{Got, got, both, int_of, text_of, is_i64, number, divided, remainder, quotient, front, value_of_arg}
 use Rattle.proc_lang.specs.Meaning.{by_unary, by_binary, named_value, value_of, values_after, values_of, part_of, parts_of, key_from, row_from}
 use Rattle.output_laws.proofs.Texts.{Printed, PrintedArg, PrintedCall, PrintedCells, PrintedKey, PrintedPart, PrintedValue, all_joined, all_mapped, all_taken, at_or, joined_printed, signed_printed, taken_printed}
 

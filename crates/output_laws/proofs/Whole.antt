@@ -1,11 +1,10 @@
 -- What `once` prints of a text passes `check`.
-use Rattle.std.proofs.Common.{◌≡◌, ◌∙◌, sym, ap, subst, refl, ℕ, Bool, true, false, cond, List, [], ◌∷◌, ◌++◌, length, None, Ok, Err, inl, arith, append_assoc}
+use Rattle.std.proofs.Common.{◌≡◌, ◌∙◌, sym, ap, subst, refl, ℕ, Bool, true, false, List, [], ◌∷◌, ◌++◌, length, Ok, Err, inl, arith, append_assoc}
 use Rattle.std.specs.Prelude.{Result, codes, if◌then◌else◌}
 use Rattle.std.specs.FinMap as fin
 use Rattle.std.specs.List.{AllByRecursion}
 use Rattle.std.proofs.lemmas.Option.{none-some}
-use Rattle.aria_base.specs.Orders.{Cells, Database, key_cmp}
-use Rattle.aria_base.specs.declared.keys.Key.{Key}
+use Rattle.aria_base.specs.Orders.{Database, key_cmp}
 use Rattle.batch_core.specs.Steps.{Handed, State, run}
 use Rattle.batch_rules.specs.declared.verdicts.Rule.{Rule}
 use Rattle.check_command.specs.Checks as check
@@ -13,7 +12,7 @@ use Rattle.check_command.specs.Outs as checked
 use Rattle.check_command.specs.Texts.{holds_text}
 use Rattle.command_words.specs.declared.settings.Once.{Once}
 use Rattle.proc_lang.specs.Catalogs.{Plan, run_of}
-use Rattle.report_laws.specs.Laws.{OwnReport, PrintedLines}
+use Rattle.report_laws.specs.Laws.{OpenReport, OwnReport, PrintedLines}
 use Rattle.report_laws.specs.Printed.{fed, state_lines}
 use Rattle.report_laws.specs.Scripts.{AreDrains, calls_of, drain_lines, ends_listed, fresh, left, report, script_lines}
 use Rattle.run_commands.specs.Bases.{plan_in}
@@ -22,47 +21,53 @@ use Rattle.run_commands.specs.Outs as outs
 use Rattle.run_commands.specs.declared.loops.TheConstants as limits
 use Rattle.check_command.specs.declared.commands.TheConstants as bounds
 use Rattle.script_course.specs.Courses.{Course, Goes, Stops, Out, behind, ended, out_behind, told_whole, with_lines}
-use Rattle.script_course.specs.declared.statuses.TheConstants.{DONE, REFUSED}
+use Rattle.script_course.specs.declared.statuses.TheConstants.{DONE, FAILS, REFUSED}
 use Rattle.script_places.proofs.Allowed.{closes}
 use Rattle.script_places.specs.Places.{asked, closing}
 use Rattle.script_places.specs.declared.deeds.Deed.TheVariants as deed
 use Rattle.script_places.specs.declared.places.Mode.TheVariants as mode
 use Rattle.script_places.specs.declared.places.Place.{Place}
 use Rattle.script_text.specs.Laws.{lines_of}
-use Rattle.script_text.specs.Lines.{line_after, scan}
+use Rattle.script_text.specs.Lines.{line_after}
 use Rattle.script_text.specs.declared.refusals.Kind8.{Kind8}
 use Rattle.serial_check.specs.Lines.{end_state_line}
 use Rattle.serial_check.specs.Reports as serial
-use Rattle.serial_check.specs.declared.findings.Finding.TheVariants.{Holds}
+use Rattle.serial_check.specs.declared.findings.Finding.{Finding}
 use Rattle.serving.specs.Drains.{drains}
 use Rattle.serving.specs.Lives.{listing}
-use Rattle.output_laws.specs.Outputs.{EndsListed, PassesCheck, reported}
+use Rattle.output_laws.specs.Outputs.{EndsListed, FailsCheck, IsInput, PassesCheck, reported}
 use Rattle.output_laws.specs.Outputs as outputs
 use Rattle.output_laws.proofs.Asks.{as_mode}
 use Rattle.output_laws.proofs.Closings.{Closes, closing_beside}
-use Rattle.output_laws.proofs.Deeds.{Beside, LinesOn, lines_beside, named_plan, told_on}
+use Rattle.output_laws.proofs.Deeds.{Beside, LinesOn, lines_beside}
 use Rattle.output_laws.proofs.Drains.{Drained, DrainedBy, drained_told, none_drained, same_drains, same_lines, same_listing}
+use Rattle.output_laws.proofs.Heads.{named_plan, told_on}
 use Rattle.output_laws.proofs.Joined.{ended_lines, goes_within, line_first, lines_append, whole_lines}
 use Rattle.output_laws.proofs.Lines.{state_printed}
-use Rattle.output_laws.proofs.Listed.{is_listed}
-use Rattle.output_laws.proofs.Scripts.{IsTold, fed_more, settled}
+use Rattle.output_laws.proofs.Listed.{ends_listed_so, is_listed}
+use Rattle.output_laws.proofs.Scripts.{IsTold, fed_more}
 use Rattle.output_laws.proofs.Texts.{Printed, all_joined}
 use Rattle.output_laws.proofs.Told.{passed, told_end, told_lines}
 
 refused_is_not : {A : Type 0} → REFUSED ≡ DONE → A
 refused_is_not e = absurd (omega (arith, e))
 
-module _ (own : (plan : Plan) (rule : Rule) (percent : ℕ) (rows : Database) → OwnReport plan rule percent rows) (lines : PrintedLines) (settings : Once) (text : List ℕ) where
+module _ (own : (plan : Plan) (rule : Rule) (percent : ℕ) (rows : Database) → OwnReport plan rule percent rows)
+    (open_one : (plan : Plan) (rule : Rule) (percent : ℕ) (rows : Database) → OpenReport plan rule percent rows) (lines : PrintedLines) (settings : Once) (text : List ℕ) where
   abbrev each : Bool
   each = outs.is_each settings.listing
 
   abbrev start : once.Doing
   start = outs.start_of settings
 
-  -- an output that passes
+  -- what `check` prints of this output behind the script, by whether its last line is one of a listing
+  abbrev Judged : List ℕ → Out → Type 0
+  Judged bytes out =
+      ((each ≡ true → EndsListed bytes) → out ≡ record { bytes = holds_text; status = DONE })
+      × (each ≡ true → (EndsListed bytes → ⊥) → out.status ≡ FAILS)
+
   abbrev Passes : Out → Type 0
-  Passes out = out.status ≡ DONE → (each ≡ true → EndsListed out.bytes) → (scan checked.no_line (reported text out.bytes)).fault ≡ None
-      → checked.out_of (reported text out.bytes) ≡ record { bytes = holds_text; status = DONE }
+  Passes out = out.status ≡ DONE → IsInput text out.bytes → Judged out.bytes (checked.out_of (reported text out.bytes))
 
   begun : Beside each settings.rule settings.fallback start check.start [] []
   begun = record {
@@ -145,19 +150,42 @@ module _ (own : (plan : Plan) (rule : Rule) (percent : ℕ) (rows : Database) �
       printed_lines : lines_of (bytes ++ (more ++ tail)) ≡ whole_report
       printed_lines = ap lines_of bytes_are ∙ lines.again whole_report report_printed
 
+      abbrev Bytes : List ℕ
+      Bytes = bytes ++ (more ++ tail)
+
+      drains_are : AreDrains plan after d.drains
+      drains_are = same_drains plan o.state.rule o.state.percent after d.drains (subst (λ (s : State). AreDrains plan s d.drains) told.state_is d.are)
+
+      found : serial.finding plan (c.report ++ whole_report) c.rows c.script ≡ serial.finding plan whole_report c.rows (calls_of script)
+      found = λ i. serial.finding plan (b.report i ++ whole_report) c.rows (b.script_is i)
+
       -- the listing that each answer has stands last
-      ends_so : (each ≡ true → EndsListed (bytes ++ (more ++ tail))) → o.each ≡ true → ends_listed plan o.each first script d.drains ≡ true
+      ends_so : (each ≡ true → EndsListed Bytes) → o.each ≡ true → ends_listed plan o.each first script d.drains ≡ true
       ends_so listed e =
           let seen = listed (sym b.each_is ∙ e) in
-          let last_line : report plan true first script d.drains ≡ seen.0 ++ end_state_line ∷ [] = ap (λ (x : Bool). report plan x first script d.drains) (sym e) ∙ sym printed_lines ∙ seen.1 in
+          let last_line : report plan true first script d.drains ≡ seen.0 ++ end_state_line ∷ []
+          = ap (λ (x : Bool). report plan x first script d.drains) (sym e) ∙ sym printed_lines ∙ seen.1 in
           ap (λ (x : Bool). ends_listed plan x first script d.drains) e ∙ is_listed plan first script d.drains seen.0 last_line
 
-      holds : (each ≡ true → EndsListed (bytes ++ (more ++ tail))) → serial.finding plan (c.report ++ whole_report) c.rows c.script ≡ Holds
+      holds : (each ≡ true → EndsListed Bytes) → check.out_of_finding c.ends (serial.finding plan (c.report ++ whole_report) c.rows c.script) ≡ record { bytes = holds_text; status = DONE }
       holds listed =
-          (λ i. serial.finding plan (b.report i ++ whole_report) c.rows (b.script_is i))
-          ∙ own plan settings.rule settings.fallback c.rows o.each script d.drains told.room
-          (same_drains plan o.state.rule o.state.percent after d.drains (subst (λ (s : State). AreDrains plan s d.drains) told.state_is d.are))
-          (ends_so listed)
+          ap (check.out_of_finding c.ends) (found ∙ own plan settings.rule settings.fallback c.rows o.each script d.drains told.room drains_are (ends_so listed))
+
+      -- or it does not
+      ends_not : each ≡ true → (EndsListed Bytes → ⊥) → ends_listed plan true first script d.drains ≡ false
+      ends_not e other = by (ends_listed plan true first script d.drains) refl
+        where
+          by : (x : Bool) → ends_listed plan true first script d.drains ≡ x → x ≡ false
+          by false k = refl
+          by true k =
+              let last = ends_listed_so plan first script d.drains k in
+              absurd (other (last.0, printed_lines ∙ ap (λ (x : Bool). report plan x first script d.drains) (b.each_is ∙ e) ∙ last.1))
+
+      fails : each ≡ true → (EndsListed Bytes → ⊥) → (check.out_of_finding c.ends (serial.finding plan (c.report ++ whole_report) c.rows c.script)).status ≡ FAILS
+      fails e other =
+          ap (λ (f : Finding). (check.out_of_finding c.ends f).status)
+          (found ∙ ap (λ (x : Bool). serial.finding plan (report plan x first script d.drains) c.rows (calls_of script)) (b.each_is ∙ e)
+          ∙ open_one plan settings.rule settings.fallback c.rows script d.drains told.room drains_are (ends_not e other))
 
       -- the line behind which the report begins
       abbrev begins : check.Doing
@@ -182,13 +210,19 @@ module _ (own : (plan : Plan) (rule : Rule) (percent : ℕ) (rows : Database) �
           ∙ ap (λ (k : Course check.Doing). with_lines check.on_line (behind [] k) whole_report) report_line
           ∙ told_lines whole_report begins refl
 
-      finish : Passes (record { bytes = bytes ++ (more ++ tail); status = DONE })
-      finish done listed within =
-          let joint = reported text (bytes ++ (more ++ tail)) in
+      judged : IsInput text Bytes → checked.out_of (reported text Bytes) ≡ check.out_of_finding c.ends (serial.finding plan (c.report ++ whole_report) c.rows c.script)
+      judged within =
           ap (ended check.on_end)
-          (whole_lines check.on_line bounds.MOST_BYTES bounds.LONGEST_LINE check.start joint within
+          (whole_lines check.on_line bounds.MOST_BYTES bounds.LONGEST_LINE check.start (reported text Bytes) within
           ∙ ap (with_lines check.on_line (Goes [] check.start)) joint_lines ∙ all_read)
-          ∙ ap (out_behind []) (told_end begins whole_report closed.1.settled closed.1.calls (holds listed))
+          ∙ ap (out_behind []) (told_end begins whole_report closed.1.settled closed.1.calls)
+          ∙ behind_none (check.out_of_finding c.ends (serial.finding plan (c.report ++ whole_report) c.rows c.script))
+        where
+          behind_none : (out : Out) → out_behind [] out ≡ out
+          behind_none out = refl
+
+      finish : Passes (record { bytes = Bytes; status = DONE })
+      finish done within = ((λ listed. judged within ∙ holds listed), (λ e other. ap (λ (out : Out). out.status) (judged within) ∙ fails e other))
 
   -- ---- how it came to its end
 
@@ -219,4 +253,7 @@ module _ (own : (plan : Plan) (rule : Rule) (percent : ℕ) (rows : Database) �
       by_closed o bytes beside.1 beside.0 beside.2 beside.3 (closing o.place) refl
 
   pub passes_check : PassesCheck settings text
-  passes_check = by_course (told_whole once.on_line outs.no_line start text) refl
+  passes_check done within listed = (by_course (told_whole once.on_line outs.no_line start text) refl done within).0 listed
+
+  pub fails_check : FailsCheck settings text
+  fails_check done within e other = (by_course (told_whole once.on_line outs.no_line start text) refl done within).1 e other

@@ -5,7 +5,7 @@ use Rattle.check_command.specs.Outs as check
 use Rattle.check_command.specs.Texts.{holds_text}
 use Rattle.run_commands.specs.Outs as once
 use Rattle.script_course.specs.Courses.{Out}
-use Rattle.script_course.specs.declared.statuses.TheConstants.{DONE}
+use Rattle.script_course.specs.declared.statuses.TheConstants.{DONE, FAILS}
 use Rattle.script_text.specs.Laws.{lines_of}
 use Rattle.script_text.specs.Lines.{scan}
 use Rattle.serial_check.specs.Lines.{end_state_line}
@@ -28,12 +28,23 @@ reported text bytes = ended text ++ codes "report\n" ++ bytes
 abbrev pub EndsListed : List ℕ → Type 0
 EndsListed bytes = (before : List (List ℕ)) × (lines_of bytes ≡ before ++ end_state_line ∷ [])
 
--- Where `once` runs a script to its end, and its output behind the script is an input of `check`, that finds nothing wrong. Where each
--- answer has a listing, the output has to end with one, as every report does.
+-- the script with its output is an input of `check`: no byte of it is past a bound
+abbrev pub IsInput : List ℕ → List ℕ → Type 0
+IsInput text bytes = (scan check.no_line (reported text bytes)).fault ≡ None
+
+-- Where `once` ends well, and the script with its output is an input of `check`, that prints that it holds. Where each answer has a
+-- listing, the last line printed has to be one of a listing.
 abbrev pub PassesCheck : Once → List ℕ → Type 0
 PassesCheck settings text =
     let out : Out = once.out_of settings text in
-    out.status ≡ DONE
+    out.status ≡ DONE → IsInput text out.bytes
     → (once.is_each settings.listing ≡ true → EndsListed out.bytes)
-    → (scan check.no_line (reported text out.bytes)).fault ≡ None
     → check.out_of (reported text out.bytes) ≡ record { bytes = holds_text; status = DONE }
+
+-- and where it is not one, `check` tells that the report fails
+abbrev pub FailsCheck : Once → List ℕ → Type 0
+FailsCheck settings text =
+    let out : Out = once.out_of settings text in
+    out.status ≡ DONE → IsInput text out.bytes
+    → once.is_each settings.listing ≡ true → (EndsListed out.bytes → ⊥)
+    → (check.out_of (reported text out.bytes)).status ≡ FAILS

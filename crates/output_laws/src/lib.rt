@@ -1,4 +1,4 @@
-//! The law that what `once` prints passes `check`. It speaks of both commands at once, which know nothing of one another.
+//! Laws of what `once` prints: whether it passes `check`. They speak of both commands at once, which know nothing of one another.
 //!
 //! `specs/Outputs` has the statement. In `proofs/`: `Texts` to `Lines` say that printed lines have printed bytes alone;
 //! `Asks` to `Deeds` that `check` reads a script as `once` does; `Drains` to `Whole` what comes behind its last line.
@@ -6,4 +6,4 @@
 
 mod laws;
 
-pub use laws::passes_check;
+pub use laws::{fails_check, passes_check};
