@@ -1,0 +1,64 @@
+// Every image of a stop that memory tells: after each call on the disk, with what was not synced kept, 0 or 1.
+use crate::outcomes::{
+    ADD, IMAGES, MADE, RUN, empty_disk, ends, goes_on, new_store, outcome, same, smooth, stopped,
+};
+use std::process::Abort;
+use std::test::Fail;
+use std::thread::Threads;
+
+/// Whether a stop after so many calls leaves what the last of `needed` calls syncs, where the one before it
+/// writes the gate that shows it.
+fn is_left(calls: u64, needed: u64, image: (bool, u8)) -> bool {
+    let (kept, fill) = image;
+    let gate_written = calls == needed.saturating_sub(1);
+    needed <= calls || gate_written && (kept || fill == 1)
+}
+
+/// Stops these words behind each of their calls on the store, whose script has one batch. An append has four
+/// calls: the record, its sync, the gate, its sync. From then on no stop loses the batch.
+fn each_stop<R: AllocGlobal + Threads + Abort + Sync>(rt: &R, words: &str) -> Result<(), Fail> {
+    let mut disk = new_store(rt, 0)?;
+    let before = disk.calls();
+    ends(rt, &RUN, &mut disk)?;
+    let appended = disk.calls();
+    let mut disk = new_store(rt, 0)?;
+    let (status, _) = outcome(rt, &smooth(words, ADD), &mut disk)?;
+    same(rt, &words, &status, &0);
+    for calls in before..=disk.calls() {
+        for image in IMAGES {
+            let mut left = stopped(rt.alloc(), &disk, calls, image)?;
+            let has = goes_on(rt, &mut left)?;
+            same(rt, &(calls, image), &has, &is_left(calls, appended, image));
+        }
+    }
+    Ok(())
+}
+
+#[test]
+fn a_stop_of_a_batch_leaves_it_or_not(rt: HostRuntime) -> Result<(), Fail> {
+    each_stop(&rt, "run")
+}
+
+#[test]
+fn a_stop_of_a_rotation_leaves_the_batch(rt: HostRuntime) -> Result<(), Fail> {
+    each_stop(&rt, "run --checkpoint 1")
+}
+
+/// A store is made by the gate of its checkpoint. Before that there is none.
+#[test]
+fn a_store_is_there_once_it_is_ready(rt: HostRuntime) -> Result<(), Fail> {
+    let mut disk = empty_disk(rt.alloc(), 0)?;
+    ends(&rt, &MADE, &mut disk)?;
+    let made = disk.calls();
+    for calls in 0..=made {
+        for image in IMAGES {
+            let mut left = stopped(rt.alloc(), &disk, calls, image)?;
+            if is_left(calls, made, image) {
+                goes_on(&rt, &mut left)?;
+            } else {
+                ends(&rt, &("run", "", 6, "refused store none\n"), &mut left)?;
+            }
+        }
+    }
+    Ok(())
+}
