@@ -32,7 +32,7 @@ fn a_disk_that_fails_is_named(rt: HostRuntime) -> Result<(), Fail> {
     let mut smooth = disk_of(alloc, checkpoint_bytes(alloc)?, log_of(alloc, &TWO)?, 0)?;
     let (status, _) = outcome(&rt, &USUAL, &mut smooth, 0)?;
     same(&rt, &"smooth", &status, &0);
-    for failing in 1..smooth.calls() + 1 {
+    for failing in 1..=smooth.calls() {
         let mut disk = disk_of(
             alloc,
             checkpoint_bytes(alloc)?,

@@ -1,6 +1,6 @@
 // Logs, and what is printed of them.
 use crate::stores::{
-    Record, USUAL, append_record, checkpoint_bytes, disk_of, ends, log_of, outcome, same,
+    Record, USUAL, append_record, checkpoint_bytes, damage, disk_of, ends, log_of, outcome, same,
 };
 use command_words::{Listing, Replay};
 use disk_model::MemDisk;
@@ -90,7 +90,7 @@ fn two_batches(rt: HostRuntime) -> Result<(), Fail> {
 fn first_format(rt: HostRuntime) -> Result<(), Fail> {
     let alloc = rt.alloc();
     let mut slot = checkpoint_bytes(alloc)?;
-    slot[5] = 1;
+    damage(&mut slot, 5, 1);
     let mut log = Vec::new(alloc);
     append_record(&mut log, &[], "tx add 1 1\ntx add 1 2\n")?;
     log.push(0)?;
@@ -125,7 +125,7 @@ fn damaged_logs(rt: HostRuntime) -> Result<(), Fail> {
     let alloc = rt.alloc();
     for (place, byte, status, output) in CHANGED {
         let mut log = log_of(alloc, &TWO)?;
-        log[place] = byte;
+        damage(&mut log, place, byte);
         let mut disk = disk_of(alloc, checkpoint_bytes(alloc)?, log, 0)?;
         ends(&rt, &USUAL, &mut disk, status, output)?;
     }

@@ -45,6 +45,13 @@ pub fn append_record(log: &mut Vec<u8>, settings: &[u8], lines: &str) -> Result<
     Ok(())
 }
 
+/// Puts another byte at this offset of a file.
+pub fn damage(file: &mut Vec<u8>, offset: usize, byte: u8) {
+    if let Some(old) = file.get_mut(offset) {
+        *old = byte;
+    }
+}
+
 /// The checkpoint's file of a new store with the three accounts.
 pub fn checkpoint_bytes(alloc: Global) -> Result<Vec<u8>, Memory> {
     let mut disk = MemDisk::new(alloc, 100, 100_000, Vec::new(alloc))?;

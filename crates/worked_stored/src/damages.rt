@@ -1,5 +1,6 @@
 // A store with one batch, changed in one place.
 use crate::outcomes::{LOG, OPENED, REPLAYED, RUN, ends, new_store, same};
+use aria_base::Memory;
 use disk_model::MemDisk;
 use std::alloc::Global;
 use std::process::Abort;
@@ -33,31 +34,21 @@ const DAMAGES: [(u8, Change, &str); 14] = [
     (3, Change::Byte(5, 84), "refused store 3 0\n"),
 ];
 
-/// The bytes of a file, changed where it is the one that is meant.
-fn changed(
-    alloc: Global,
-    disk: &MemDisk,
-    file: u8,
-    at: u8,
-    change: Change,
-) -> Result<Vec<u8>, Fail> {
-    if file > 3 {
-        return Ok(Vec::new(alloc));
-    }
-    let bytes = disk.bytes(file);
-    if file != at {
-        return Ok(Vec::from_slice(alloc, bytes)?);
+/// A copy of a file, changed where it is the one that is meant.
+fn copied(alloc: Global, file: &[u8], meant: bool, change: Change) -> Result<Vec<u8>, Memory> {
+    let mut bytes = Vec::from_slice(alloc, file)?;
+    if !meant {
+        return Ok(bytes);
     }
     match change {
-        Change::Cut(length) => Ok(Vec::from_slice(alloc, &bytes[..length.min(bytes.len())])?),
+        Change::Cut(length) => bytes.truncate(length),
         Change::Byte(offset, byte) => {
-            let mut bytes = Vec::from_slice(alloc, bytes)?;
-            if let Some(place) = bytes.get_mut(offset) {
-                *place = byte;
+            if let Some(old) = bytes.get_mut(offset) {
+                *old = byte;
             }
-            Ok(bytes)
         }
     }
+    Ok(bytes)
 }
 
 /// The store with one batch, with that change.
@@ -71,10 +62,10 @@ fn store_with<R: AllocGlobal + Threads + Abort + Sync>(
     ends(rt, &RUN, &mut disk)?;
     Ok(MemDisk::of(
         alloc,
-        changed(alloc, &disk, 0, file, change)?,
-        changed(alloc, &disk, 1, file, change)?,
-        changed(alloc, &disk, 2, file, change)?,
-        changed(alloc, &disk, 3, file, change)?,
+        copied(alloc, disk.bytes(0), file == 0, change)?,
+        copied(alloc, disk.bytes(1), file == 1, change)?,
+        copied(alloc, disk.bytes(2), file == 2, change)?,
+        copied(alloc, disk.bytes(3), file == 3, change)?,
         1000,
         100_000,
         Vec::new(alloc),

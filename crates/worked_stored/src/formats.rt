@@ -10,35 +10,35 @@ const FIRST_LOG: [u8; 17] = [
     1, 11, 0, 0, 0, 116, 120, 32, 97, 100, 100, 32, 49, 32, 53, 10, 0,
 ];
 
-/// A new store with other bytes from the fifth on: the format, the rule, the fallback, three counts, the
-/// body's length; with this line behind its body, and this log.
+/// The first 32 bytes of a checkpoint: the gate, the letters, the format, rule and fallback, and how many
+/// checkpoints, batches and requests there were. This one is of format 1.
+const OF_FORMAT_1: [u8; 32] = [
+    1, 65, 82, 73, 65, 1, 1, 101, 1, 0, 0, 0, 0, 0, 0, 0, 0, 0, 0, 0, 0, 0, 0, 0, 0, 0, 0, 0, 0, 0,
+    0, 0,
+];
+
+/// This one stands behind 2^62 batches, and one request.
+const OF_LAST_BATCH: [u8; 32] = [
+    1, 65, 82, 73, 65, 2, 1, 101, 1, 0, 0, 0, 0, 0, 0, 0, 0, 0, 0, 0, 0, 0, 0, 64, 1, 0, 0, 0, 0,
+    0, 0, 0,
+];
+
+/// A store of the three accounts whose checkpoint begins so, with this line behind its rows, and this log.
 fn store_of<R: AllocGlobal + Threads + Abort + Sync>(
     rt: &R,
     front: &[u8],
-    line: &[u8],
+    held: &str,
     log: &[u8],
 ) -> Result<MemDisk, Fail> {
     let alloc = rt.alloc();
     let made = new_store(rt, 0)?;
-    let slot = made.bytes(1);
-    let mut text = Vec::from_slice(alloc, slot)?;
-    text.extend_from_slice(line)?;
-    let body = text.len().saturating_sub(40);
-    for (offset, byte) in front.iter().enumerate() {
-        if let Some(place) = text.get_mut(offset + 5) {
-            *place = *byte;
-        }
-    }
-    if let Some(place) = text.get_mut(32) {
-        *place = (body % 256) as u8;
-    }
-    if let Some(place) = text.get_mut(33) {
-        *place = (body / 256 % 256) as u8;
-    }
+    let rows = made.bytes(1).get(40..).unwrap_or_default();
+    let length = ((rows.len() + held.len()) as u64).to_le_bytes();
+    let slot = [front, length.as_slice(), rows, held.as_bytes()].concat(alloc)?;
     Ok(MemDisk::of(
         alloc,
         Vec::from_slice(alloc, &[0])?,
-        text,
+        slot,
         Vec::new(alloc),
         Vec::from_slice(alloc, log)?,
         1000,
@@ -49,7 +49,7 @@ fn store_of<R: AllocGlobal + Threads + Abort + Sync>(
 
 #[test]
 fn a_store_of_format_1_is_migrated(rt: HostRuntime) -> Result<(), Fail> {
-    let mut disk = store_of(&rt, &[1], &[], &FIRST_LOG)?;
+    let mut disk = store_of(&rt, &OF_FORMAT_1, "", &FIRST_LOG)?;
     ends(&rt, &REPLAYED, &mut disk)?;
     same(&rt, &"replayed", &disk.bytes(0), &[0].as_slice());
     ends(&rt, &OPENED, &mut disk)?;
@@ -72,7 +72,7 @@ fn a_store_of_format_1_is_migrated(rt: HostRuntime) -> Result<(), Fail> {
 
 #[test]
 fn a_stop_of_the_migration_leaves_the_batch(rt: HostRuntime) -> Result<(), Fail> {
-    let mut disk = store_of(&rt, &[1], &[], &FIRST_LOG)?;
+    let mut disk = store_of(&rt, &OF_FORMAT_1, "", &FIRST_LOG)?;
     ends(&rt, &OPENED, &mut disk)?;
     for calls in 0..=disk.calls() {
         for image in IMAGES {
@@ -85,10 +85,7 @@ fn a_stop_of_the_migration_leaves_the_batch(rt: HostRuntime) -> Result<(), Fail>
 
 #[test]
 fn no_batch_passes_the_greatest_number(rt: HostRuntime) -> Result<(), Fail> {
-    let front = [
-        2, 1, 101, 1, 0, 0, 0, 0, 0, 0, 0, 0, 0, 0, 0, 0, 0, 0, 64, 1, 0, 0, 0, 0, 0, 0, 0,
-    ];
-    let mut disk = store_of(&rt, &front, b"held 1 add 1 5\n", &[0])?;
+    let mut disk = store_of(&rt, &OF_LAST_BATCH, "held 1 add 1 5\n", &[0])?;
     let output = "at 4611686018427387904\nrefused 1 numbers\n";
     ends(&rt, &("run --drain", "", 1, output), &mut disk)
 }
