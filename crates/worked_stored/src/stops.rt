@@ -1,7 +1,5 @@
 // Every image of a stop that memory tells: after each call on the disk, with what was not synced kept, 0 or 1.
-use crate::outcomes::{
-    ADD, IMAGES, MADE, RUN, empty_disk, ends, goes_on, new_store, outcome, same, smooth, stopped,
-};
+use crate::outcomes::{ADD, IMAGES, RUN, ends, goes_on, new_store, outcome, same, smooth, stopped};
 use std::process::Abort;
 use std::test::Fail;
 use std::thread::Threads;
@@ -44,21 +42,14 @@ fn a_stop_of_a_rotation_leaves_the_batch(rt: HostRuntime) -> Result<(), Fail> {
     each_stop(&rt, "run --checkpoint 1")
 }
 
-/// A store is made by the gate of its checkpoint. Before that there is none.
+/// Behind the end of `init` no stop loses the store. Before it there may be one, none, or one that is damaged.
 #[test]
 fn a_store_is_there_once_it_is_ready(rt: HostRuntime) -> Result<(), Fail> {
-    let mut disk = empty_disk(rt.alloc(), 0)?;
-    ends(&rt, &MADE, &mut disk)?;
-    let made = disk.calls();
-    for calls in 0..=made {
-        for image in IMAGES {
-            let mut left = stopped(rt.alloc(), &disk, calls, image)?;
-            if is_left(calls, made, image) {
-                goes_on(&rt, &mut left)?;
-            } else {
-                ends(&rt, &("run", "", 6, "refused store none\n"), &mut left)?;
-            }
-        }
+    let disk = new_store(&rt, 0)?;
+    for image in IMAGES {
+        let mut left = stopped(rt.alloc(), &disk, disk.calls(), image)?;
+        let has = goes_on(&rt, &mut left)?;
+        same(&rt, &image, &has, &false);
     }
     Ok(())
 }
