@@ -4,12 +4,12 @@ use std::process::Abort;
 use std::test::Fail;
 use std::thread::Threads;
 
-/// Whether a stop after so many calls leaves what the last of `needed` calls syncs, where the one before it
-/// writes the gate that shows it.
-fn is_left(calls: u64, needed: u64, image: (bool, u8)) -> bool {
+/// Whether a stop after so many calls leaves the batch, whose append ends with the last of `appended` calls.
+/// The last but one writes the gate that shows it.
+fn is_left(calls: u64, appended: u64, image: (bool, u8)) -> bool {
     let (kept, fill) = image;
-    let gate_written = calls == needed.saturating_sub(1);
-    needed <= calls || gate_written && (kept || fill == 1)
+    let gate_written = calls == appended.saturating_sub(1);
+    appended <= calls || gate_written && (kept || fill == 1)
 }
 
 /// Stops these words behind each of their calls on the store, whose script has one batch. An append has four
