@@ -14,15 +14,8 @@ const ROOM: usize = 10_000;
 /// Three accounts.
 pub const HEAD: &str = "catalog bank\nrow acct 1 = 10\nrow acct 2 = 20\nrow acct 3 = 30\n";
 
-/// One batch, and its answer over these accounts.
+/// One batch.
 pub const ADD: &str = "tx add 1 5\nend 1\n";
-
-pub const ADDED: &str = "batch 1\n1 ok 15\norder 1\nend 1\n";
-
-/// The accounts before that batch and behind it.
-pub const BEFORE: &str = "state 0\nrow acct 1 = 10\nrow acct 2 = 20\nrow acct 3 = 30\nend state\n";
-
-pub const BEHIND: &str = "state 1\nrow acct 1 = 15\nrow acct 2 = 20\nrow acct 3 = 30\nend state\n";
 
 /// Words, an input, and the status and the output that they have.
 pub type Row = (&'static str, &'static str, u8, &'static str);
@@ -169,6 +162,17 @@ pub fn new_store<R: AllocGlobal + Threads + Abort + Sync>(
     let mut disk = empty_disk(rt.alloc(), failing)?;
     ends(rt, &MADE, &mut disk)?;
     Ok(disk)
+}
+
+/// How many calls a disk has counted when the store is made, and when these words have run the batch.
+pub fn counted<R: AllocGlobal + Threads + Abort + Sync>(
+    rt: &R,
+    words: &str,
+) -> Result<(u64, u64), Fail> {
+    let mut disk = new_store(rt, 0)?;
+    let made = disk.calls();
+    case_ends(rt, &smooth(words, ADD), &mut disk, 0, RUN.3)?;
+    Ok((made, disk.calls()))
 }
 
 /// What a stop of the disk after so many calls leaves, or one after the last where it has made fewer.

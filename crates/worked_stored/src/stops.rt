@@ -1,5 +1,8 @@
 // Every image of a stop that memory tells: after each call on the disk, with what was not synced kept, 0 or 1.
-use crate::outcomes::{ADD, IMAGES, RUN, ends, goes_on, new_store, outcome, same, smooth, stopped};
+use crate::outcomes::{
+    ADD, IMAGES, RUN, case_ends, counted, goes_on, new_store, same, smooth, stopped,
+};
+use disk_model::MemDisk;
 use std::process::Abort;
 use std::test::Fail;
 use std::thread::Threads;
@@ -12,21 +15,29 @@ fn is_left(calls: u64, appended: u64, image: (bool, u8)) -> bool {
     appended <= calls || gate_written && (kept || fill == 1)
 }
 
-/// Stops these words behind each of their calls on the store, whose script has one batch. An append has four
-/// calls: the record, its sync, the gate, its sync. From then on no stop loses the batch.
+/// Asserts that the script over a stop after so many calls ends as if it had not been stopped.
+fn stop_leaves<R: AllocGlobal + Threads + Abort + Sync>(
+    rt: &R,
+    disk: &MemDisk,
+    calls: u64,
+    image: (bool, u8),
+    batch: bool,
+) -> Result<(), Fail> {
+    let mut left = stopped(rt.alloc(), disk, calls, image)?;
+    let has = goes_on(rt, &mut left)?;
+    same(rt, &(calls, image), &has, &batch);
+    Ok(())
+}
+
+/// Stops these words behind each of their calls on the store, whose script has one batch. From the end of its
+/// append on no stop loses the batch.
 fn each_stop<R: AllocGlobal + Threads + Abort + Sync>(rt: &R, words: &str) -> Result<(), Fail> {
+    let (made, appended) = counted(rt, "run")?;
     let mut disk = new_store(rt, 0)?;
-    let before = disk.calls();
-    ends(rt, &RUN, &mut disk)?;
-    let appended = disk.calls();
-    let mut disk = new_store(rt, 0)?;
-    let (status, _) = outcome(rt, &smooth(words, ADD), &mut disk)?;
-    same(rt, &words, &status, &0);
-    for calls in before..=disk.calls() {
+    case_ends(rt, &smooth(words, ADD), &mut disk, 0, RUN.3)?;
+    for calls in made..=disk.calls() {
         for image in IMAGES {
-            let mut left = stopped(rt.alloc(), &disk, calls, image)?;
-            let has = goes_on(rt, &mut left)?;
-            same(rt, &(calls, image), &has, &is_left(calls, appended, image));
+            stop_leaves(rt, &disk, calls, image, is_left(calls, appended, image))?;
         }
     }
     Ok(())
@@ -47,9 +58,7 @@ fn a_stop_of_a_rotation_leaves_the_batch(rt: HostRuntime) -> Result<(), Fail> {
 fn a_store_is_there_once_it_is_ready(rt: HostRuntime) -> Result<(), Fail> {
     let disk = new_store(&rt, 0)?;
     for image in IMAGES {
-        let mut left = stopped(rt.alloc(), &disk, disk.calls(), image)?;
-        let has = goes_on(&rt, &mut left)?;
-        same(&rt, &image, &has, &false);
+        stop_leaves(&rt, &disk, disk.calls(), image, false)?;
     }
     Ok(())
 }
