@@ -52,21 +52,26 @@ pub fn damage(file: &mut Vec<u8>, offset: usize, byte: u8) {
     }
 }
 
-/// The checkpoint's file of a new store with the three accounts.
-pub fn checkpoint_bytes(alloc: Global) -> Result<Vec<u8>, Memory> {
-    let mut disk = MemDisk::new(alloc, 100, 100_000, Vec::new(alloc))?;
+/// Makes the store of the three accounts, and tells whether it is made.
+fn is_made(alloc: Global, input: &mut MemSource, out: &mut MemSink, disk: &mut MemDisk) -> bool {
     let settings = Init {
         rule: Rule::Reorder,
         fallback: 101,
         over: false,
     };
+    init(alloc, &settings, input, out, disk).is_ok()
+}
+
+/// The checkpoint's file of a new store with the three accounts.
+pub fn checkpoint_bytes(alloc: Global) -> Result<Vec<u8>, Memory> {
+    let mut disk = MemDisk::new(alloc, 100, 100_000, Vec::new(alloc))?;
     let text = Vec::from_slice(alloc, HEAD.as_bytes())?;
     let mut input = MemSource::new(text, 4096, Vec::new(alloc));
     let mut out = MemSink::new(alloc, 100, Vec::new(alloc))?;
-    match init(alloc, &settings, &mut input, &mut out, &mut disk) {
-        Ok(_) => Ok(Vec::from_slice(alloc, disk.bytes(1))?),
-        Err(_) => Err(Memory),
+    if !is_made(alloc, &mut input, &mut out, &mut disk) {
+        return Err(Memory);
     }
+    Ok(Vec::from_slice(alloc, disk.bytes(1))?)
 }
 
 /// A disk with this checkpoint in slot 1 and this log, whose call of the number `failing` fails.
@@ -88,6 +93,25 @@ pub fn disk_of(
     )
 }
 
+/// The status of the command on this disk. Want of memory is no answer.
+fn status_of<R: AllocGlobal + Threads + Sync>(
+    rt: &R,
+    settings: &Replay,
+    out: &mut MemSink,
+    disk: &mut MemDisk,
+) -> Result<u8, Memory> {
+    let within = Replay {
+        workers: settings.workers.clamp(1, 64),
+        replicas: settings.replicas.clamp(1, 8),
+        ..*settings
+    };
+    match replay(rt, rt.alloc(), &within, out, disk, &Free) {
+        Ok(status) => Ok(status),
+        Err(Stop::NoMemory) => Err(Memory),
+        Err(stop) => Ok(stop.status()),
+    }
+}
+
 /// The status and what was printed, where the sink's call of this number fails.
 pub fn outcome<R: AllocGlobal + Threads + Sync>(
     rt: &R,
@@ -96,18 +120,9 @@ pub fn outcome<R: AllocGlobal + Threads + Sync>(
     failing_give: u64,
 ) -> Result<(u8, Vec<u8>), Memory> {
     let alloc = rt.alloc();
-    let within = Replay {
-        workers: settings.workers.clamp(1, 64),
-        replicas: settings.replicas.clamp(1, 8),
-        ..*settings
-    };
     let fails = Vec::from_array(alloc, [failing_give])?;
     let mut out = MemSink::new(alloc, 1_000_000, fails)?;
-    let status = match replay(rt, alloc, &within, &mut out, disk, &Free) {
-        Ok(status) => status,
-        Err(Stop::NoMemory) => return Err(Memory),
-        Err(stop) => stop.status(),
-    };
+    let status = status_of(rt, settings, &mut out, disk)?;
     Ok((status, Vec::from_slice(alloc, out.bytes())?))
 }
 

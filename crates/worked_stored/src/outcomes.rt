@@ -71,6 +71,18 @@ pub fn smooth<'a>(words: &'a str, input: &'a str) -> Case<'a> {
     }
 }
 
+/// The status of the top call, without its promises: no assertion rests on them, and each would be read at
+/// every proof.
+fn status_of<R: AllocGlobal + Threads + Sync>(
+    rt: &R,
+    words: &[String],
+    input: &mut MemSource,
+    out: &mut MemSink,
+    disk: &mut MemDisk,
+) -> u8 {
+    aria(rt, rt.alloc(), words, input, out, disk, &Free)
+}
+
 /// The status of a run, and what it wrote. Want of memory is no answer.
 pub fn outcome<R: AllocGlobal + Threads + Sync>(
     rt: &R,
@@ -87,7 +99,7 @@ pub fn outcome<R: AllocGlobal + Threads + Sync>(
     let mut input = MemSource::new(bytes, 7, fails);
     let fails = Vec::from_array(alloc, [case.failing_give])?;
     let mut out = MemSink::new(alloc, ROOM, fails)?;
-    let status = aria(rt, alloc, &words, &mut input, &mut out, disk, &Free);
+    let status = status_of(rt, &words, &mut input, &mut out, disk);
     if status == NO_MEMORY {
         return Err(Memory);
     }
