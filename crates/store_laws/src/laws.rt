@@ -1,0 +1,4 @@
+// A stand-in.
+
+/// Nothing.
+pub fn nothing() {}
