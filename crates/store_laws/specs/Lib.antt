@@ -1,1 +1,2 @@
+pub mod OneRuns
 pub mod Texts
