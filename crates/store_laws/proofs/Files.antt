@@ -1,23 +1,20 @@
 -- The files that `init` leaves, and runs over them that are stopped.
-use Rattle.std.proofs.Common.{◌≡◌, ◌∙◌, sym, ap, ℕ, List, [], ◌++◌, Option, Some}
+use Rattle.std.proofs.Common.{◌≡◌, ◌∙◌, ap, ℕ, List, [], Some}
 use Rattle.aria_base.specs.Orders.{Database}
 use Rattle.aria_store.proofs.Founds.{found_now, reopens_once}
 use Rattle.aria_store.specs.Reopens.{Found, Reopened, Reopens}
-use Rattle.batch_core.specs.Steps.{State}
 use Rattle.command_words.specs.declared.settings.Init.{Init}
-use Rattle.command_words.specs.declared.settings.Once.{Once}
-use Rattle.command_words.specs.declared.settings.Run.{Run}
 use Rattle.disk_model.specs.Histories.{History, MayLeave}
 use Rattle.proc_lang.specs.Catalogs.{Plan}
 use Rattle.script_course.specs.Courses.{Out}
 use Rattle.store_openings.specs.Openings.{opened}
-use Rattle.resume_laws.proofs.Stopped.{every_stop_resumes}
-use Rattle.resume_laws.specs.Resumptions.{AreStopped, later_than}
 use Rattle.run_commands.specs.Outs.{is_each}
 use Rattle.run_commands.specs.Resumes.{out_over}
+use Rattle.resume_laws.proofs.Stopped.{every_stop_resumes}
+use Rattle.resume_laws.specs.Resumptions.{later_than}
 use Rattle.store_commands.specs.Inits.{IsMadeOf, first_checkpoint}
 use Rattle.store_laws.proofs.Together.{script_is_one_run}
-use Rattle.store_laws.specs.OneRuns.{AreAlike, AreRight, EndsAsOneRun, FilesAreOneRun, StoppedRunsAreOneRun, new_state}
+use Rattle.store_laws.specs.OneRuns.{FilesAreOneRun, StoppedRunsAreOneRun, new_state}
 
 -- they read as the first checkpoint without batches, and as nothing else
 found_only : (made : Init) (values : Plan × Database) (disk : History) → IsMadeOf made values disk → (images : ℕ → List ℕ) → MayLeave disk disk.now images

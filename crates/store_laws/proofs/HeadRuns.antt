@@ -7,14 +7,14 @@ use Rattle.cat_text.specs.Texts.{catalog_of}
 use Rattle.proc_lang.specs.Catalogs.{Plan}
 use Rattle.script_course.proofs.Turns.{behind_nothing, stopped_lines}
 use Rattle.script_course.specs.Courses.{Course, Goes, Stops, behind, with_fault, with_last, with_lines}
-use Rattle.script_places.specs.Places.{Asked, asked, closed_by, closing, next_line, read_text, shut, without_head}
+use Rattle.script_places.specs.Places.{Asked, asked, closed_by, closing, next_line, shut, without_head}
 use Rattle.script_places.specs.declared.deeds.Deed.{Deed}
 use Rattle.script_places.specs.declared.deeds.Deed.TheVariants as deed
 use Rattle.script_places.specs.declared.heads.Head.{Head}
 use Rattle.script_places.specs.declared.heads.Head.TheVariants as head
 use Rattle.script_places.specs.declared.places.Place.{Place}
 use Rattle.script_text.specs.Fits.{and_then}
-use Rattle.script_text.specs.Lines.{Scan, last_line, scan, unreturned}
+use Rattle.script_text.specs.Lines.{last_line, scan, unreturned}
 use Rattle.script_text.specs.declared.refusals.Kind8.{Kind8}
 use Rattle.script_text.specs.declared.refusals.Kind8.TheVariants as kind
 use Rattle.script_text.specs.declared.refusals.Refusal.{Refusal}
@@ -30,7 +30,7 @@ use Rattle.resume_laws.specs.Resumptions.{answers, answers_by}
 use Rattle.store_commands.specs.Drafts.{done, done_by, no_counts, on_line, read_of, said_by, start, values_by, values_of}
 use Rattle.store_commands.specs.declared.drafts.Draft.{Draft}
 use Rattle.store_laws.proofs.Heads.{IsOfHead, as_once, head_asked, in_head}
-use Rattle.store_laws.proofs.Scripts.{Gives}
+use Rattle.store_laws.proofs.Behind.{Gives}
 
 abbrev draft_or : Draft → Course Draft → Draft
 draft_or e (Goes bytes next) = next

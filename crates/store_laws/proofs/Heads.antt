@@ -1,19 +1,18 @@
 -- A line of a head: where `init` takes it, `once` takes it, and it asks for the same.
-use Rattle.std.proofs.Common.{◌≡◌, ◌∙◌, sym, ap, subst, refl, ℕ, ◌+◌, ◌==◌, nat_lt, Bool, true, false, not, ◌&&◌, ℤ, List, [], ◌++◌, length}
+use Rattle.std.proofs.Common.{◌≡◌, sym, subst, refl, ℕ, ◌+◌, nat_lt, Bool, true, false, not, ◌&&◌, List, [], ◌++◌, length}
 use Rattle.std.specs.Prelude.{if◌then◌else◌, Option, Some, None, Result, Ok, Err, codes, bytes_eq}
 use Rattle.aria_base.specs.Orders.{Cells}
 use Rattle.aria_base.specs.declared.keys.Part.{Part}
 use Rattle.cat_builtin.specs.Builtins.{builtin_named}
 use Rattle.cat_text.specs.Texts.{catalog_of}
 use Rattle.proc_lang.specs.Catalogs.{Plan}
-use Rattle.script_places.specs.Places.{Asked, asked, asked_at, at_catalog, at_item, at_piece, at_row, behind_text, by_head, found, goes_on, in_text, is_byte, is_unnamed, next_line, puts, read_text, refused_in_text, under, within_text, without_head}
+use Rattle.script_places.specs.Places.{Asked, asked, at_catalog, at_item, at_piece, at_row, behind_text, by_head, found, goes_on, in_text, is_byte, is_unnamed, next_line, puts, read_text, refused_in_text, under, within_text, without_head}
 use Rattle.script_places.specs.declared.deeds.Deed.{Deed}
 use Rattle.script_places.specs.declared.deeds.Deed.TheVariants as deed
 use Rattle.script_places.specs.declared.heads.Head.{Head}
 use Rattle.script_places.specs.declared.heads.Head.TheVariants as head
 use Rattle.script_places.specs.declared.limits.TheConstants.{MOST_CATALOG}
 use Rattle.script_places.specs.declared.places.Counts.{Counts}
-use Rattle.script_places.specs.declared.places.Mode.{Mode}
 use Rattle.script_places.specs.declared.places.Mode.TheVariants as mode
 use Rattle.script_places.specs.declared.places.Place.{Place}
 use Rattle.script_text.specs.Fits.{and_then, placed_row}

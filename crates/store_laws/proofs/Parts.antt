@@ -1,8 +1,9 @@
 -- A text whose last line is complete, and one behind it, in lines: those of the first one and then those of the second one.
-use Rattle.std.proofs.Common.{◌≡◌, ◌⊎◌, inl, inr, ◌∙◌, sym, ap, subst, refl, ℕ, ◌+◌, ◌≤◌, ◌==◌, nat_le, Bool, true, false, cond, not, ◌&&◌, List, [], ◌∷◌, ◌++◌, length, Option, Some, None, append_assoc, arith}
+use Rattle.std.proofs.Common.{◌≡◌, ◌⊎◌, inl, inr, ◌∙◌, sym, ap, subst, refl, ℕ, ◌+◌, ◌≤◌, ◌==◌, nat_le, Bool, true, false, cond, not, ◌&&◌, List, [], ◌∷◌, ◌++◌, length, Option, Some, None, append_assoc, length-append, suc, arith}
 use Rattle.std.specs.Prelude.{if◌then◌else◌, option_to_list}
+use Rattle.script_course.proofs.Measures.{scan-taken}
 use Rattle.script_text.proofs.Scans.{cut, scan-faulted}
-use Rattle.script_text.specs.Laws.{all_lines, lead}
+use Rattle.script_text.specs.Laws.{all_lines}
 use Rattle.script_text.specs.Lines.{Feed, Scan, blank, is_past_limit, is_past_line, last_line, scan, scan_after, stopped, unreturned, with_byte, with_feed}
 use Rattle.script_text.specs.declared.refusals.Kind8.TheVariants.{Long, Size}
 use Rattle.script_text.specs.declared.refusals.Refusal.{Refusal}
@@ -49,18 +50,24 @@ fresh done feed (x ∷ front) e =
     (scan_after (done ++ unreturned feed.begun ∷ []) (with_feed feed) (front ++ 10 ∷ [])) (scan_after done (with_byte feed x) (front ++ 10 ∷ []))
     (fresh (done ++ unreturned feed.begun ∷ []) (with_feed feed) front) (fresh done (with_byte feed x) front) e
 
--- ---- where fewer bytes were taken before, a text comes to the same lines
+-- ---- a text comes to the same lines wherever it stands, where there is room for it
 
-record Fewer (f g : Feed) : Type 0 where
+-- the same line was begun, and there is room for so many bytes: as much as there was, or enough for all
+record IsLike (f g : Feed) (more : ℕ) : Type 0 where
   pub limit : g.limit ≡ f.limit
   pub longest : g.longest ≡ f.longest
   pub begun : g.begun ≡ f.begun
-  pub taken : g.taken ≤ f.taken
+  pub room : (g.taken ≤ f.taken) ⊎ (g.taken + more ≤ g.limit)
 
 record Alike (s t : Scan) : Type 0 where
   pub right : t.fault ≡ None
   pub lines : t.lines ≡ s.lines
   pub begun : t.feed.begun ≡ s.feed.begun
+
+-- behind one byte more
+room_on : (f g : Feed) (more : ℕ) → (g.taken ≤ f.taken) ⊎ (g.taken + suc more ≤ g.limit) → (g.taken + 1 ≤ f.taken + 1) ⊎ (g.taken + 1 + more ≤ g.limit)
+room_on f g more (inl h) = inl (omega (arith, h))
+room_on f g more (inr h) = inr (omega (arith, h))
 
 module _ (done : List (List ℕ)) (f g : Feed) where
   alike_by : (long past size full feeds : Bool) (next other next' other' : Scan) → past ≡ long → (size ≡ false → full ≡ false)
@@ -73,22 +80,24 @@ module _ (done : List (List ℕ)) (f g : Feed) where
   alike_by false false false false true next other next' other' same room h k e = h e
   alike_by false false false false false next other next' other' same room h k e = k e
 
-  same_line : (x : ℕ) → Fewer f g → is_past_line g x ≡ is_past_line f x
-  same_line x less = λ i. not (x == 10) && nat_le (less.longest i) (length (less.begun i))
+  same_line : (x more : ℕ) → IsLike f g more → is_past_line g x ≡ is_past_line f x
+  same_line x more like = λ i. not (x == 10) && nat_le (like.longest i) (length (like.begun i))
 
-  more_room : Fewer f g → is_past_limit f ≡ false → is_past_limit g ≡ false
-  more_room less e = grind (arith, less.limit, less.taken, e)
+  has_room : (more : ℕ) → g.limit ≡ f.limit → (g.taken ≤ f.taken) ⊎ (g.taken + suc more ≤ g.limit) → is_past_limit f ≡ false → is_past_limit g ≡ false
+  has_room more same (inl h) e = grind (arith, same, h, e)
+  has_room more same (inr h) e = grind (arith, h)
 
-alike : (done : List (List ℕ)) (f g : Feed) (bs : List ℕ) → Fewer f g → (scan_after done f bs).fault ≡ None → Alike (scan_after done f bs) (scan_after done g bs)
-alike done f g [] less e = record { right = refl; lines = refl; begun = less.begun }
-alike done f g (x ∷ bs) less e =
-    let taken = less.taken in
-    let here : Fewer (with_feed f) (with_feed g) = record { limit = less.limit; longest = less.longest; begun = refl; taken = omega (arith, taken) } in
-    let on : Fewer (with_byte f x) (with_byte g x) = record { limit = less.limit; longest = less.longest; begun = ap (λ (l : List ℕ). l ++ x ∷ []) less.begun; taken = omega (arith, taken) } in
+alike : (done : List (List ℕ)) (f g : Feed) (bs : List ℕ) → IsLike f g (length bs) → (scan_after done f bs).fault ≡ None → Alike (scan_after done f bs) (scan_after done g bs)
+alike done f g [] like e = record { right = refl; lines = refl; begun = like.begun }
+alike done f g (x ∷ bs) like e =
+    let room = room_on f g (length bs) like.room in
+    let here : IsLike (with_feed f) (with_feed g) (length bs) = record { limit = like.limit; longest = like.longest; begun = refl; room = room } in
+    let on : IsLike (with_byte f x) (with_byte g x) (length bs) =
+    record { limit = like.limit; longest = like.longest; begun = ap (λ (l : List ℕ). l ++ x ∷ []) like.begun; room = room } in
     alike_by done f g (is_past_line f x) (is_past_line g x) (is_past_limit f) (is_past_limit g) (x == 10)
     (scan_after (done ++ unreturned f.begun ∷ []) (with_feed f) bs) (scan_after done (with_byte f x) bs)
-    (scan_after (done ++ unreturned g.begun ∷ []) (with_feed g) bs) (scan_after done (with_byte g x) bs) (same_line done f g x less) (more_room done f g less)
-    (λ right. subst (λ (l : List ℕ). Alike (scan_after (done ++ unreturned f.begun ∷ []) (with_feed f) bs) (scan_after (done ++ unreturned l ∷ []) (with_feed g) bs)) (sym less.begun)
+    (scan_after (done ++ unreturned g.begun ∷ []) (with_feed g) bs) (scan_after done (with_byte g x) bs) (same_line done f g x (length (x ∷ bs)) like) (has_room done f g (length bs) like.limit like.room)
+    (λ right. subst (λ (l : List ℕ). Alike (scan_after (done ++ unreturned f.begun ∷ []) (with_feed f) bs) (scan_after (done ++ unreturned l ∷ []) (with_feed g) bs)) (sym like.begun)
     (alike (done ++ unreturned f.begun ∷ []) (with_feed f) (with_feed g) bs here right))
     (λ right. alike done (with_byte f x) (with_byte g x) bs on right) e
 
@@ -124,7 +133,7 @@ module _ (limit longest : ℕ) where
       let rest = (Of head).feed in
       let whole = cut (blank limit longest) head script front in
       let rest_right : (scan rest script).fault ≡ None = ap (λ (s : Scan). s.fault) (sym whole) ∙ right in
-      let same = alike [] rest (blank limit longest) script (record { limit = sym has.0; longest = sym has.1; begun = sym none; taken = omega arith }) rest_right in
+      let same = alike [] rest (blank limit longest) script (record { limit = sym has.0; longest = sym has.1; begun = sym none; room = inl (omega arith) }) rest_right in
       record {
         head_right = front;
         head_ends = none;
@@ -134,3 +143,16 @@ module _ (limit longest : ℕ) where
             ∙ append_assoc (Of head).lines (scan rest script).lines (option_to_list (last_line (scan rest script).feed))
             ∙ (λ i. (Of head).lines ++ (sym same.lines i ++ option_to_list (if length (sym same.begun i) == 0 then None else Some (unreturned (sym same.begun i)))));
       }
+
+  -- both are right, and there is room for both
+  pub joined : (head script : List ℕ) → EndsLine head → (Of head).fault ≡ None → (Of script).fault ≡ None → length (head ++ script) ≤ limit → (Of (head ++ script)).fault ≡ None
+  joined head script ends front back few =
+      let none = ends_fresh head ends front in
+      let has = bounds [] (blank limit longest) head front in
+      let rest = (Of head).feed in
+      let taken = scan-taken [] (blank limit longest) head front in
+      let all = length-append head script in
+      let limit_is = has.0 in
+      let room : rest.taken + length script ≤ rest.limit = omega (arith, taken, all, few, limit_is) in
+      let same = alike [] (blank limit longest) rest script (record { limit = has.0; longest = has.1; begun = none; room = inr room }) back in
+      ap (λ (s : Scan). s.fault) (cut (blank limit longest) head script front) ∙ same.right

@@ -1,5 +1,5 @@
 -- A store's life from its head on, and one run in memory of the head and the script.
-use Rattle.std.specs.Prelude.{◌≡◌, ◌++◌, ℕ, true, List, [], Some}
+use Rattle.std.specs.Prelude.{◌≡◌, ◌≢◌, ◌≤◌, ◌++◌, ℕ, true, List, [], length, Some}
 use Rattle.answer_text.specs.Notices.{at_text}
 use Rattle.aria_base.specs.Orders.{Database}
 use Rattle.aria_store.specs.Reopens.{Reopened, Reopens}
@@ -9,15 +9,17 @@ use Rattle.command_words.specs.declared.settings.Once.{Once}
 use Rattle.command_words.specs.declared.settings.Run.{Run}
 use Rattle.disk_model.specs.Histories.{History, MayLeave}
 use Rattle.proc_lang.specs.Catalogs.{Plan}
-use Rattle.script_course.specs.Courses.{Course, Goes, out_behind, told_whole}
+use Rattle.script_course.specs.Courses.{Goes, out_behind, told_whole}
 use Rattle.script_course.specs.declared.statuses.TheConstants.{DONE}
 use Rattle.script_text.specs.Lines.{scan}
+use Rattle.serving.specs.Lives.{no_plan}
 use Rattle.serving.specs.Stored.{state_at}
 use Rattle.store_openings.specs.Openings.{opened}
 use Rattle.run_commands.specs.Onces.{Doing, on_line}
 use Rattle.run_commands.specs.Outs.{is_each, no_line, out_of, start_of}
 use Rattle.run_commands.specs.Passes.{turns_whole}
 use Rattle.run_commands.specs.Resumes.{out_from, out_over, start_over}
+use Rattle.run_commands.specs.declared.loops.TheConstants.{MOST_BYTES}
 use Rattle.resume_laws.specs.Resumptions.{AreStopped, answers, answers_of, later_than, run_from}
 use Rattle.store_commands.specs.Drafts.{said_by}
 use Rattle.store_commands.specs.Inits.{IsMadeOf, first_checkpoint}
@@ -64,12 +66,14 @@ pub record IsOneRun (made : Init) (settings : Run) (whole : Once) (head script :
   pub runs : run_from (is_each settings.listing) values.0 script (new_state made values) ≡ Goes printed end
   pub state : end.state ≡ last.state
   pub answered : answers_of (is_each settings.listing) values.0 script (new_state made values) ≡ answers_in whole (head ++ script)
-  pub out : out_from settings.drain (start_over settings (first_checkpoint made values) []) script ≡ out_behind (at_text 0) (out_of whole (head ++ script))
+  pub out : out_from settings.drain (start_over settings (first_checkpoint made values) []) script
+      ≡ out_behind (at_text 0) (out_of whole (head ++ script))
 
 abbrev pub ScriptIsOneRun : Type 0
 ScriptIsOneRun =
     (made : Init) (settings : Run) (whole : Once) → AreAlike made settings whole
-    → (head script : List ℕ) (values : Plan × Database) → AreRight whole head script values → IsOneRun made settings whole head script values
+    → (head script : List ℕ) (values : Plan × Database) → AreRight whole head script values
+    → IsOneRun made settings whole head script values
 
 -- So it is by the files: whatever of them a stop behind that `init` leaves.
 abbrev pub FilesAreOneRun : Type 0
@@ -79,6 +83,21 @@ FilesAreOneRun =
     → (disk : History) → IsMadeOf made values disk → (images : ℕ → List ℕ) → MayLeave disk disk.now images
     → (found : Reopened) → Reopens images found
     → out_over settings (opened images found) (Some script) ≡ Some (out_behind (at_text 0) (out_of whole (head ++ script)))
+
+-- A head whose catalogue has a table or a procedure, and a script that `run` reads to its end over the store of that head; as one text
+-- both have no more bytes than a text may have.
+pub record IsRun (made : Init) (settings : Run) (head script : List ℕ) (values : Plan × Database) : Type 0 where
+  pub ends : EndsLine head
+  pub said : said_by head ≡ Some values
+  pub named : values.0 ≢ no_plan
+  pub few : length (head ++ script) ≤ MOST_BYTES
+  pub done : (out_from settings.drain (start_over settings (first_checkpoint made values) []) script).status ≡ DONE
+
+-- So no more is asked of a script that was run: `once` reads it to its end behind the head.
+abbrev pub RunIsRight : Type 0
+RunIsRight =
+    (made : Init) (settings : Run) (whole : Once) → AreAlike made settings whole
+    → (head script : List ℕ) (values : Plan × Database) → IsRun made settings head script values → AreRight whole head script values
 
 -- ---- runs that are stopped
 
@@ -91,7 +110,8 @@ pub record EndsAsOneRun (settings : Run) (whole : Once) (head script : List ℕ)
   pub leaves : Leaves whole (head ++ script) last
   pub runs : run_from (is_each settings.listing) values.0 script second ≡ Goes printed end
   pub state : end.state ≡ last.state
-  pub answered : answers_of (is_each settings.listing) values.0 script second ≡ later_than second.batches (answers_in whole (head ++ script))
+  pub answered : answers_of (is_each settings.listing) values.0 script second
+      ≡ later_than second.batches (answers_in whole (head ++ script))
 
 abbrev pub StoppedRunsAreOneRun : Type 0
 StoppedRunsAreOneRun =

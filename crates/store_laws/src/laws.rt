@@ -1,5 +1,5 @@
 // The laws. Each is the contract of a function that does nothing: a caller has it after the call.
-ghost use Rattle.store_laws.specs.OneRuns.{FilesAreOneRun, ScriptIsOneRun, StoppedRunsAreOneRun};
+ghost use Rattle.store_laws.specs.OneRuns.{FilesAreOneRun, RunIsRight, ScriptIsOneRun, StoppedRunsAreOneRun};
 
 /// Let `init` make a store of a head, and let `once` with the same rule and fallback read that head and a
 /// script behind it to their end, as one text. Then `run` of the script over the new store comes to its end
@@ -14,6 +14,14 @@ ghost use Rattle.store_laws.specs.OneRuns.{FilesAreOneRun, ScriptIsOneRun, Stopp
 /// and checkpoints have no say.
 pub fn script_is_one_run()
     ensures { ScriptIsOneRun }
+{}
+
+/// A script that `run` reads to its end over the new store is one that `once` reads to its end behind the head,
+/// so that the laws here speak of it: where the head's last line is complete, its catalogue has a table or a
+/// procedure, and head and script together have no more bytes than a text may have. Over a store without a
+/// table and a procedure `run` takes a batch without calls, and `once` refuses it where the head has no line.
+pub fn run_is_right()
+    ensures { RunIsRight }
 {}
 
 /// So it is by the files. Whatever images of its disk a stop behind that `init` leaves, they read as the new
