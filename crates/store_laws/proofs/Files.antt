@@ -1,5 +1,5 @@
 -- The files that `init` leaves, and runs over them that are stopped.
-use Rattle.std.proofs.Common.{◌≡◌, ◌∙◌, ap, ℕ, List, [], Some}
+use Rattle.std.proofs.Common.{◌≡◌, ◌∙◌, ap, ℕ, List, [], Some, subst}
 use Rattle.aria_base.specs.Orders.{Database}
 use Rattle.aria_store.proofs.Founds.{found_now, reopens_once}
 use Rattle.aria_store.specs.Reopens.{Found, Reopened, Reopens}
@@ -9,12 +9,13 @@ use Rattle.proc_lang.specs.Catalogs.{Plan}
 use Rattle.script_course.specs.Courses.{Out}
 use Rattle.store_openings.specs.Openings.{opened}
 use Rattle.run_commands.specs.Outs.{is_each}
-use Rattle.run_commands.specs.Resumes.{out_over}
+use Rattle.run_commands.specs.Resumes.{held_over_all, out_over, resumed}
 use Rattle.resume_laws.proofs.Stopped.{every_stop_resumes}
 use Rattle.resume_laws.specs.Resumptions.{later_than}
 use Rattle.store_commands.specs.Inits.{IsMadeOf, first_checkpoint}
+use Rattle.store_laws.proofs.Held.{script_held}
+use Rattle.store_laws.specs.OneRuns.{HoldsAs, FilesAreOneRun, StoppedRunsAreOneRun, new_state}
 use Rattle.store_laws.proofs.Together.{script_is_one_run}
-use Rattle.store_laws.specs.OneRuns.{FilesAreOneRun, StoppedRunsAreOneRun, new_state}
 
 -- they read as the first checkpoint without batches, and as nothing else
 found_only : (made : Init) (values : Plan × Database) (disk : History) → IsMadeOf made values disk → (images : ℕ → List ℕ) → MayLeave disk disk.now images
@@ -40,5 +41,7 @@ stopped_runs_are_one_run made settings whole alike head script values right betw
       leaves = one.leaves;
       runs = ends.runs;
       state = ends.state ∙ one.state;
+      held = subst (λ (s : State). HoldsAs (held_over_all false (resumed each values.0 second) script) s) (ends.state ∙ one.state)
+          (script_held (resumed each values.0 second) ends.end script ends.printed refl ends.runs);
       answered = ends.answered ∙ ap (λ (l : List (ℕ × List ℕ)). later_than second.batches l) one.answered;
     }

@@ -39,7 +39,7 @@ line_last : (o : Option (List ℕ)) → last o ≡ map Line (option_to_list o)
 line_last None = refl
 line_last (Some line) = refl
 
-turns_lines : (s : Scan) → s.fault ≡ None → turns_whole s ≡ map Line (all_lines s)
+pub turns_lines : (s : Scan) → s.fault ≡ None → turns_whole s ≡ map Line (all_lines s)
 turns_lines s right =
     ap (λ (f : Option Refusal). (map Line s.lines ++ past f) ++ last (last_line s.feed)) right
     ∙ ap (λ (l : List Turn). l ++ last (last_line s.feed)) (append-nil (map Line s.lines))

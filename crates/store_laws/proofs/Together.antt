@@ -1,7 +1,8 @@
 -- A head and a script that are right as one text, and the script over the store of the head.
-use Rattle.std.proofs.Common.{◌≡◌, ◌∙◌, sym, ap, ℕ, ◌+◌, Bool, List, [], ◌++◌}
+use Rattle.std.proofs.Common.{◌≡◌, ◌∙◌, sym, ap, ℕ, ◌+◌, Bool, List, [], ◌++◌, subst}
 use Rattle.answer_text.specs.Notices.{at_text}
 use Rattle.aria_base.specs.Orders.{Database}
+use Rattle.batch_core.specs.Steps.{State}
 use Rattle.command_words.specs.declared.settings.Init.{Init}
 use Rattle.command_words.specs.declared.settings.Once.{Once}
 use Rattle.command_words.specs.declared.settings.Run.{Run}
@@ -10,12 +11,13 @@ use Rattle.script_course.specs.Courses.{Course, Goes, Out, ended, out_behind, to
 use Rattle.run_commands.specs.Onces.{Doing, on_end, on_line}
 use Rattle.run_commands.specs.Outs.{is_each, no_line, out_of, start_of}
 use Rattle.run_commands.specs.Passes.{last}
-use Rattle.run_commands.specs.Resumes.{out_from, resumed, start_over}
+use Rattle.run_commands.specs.Resumes.{held_over_all, out_from, resumed, start_over}
 use Rattle.resume_laws.specs.Resumptions.{run_from}
 use Rattle.store_commands.specs.Inits.{first_checkpoint}
+use Rattle.store_laws.proofs.Held.{script_held}
+use Rattle.store_laws.specs.OneRuns.{HoldsAs, AreAlike, AreRight, IsOneRun, ScriptIsOneRun, new_state}
 use Rattle.store_laws.proofs.ScriptRuns.{RunsTo, script_over}
 use Rattle.store_laws.proofs.Behind.{behind_head}
-use Rattle.store_laws.specs.OneRuns.{AreAlike, AreRight, IsOneRun, ScriptIsOneRun, new_state}
 use Rattle.store_laws.proofs.Joint.{AreBegun, IsEnded, are_begun, ended_done, right_text}
 
 module _ (made : Init) (settings : Run) (mem : Once) (alike : AreAlike made settings mem) (head script : List ℕ) (values : Plan × Database) (right : AreRight mem head script values) where
@@ -49,6 +51,7 @@ module _ (made : Init) (settings : Run) (mem : Once) (alike : AreAlike made sett
     leaves = (in_memory.printed, in_memory.goes);
     runs = runs_whole;
     state = runs.like.state;
+    held = subst (λ (s : State). HoldsAs (held_over_all false From0 script) s) runs.like.state (script_held From0 runs.end script in_memory.printed refl runs_whole);
     answered = begun.over_answers ∙ runs.answered ∙ sym begun.whole_answers;
     out = out_is;
   }

@@ -18,7 +18,7 @@ use Rattle.store_openings.specs.Openings.{opened}
 use Rattle.run_commands.specs.Onces.{Doing, on_line}
 use Rattle.run_commands.specs.Outs.{is_each, no_line, out_of, start_of}
 use Rattle.run_commands.specs.Passes.{turns_whole}
-use Rattle.run_commands.specs.Resumes.{out_from, out_over, start_over}
+use Rattle.run_commands.specs.Resumes.{held_over_all, out_from, out_over, resumed, start_over}
 use Rattle.run_commands.specs.declared.loops.TheConstants.{MOST_BYTES}
 use Rattle.resume_laws.specs.Resumptions.{AreStopped, answers, answers_of, later_than, run_from}
 use Rattle.store_commands.specs.Drafts.{said_by}
@@ -54,10 +54,17 @@ answers_in whole text = answers (turns_whole (scan no_line text)) (start_of whol
 abbrev pub Leaves : Once → List ℕ → Doing → Type 0
 Leaves whole text last = (printed : List ℕ) × (told_whole on_line no_line (start_of whole) text ≡ Goes printed last)
 
+-- What a store holds of a state: all but the settings, which are in no store before a batch that is run by them.
+pub record HoldsAs (held state : State) : Type 0 where
+  pub rows : held.rows ≡ state.rows
+  pub waiting : held.waiting ≡ state.waiting
+  pub batches : held.batches ≡ state.batches
+  pub requests : held.requests ≡ state.requests
+
 -- ---- one run over the store
 
--- Both end in one state, and print the same answer for each batch. What is printed over the store is that it begins behind batch 0,
--- and then all that is printed in memory; its status is that of memory as well.
+-- Both end in one state, which the store then holds where nothing is drained, and print the same answer for each batch. What is
+-- printed over the store is that it begins behind batch 0, and then all that is printed in memory; its status is that of memory as well.
 pub record IsOneRun (made : Init) (settings : Run) (whole : Once) (head script : List ℕ) (values : Plan × Database) : Type 0 where
   pub last : Doing
   pub end : Doing
@@ -65,6 +72,7 @@ pub record IsOneRun (made : Init) (settings : Run) (whole : Once) (head script :
   pub leaves : Leaves whole (head ++ script) last
   pub runs : run_from (is_each settings.listing) values.0 script (new_state made values) ≡ Goes printed end
   pub state : end.state ≡ last.state
+  pub held : HoldsAs (held_over_all false (start_over settings (first_checkpoint made values) []) script) last.state
   pub answered : answers_of (is_each settings.listing) values.0 script (new_state made values) ≡ answers_in whole (head ++ script)
   pub out : out_from settings.drain (start_over settings (first_checkpoint made values) []) script
       ≡ out_behind (at_text 0) (out_of whole (head ++ script))
@@ -101,8 +109,8 @@ RunIsRight =
 
 -- ---- runs that are stopped
 
--- The last run ends in the state in which the one in memory ends. It prints the answers of just the batches that its store lacks,
--- each as it is printed in memory.
+-- The last run ends in the state in which the one in memory ends, and its store then holds it. It prints the answers of just the
+-- batches that its store lacks, each as it is printed in memory.
 pub record EndsAsOneRun (settings : Run) (whole : Once) (head script : List ℕ) (values : Plan × Database) (second : State) : Type 0 where
   pub last : Doing
   pub end : Doing
@@ -110,6 +118,7 @@ pub record EndsAsOneRun (settings : Run) (whole : Once) (head script : List ℕ)
   pub leaves : Leaves whole (head ++ script) last
   pub runs : run_from (is_each settings.listing) values.0 script second ≡ Goes printed end
   pub state : end.state ≡ last.state
+  pub held : HoldsAs (held_over_all false (resumed (is_each settings.listing) values.0 second) script) last.state
   pub answered : answers_of (is_each settings.listing) values.0 script second
       ≡ later_than second.batches (answers_in whole (head ++ script))
 

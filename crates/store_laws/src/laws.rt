@@ -4,8 +4,8 @@ ghost use Rattle.store_laws.specs.OneRuns.{FilesAreOneRun, RunIsRight, ScriptIsO
 /// Let `init` make a store of a head, and let `once` with the same rule and fallback read that head and a
 /// script behind it to their end, as one text. Then `run` of the script over the new store comes to its end
 /// as well. It ends in the state in which `once` ends, with the same rows, the same requests that wait and
-/// the same counts; it prints that it begins behind batch 0, and then what `once` prints, byte by byte, so
-/// that each batch has the same answer.
+/// the same counts, and where nothing is drained the store then holds these. It prints that it begins behind
+/// batch 0, and then what `once` prints, byte by byte, so that each batch has the same answer.
 ///
 /// The head's last line is complete, so that the script begins with a line of its own. The script has no
 /// line of a head before its first call, end or settings: a row there is one row more for `once`, and out
@@ -31,8 +31,8 @@ pub fn files_are_one_run()
 {}
 
 /// Where the runs of the script are stopped anywhere and begun again, the last one to its end, that one ends
-/// in the state in which `once` ends. It prints the answers of just the batches that its store lacks, each as
-/// `once` prints it.
+/// in the state in which `once` ends, and its store then holds it. It prints the answers of just the batches
+/// that its store lacks, each as `once` prints it.
 ///
 /// No batch is drained between the runs: a drained batch has a number that a script's own batch has in
 /// another run.
