@@ -18,7 +18,7 @@ use Rattle.script_text.specs.declared.items.Item.{Item}
 use Rattle.script_text.specs.declared.items.Item.TheVariants as item
 use Rattle.script_text.specs.declared.refusals.Kind8.{Kind8}
 use Rattle.script_text.specs.declared.refusals.Kind8.TheVariants as kind
-use Rattle.store_laws.proofs.Scripts.{IsAskedTo, Runs, is_asked, opening_item}
+use Rattle.store_laws.proofs.Scripts.{IsAskedTo, Runs, is_asked, never, opening_item}
 use Rattle.store_laws.specs.Texts.{opens_by}
 
 -- a place of `once` behind a head, with no open call, and one of `run` before its first batch
@@ -83,15 +83,15 @@ module _ (plan : Plan) (lines : ℕ) (c : Counts) where
   -- ---- a line of a head may not stand in a script over a store
 
   head_refused : (l : Result Item Kind8) → opens_by true l ≡ false → and_then (at_item (before_batches plan After) c) l ≡ Err kind.Site
-  head_refused (Ok item.Skip) e = absurd cc
+  head_refused (Ok item.Skip) e = never (sym e)
   head_refused (Ok (item.Catalog name)) e = refl
   head_refused (Ok (item.Piece piece)) e = refl
   head_refused (Ok (item.Row table parts row)) e = refl
-  head_refused (Ok (item.Tx proc args)) e = absurd cc
-  head_refused (Ok (item.End n)) e = absurd cc
-  head_refused (Ok item.Report) e = absurd cc
-  head_refused (Ok (item.Settings name percent)) e = absurd cc
-  head_refused (Err why) e = absurd cc
+  head_refused (Ok (item.Tx proc args)) e = never (sym e)
+  head_refused (Ok (item.End n)) e = never (sym e)
+  head_refused (Ok item.Report) e = never (sym e)
+  head_refused (Ok (item.Settings name percent)) e = never (sym e)
+  head_refused (Err why) e = never (sym e)
 
   pub run_refuses : (line : List ℕ) → opens_by true (said line) ≡ false → asked (before_batches plan lines) c line ≡ Err kind.Site
   run_refuses line e = head_refused (said line) e
@@ -114,10 +114,10 @@ module _ (plan : Plan) (lines : ℕ) (c : Counts) where
       subst (λ (r : Result Plan Kind8). Begins (ReadThen (without_head (behind_head (head.Text text) p)) (λ at. at_item at c i) r) i) (sym is) (first_ready plan refl p i e)
 
   first_text : (p : Place) (text : List ℕ) → catalog_of text ≡ Ok plan → (i : Item) → opens_by false (Ok i) ≡ true → Begins (in_text (without_head (behind_head (head.Text text) p)) c text (Ok i)) i
-  first_text p text is item.Skip e = absurd cc
-  first_text p text is (item.Catalog name) e = absurd cc
-  first_text p text is (item.Piece piece) e = absurd cc
-  first_text p text is (item.Row table parts row) e = absurd cc
+  first_text p text is item.Skip e = never e
+  first_text p text is (item.Catalog name) e = never e
+  first_text p text is (item.Piece piece) e = never e
+  first_text p text is (item.Row table parts row) e = never e
   first_text p text is (item.Tx proc args) e = first_read p text is (item.Tx proc args) e
   first_text p text is (item.End n) e = first_read p text is (item.End n) e
   first_text p text is item.Report e = first_read p text is item.Report e
@@ -142,10 +142,10 @@ module _ (plan : Plan) (lines : ℕ) (c : Counts) where
 
   -- no line of batches may stand where there is no catalogue
   none_asked : (p : Place) (l : Result Item Kind8) (r : Place × Deed) → opens_by false l ≡ true → by_head (behind_head head.Unnamed p) c head.Unnamed l ≡ Ok r → ⊥
-  none_asked p (Ok item.Skip) r e is = absurd cc
-  none_asked p (Ok (item.Catalog name)) r e is = absurd cc
-  none_asked p (Ok (item.Piece piece)) r e is = absurd cc
-  none_asked p (Ok (item.Row table parts row)) r e is = absurd cc
+  none_asked p (Ok item.Skip) r e is = never e
+  none_asked p (Ok (item.Catalog name)) r e is = never e
+  none_asked p (Ok (item.Piece piece)) r e is = never e
+  none_asked p (Ok (item.Row table parts row)) r e is = never e
   none_asked p (Ok (item.Tx proc args)) r e is = absurd cc
   none_asked p (Ok (item.End n)) r e is = absurd cc
   none_asked p (Ok item.Report) r e is = absurd cc

@@ -6,7 +6,7 @@ use Rattle.aria_base.specs.declared.keys.Part.{Part}
 use Rattle.cat_builtin.specs.Builtins.{builtin_named}
 use Rattle.cat_text.specs.Texts.{catalog_of}
 use Rattle.proc_lang.specs.Catalogs.{Plan}
-use Rattle.script_places.specs.Places.{Asked, asked, at_catalog, at_item, at_piece, at_row, behind_text, by_head, found, goes_on, in_text, is_byte, is_unnamed, next_line, puts, read_text, refused_in_text, under, within_text, without_head}
+use Rattle.script_places.specs.Places.{Asked, asked, at_catalog, at_item, at_piece, at_row, behind_text, by_head, found, goes_on, has_catalog, in_text, is_audit, is_byte, is_unnamed, next_line, puts, read_text, refused_in_text, under, within_text, without_head}
 use Rattle.script_places.specs.declared.deeds.Deed.{Deed}
 use Rattle.script_places.specs.declared.deeds.Deed.TheVariants as deed
 use Rattle.script_places.specs.declared.heads.Head.{Head}
@@ -78,12 +78,23 @@ module _ (c : Counts) (p : Place) where
   takes_found None = tt
   takes_found (Some plan) = quiet (record p { head = head.Ready plan })
 
+  -- What is found under the name stands apart: the catalogues that every database has are large terms, which are compared but once here.
+  abbrev Named : Place → List ℕ → Option Plan → Asked
+  Named q name o =
+      if not (has_catalog q.mode && is_unnamed q.head) then Err kind.Site
+      else (if is_audit q.mode && not (bytes_eq name (codes "tpcc")) then Err kind.Name
+      else (if bytes_eq name (codes "text") then Ok (record q { head = head.Text [] }, deed.Nothing)
+      else found q o))
+
+  takes_named : (name : List ℕ) (o : Option Plan) → Takes (Named I name o) (Named O name o)
+  takes_named name o =
+      takes_if (not (true && is_unnamed p.head)) (Err kind.Site) (if bytes_eq name (codes "text") then Ok (record I { head = head.Text [] }, deed.Nothing) else found I o)
+      (Err kind.Site) (if bytes_eq name (codes "text") then Ok (record O { head = head.Text [] }, deed.Nothing) else found O o) tt
+      (takes_if (bytes_eq name (codes "text")) (Ok (record I { head = head.Text [] }, deed.Nothing)) (found I o) (Ok (record O { head = head.Text [] }, deed.Nothing)) (found O o)
+      (quiet (record p { head = head.Text [] })) (takes_found o))
+
   takes_catalog : (name : List ℕ) → Takes (at_catalog I name) (at_catalog O name)
-  takes_catalog name =
-      takes_if (not (true && is_unnamed p.head)) (Err kind.Site) (if bytes_eq name (codes "text") then Ok (record I { head = head.Text [] }, deed.Nothing) else found I (builtin_named name))
-      (Err kind.Site) (if bytes_eq name (codes "text") then Ok (record O { head = head.Text [] }, deed.Nothing) else found O (builtin_named name)) tt
-      (takes_if (bytes_eq name (codes "text")) (Ok (record I { head = head.Text [] }, deed.Nothing)) (found I (builtin_named name)) (Ok (record O { head = head.Text [] }, deed.Nothing)) (found O (builtin_named name))
-      (quiet (record p { head = head.Text [] })) (takes_found (builtin_named name)))
+  takes_catalog name = takes_named name (builtin_named name)
 
   takes_row : (table : List ℕ) (parts : List Part) (row : Cells) → Takes (at_row I table parts row) (at_row O table parts row)
   takes_row table parts row =

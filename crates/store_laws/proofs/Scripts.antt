@@ -34,6 +34,10 @@ in_batches plan p = record p { mode = mode.Once; head = head.Ready plan; rows_en
 abbrev pub as_run : ℕ → Place → Place
 as_run lines p = record p { mode = mode.Run; lines = lines }
 
+-- what cannot be, apart from what else is known: a catalogue that is named is a large term
+pub never : {X : Type 0} → false ≡ true → X
+never e = absurd cc
+
 -- ---- what the one takes the other takes, and what it refuses the other refuses
 
 module _ (plan : Plan) (lines : ℕ) where
@@ -90,10 +94,10 @@ module _ (plan : Plan) (lines : ℕ) where
 
     -- a line that no head has and that is not skipped
     pub opening_item : (i : Item) → opens_by false (Ok i) ≡ true → Runs (at_item O c i) (at_item R c i)
-    opening_item item.Skip e = absurd cc
-    opening_item (item.Catalog name) e = absurd cc
-    opening_item (item.Piece piece) e = absurd cc
-    opening_item (item.Row table parts row) e = absurd cc
+    opening_item item.Skip e = never e
+    opening_item (item.Catalog name) e = never e
+    opening_item (item.Piece piece) e = never e
+    opening_item (item.Row table parts row) e = never e
     opening_item (item.Tx proc args) e = runs_call proc args
     opening_item (item.End n) e = runs_end n
     opening_item item.Report e = refl
