@@ -1,5 +1,5 @@
 -- A script that `run` reads to its end over the store of a head is right behind that head, as one text.
-use Rattle.std.proofs.Common.{◌≡◌, ◌∙◌, sym, ap, subst, refl, ℕ, ◌+◌, Bool, true, false, List, [], ◌++◌, map, Option, Some, None, ◌≢◌}
+use Rattle.std.proofs.Common.{◌≡◌, ◌∙◌, sym, ap, subst, refl, ℕ, Bool, true, false, List, [], ◌++◌, map, Option, Some, None, ◌≢◌}
 use Rattle.aria_base.specs.Orders.{Database}
 use Rattle.command_words.specs.declared.settings.Init.{Init}
 use Rattle.command_words.specs.declared.settings.Once.{Once}

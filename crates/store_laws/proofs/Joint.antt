@@ -1,5 +1,5 @@
 -- A head and a script as one text, and the script over the store of the head: behind the head both go through the same lines.
-use Rattle.std.proofs.Common.{◌≡◌, ◌∙◌, sym, ap, refl, ℕ, ◌+◌, Bool, false, List, [], ◌++◌, map, Option, Some, None, append-nil}
+use Rattle.std.proofs.Common.{◌≡◌, ◌∙◌, sym, ap, refl, ℕ, Bool, false, List, [], ◌++◌, map, Option, Some, None, append-nil}
 use Rattle.std.specs.Prelude.{option_to_list}
 use Rattle.std.proofs.lemmas.List.{map-append}
 use Rattle.aria_base.specs.Orders.{Database}

@@ -1,11 +1,11 @@
 -- A line of a script: where `once` takes it behind a head, `run` takes it over the store of that head, and it asks for the same; and
 -- behind a head that names a catalogue both refuse the same lines.
-use Rattle.std.proofs.Common.{◌≡◌, sym, subst, refl, ℕ, ◌+◌, ◌==◌, nat_le, nat_lt, Bool, true, false, not, ◌&&◌, ◌||◌, ℤ, List}
+use Rattle.std.proofs.Common.{◌≡◌, sym, subst, refl, ℕ, ◌+◌, ◌==◌, nat_le, nat_lt, Bool, true, false, ◌&&◌, ◌||◌, ℤ, List}
 use Rattle.std.specs.Prelude.{if◌then◌else◌, Result, Ok, Err}
 use Rattle.aria_base.specs.declared.calls.Arg.{Arg}
 use Rattle.aria_base.specs.declared.limits.TheConstants.{GREATEST_NUMBER, MOST_REQUESTS}
 use Rattle.proc_lang.specs.Catalogs.{Plan}
-use Rattle.script_places.specs.Places.{Asked, asked, at_call, at_end, at_item, at_settings, calls, closed, ends, next_line, runs, sets}
+use Rattle.script_places.specs.Places.{Asked, asked, at_call, at_end, at_item, at_settings, calls, closed, next_line, runs, sets}
 use Rattle.script_places.specs.declared.deeds.Deed.{Deed}
 use Rattle.script_places.specs.declared.deeds.Deed.TheVariants as deed
 use Rattle.script_places.specs.declared.heads.Head.TheVariants as head

@@ -1,5 +1,5 @@
 -- A head and a script that are right as one text, and the script over the store of the head.
-use Rattle.std.proofs.Common.{◌≡◌, ◌∙◌, sym, ap, ℕ, ◌+◌, Bool, List, [], ◌++◌, subst}
+use Rattle.std.proofs.Common.{◌≡◌, ◌∙◌, sym, ap, refl, ℕ, Bool, false, List, [], ◌++◌, subst}
 use Rattle.answer_text.specs.Notices.{at_text}
 use Rattle.aria_base.specs.Orders.{Database}
 use Rattle.batch_core.specs.Steps.{State}
@@ -10,7 +10,6 @@ use Rattle.proc_lang.specs.Catalogs.{Plan}
 use Rattle.script_course.specs.Courses.{Course, Goes, Out, ended, out_behind, told_whole}
 use Rattle.run_commands.specs.Onces.{Doing, on_end, on_line}
 use Rattle.run_commands.specs.Outs.{is_each, no_line, out_of, start_of}
-use Rattle.run_commands.specs.Passes.{last}
 use Rattle.run_commands.specs.Resumes.{held_over_all, out_from, resumed, start_over}
 use Rattle.resume_laws.specs.Resumptions.{run_from}
 use Rattle.store_commands.specs.Inits.{first_checkpoint}

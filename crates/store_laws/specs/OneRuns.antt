@@ -1,5 +1,5 @@
 -- A store's life from its head on, and one run in memory of the head and the script.
-use Rattle.std.specs.Prelude.{◌≡◌, ◌≢◌, ◌≤◌, ◌++◌, ℕ, true, List, [], length, Some}
+use Rattle.std.specs.Prelude.{◌≡◌, ◌≢◌, ◌≤◌, ◌++◌, ℕ, false, true, List, [], length, Some}
 use Rattle.answer_text.specs.Notices.{at_text}
 use Rattle.aria_base.specs.Orders.{Database}
 use Rattle.aria_store.specs.Reopens.{Reopened, Reopens}

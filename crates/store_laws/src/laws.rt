@@ -1,5 +1,7 @@
-// The laws. Each is the contract of a function that does nothing: a caller has it after the call.
+// The laws. Each is the contract of a function that does nothing, or only calls a law: a caller has it after the call.
 ghost use Rattle.store_laws.specs.OneRuns.{FilesAreOneRun, RunIsRight, ScriptIsOneRun, StoppedRunsAreOneRun};
+
+use resume_laws::every_stop_resumes;
 
 /// Let `init` make a store of a head, and let `once` with the same rule and fallback read that head and a
 /// script behind it to their end, as one text. Then `run` of the script over the new store comes to its end
@@ -38,4 +40,6 @@ pub fn files_are_one_run()
 /// another run.
 pub fn stopped_runs_are_one_run()
     ensures { StoppedRunsAreOneRun }
-{}
+{
+    every_stop_resumes();
+}
