@@ -26,6 +26,8 @@ LIBRARY = r"""
 #include <stddef.h>
 #include <stdio.h>
 #include <stdlib.h>
+#include <sys/syscall.h>
+#include <unistd.h>
 
 extern void *__libc_malloc(size_t);
 extern void *__libc_calloc(size_t, size_t);
@@ -46,13 +48,19 @@ __attribute__((constructor)) static void begin(void) {
     refused = number ? atol(number) : -1;
 }
 
-__attribute__((destructor)) static void end(void) {
+static void tell(void) {
     const char *told = getenv("REQUESTS_TOLD");
     if (!told) return;
     long count = atomic_load(&asked);
     refused = -1;
     FILE *file = fopen(told, "w");
     if (file) { fprintf(file, "%ld", count); fclose(file); }
+}
+
+/* The program ends so, behind the back of what runs at an ordinary end. */
+void _exit(int status) {
+    tell();
+    for (;;) syscall(SYS_exit_group, status);
 }
 
 void *malloc(size_t size) { if (refuses()) { errno = ENOMEM; return NULL; } return __libc_malloc(size); }
