@@ -1,6 +1,10 @@
 // What a stop after each call of the disk leaves: of a batch more, and of the next checkpoint.
+ghost use Rattle.disk_model.specs.Recorded.{history_of};
+ghost use Rattle.worked_stores.specs.Ready.{IsReady};
+
 use crate::bases::{Base, created};
 use crate::words::{SLOT, Seen, disk_of, found_on, same};
+use aria_store::StoreRefused;
 use batch_rules::verdicts::Rule;
 use disk_model::MemDisk;
 use std::alloc::Global;
@@ -66,7 +70,8 @@ fn a_batch_more(rt: HostRuntime) -> Result<(), Fail> {
     let mut base = created(rt.alloc())?;
     let from = base.disk.calls();
     base.append(rt.alloc(), PAYLOAD)?;
-    same(&rt, &"calls", &(base.disk.calls() - from), &4);
+    let made = base.disk.calls().saturating_sub(from);
+    same(&rt, &"calls", &made, &4);
     let was = Seen::Stands(1, 0, 0, 0);
     each_stop(
         &rt,
@@ -95,13 +100,20 @@ fn the_first_rotation(rt: HostRuntime) -> Result<(), Fail> {
     )
 }
 
+/// Adds a batch of one call, and writes a checkpoint behind it.
+fn turn(alloc: Global, base: &mut Base) -> Result<(), StoreRefused>
+    requires { IsReady (history_of base.old.disk) base.old.store base.old.before base.old.catalog base.old.tables }
+    ensures { IsReady (history_of base.new.disk) base.new.store base.new.before base.new.catalog base.new.tables }
+{
+    base.append(alloc, PAYLOAD)?;
+    base.rotate(alloc, Rule::Reorder, 101, 2)
+}
+
 #[test]
 fn the_third_of_three_rotations(rt: HostRuntime) -> Result<(), Fail> {
     let mut base = created(rt.alloc())?;
-    for _ in 0..2 {
-        base.append(rt.alloc(), PAYLOAD)?;
-        base.rotate(rt.alloc(), Rule::Reorder, 101, 2)?;
-    }
+    turn(rt.alloc(), &mut base)?;
+    turn(rt.alloc(), &mut base)?;
     base.append(rt.alloc(), PAYLOAD)?;
     base.append(rt.alloc(), b"\x00\x00")?;
     let from = base.disk.calls();
