@@ -1,8 +1,7 @@
-use Rattle.std.proofs.Common.{◌≡◌, ◌≤◌, List, Option, All, length, option_map, sym, subst, arith}
-use Rattle.aria_base.specs.declared.calls.Call.{Call}
+use Rattle.std.proofs.Common.{◌≤◌, Option, All, length, option_map, sym, subst, arith}
 use Rattle.disk_model.specs.Recorded.{history_of}
 use Rattle.image_text.specs.Exactly.{line_of_call}
-use Rattle.image_text.specs.Payloads.{Batch, IsThat}
+use Rattle.image_text.specs.Payloads.{IsThat}
 use Rattle.image_text.specs.declared.payloads.Logged.{Logged}
 use Rattle.aria_store.specs.Stands.{batch_in}
 use Rattle.worked_stores.proofs.Readiness.{ready_added, lines_short}
