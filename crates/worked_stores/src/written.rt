@@ -47,7 +47,7 @@ fn a_store_without_tables(rt: HostRuntime) -> Result<(), Fail> {
     Ok(())
 }
 
-/// The answer to a creation on these files, and how many calls with which it changed a file.
+/// The answer to a creation on these files: the bytes of file 1 behind it, or why it was refused.
 fn created_on(
     alloc: Global,
     over: bool,
