@@ -1,0 +1,143 @@
+// Drawn batches of a bank, and what they come to by other ways.
+ghost use Rattle.std.specs.Prelude.{◌≤◌, ◌<◌};
+
+use crate::banks::{Ask, MEMORY, SET, calls, engine, run, same};
+use crate::plain::{Plain, run_plainly};
+use aria_base::{Draws, Duplicate, Free, Items};
+use batch_core::{Answer, Reply, Wait};
+use batch_engine::Engine;
+use batch_rules::verdicts::Rule;
+use dep_rules::Config;
+use std::alloc::Global;
+use std::process::Abort;
+use std::thread::Threads;
+
+/// More requests wait at most before no new ones come.
+const CROWD: usize = 24;
+
+/// A number from 1 to `most`.
+fn drawn(draws: &mut Draws, most: u32) -> u32
+    requires { (1 ≤ most) × (most ≤ 1000) }
+    ensures { (1 ≤ result) × (result ≤ most) }
+{
+    draws.word() % most + 1
+}
+
+/// A call of one of the six procedures on accounts from 1 to 7, which mostly hold such numbers.
+fn drawn_ask(draws: &mut Draws) -> Ask {
+    let proc = (drawn(draws, 6) - 1) as u16;
+    let first = i64::from(drawn(draws, 7));
+    (proc, first, i64::from(drawn(draws, 7)))
+}
+
+/// At most eight calls, and none where many wait. One batch in a hundred puts 100 accounts.
+fn drawn_asks(rt: &impl Abort, alloc: Global, draws: &mut Draws, waiting: usize) -> Vec<Ask> {
+    let mut asks = Vec::new(alloc);
+    if waiting > CROWD {
+        return asks;
+    }
+    if drawn(draws, 100) == 1 {
+        for account in 1..101_i64 {
+            asks.push((SET, account, account % 7 + 1))
+                .expect(rt, MEMORY);
+        }
+    }
+    for _ in 1..drawn(draws, 9) {
+        asks.push(drawn_ask(draws)).expect(rt, MEMORY);
+    }
+    asks
+}
+
+/// Any settings, and up to three workers.
+fn drawn_config(draws: &mut Draws) -> Config
+    ensures { (result.fallback ≤ 101) × (1 ≤ result.workers) × (result.workers ≤ 3) }
+{
+    let rule = if drawn(draws, 2) == 1 {
+        Rule::Plain
+    } else {
+        Rule::Reorder
+    };
+    Config {
+        rule,
+        fallback: drawn(draws, 102) - 1,
+        workers: drawn(draws, 3),
+    }
+}
+
+/// Which cause of waiting this is.
+fn cause(wait: &Wait) -> usize
+    ensures { result < 4 }
+{
+    match wait {
+        Wait::Waw(_) => 0,
+        Wait::Raw(_) => 1,
+        Wait::Both(_, _) => 2,
+        Wait::Moved(_) => 3,
+    }
+}
+
+/// Counts the causes for which requests wait.
+fn count(causes: &mut [u32; 4], answer: &Answer) {
+    for line in answer.lines.as_slice() {
+        if let Reply::Waits(wait) = &line.reply {
+            let at = cause(wait);
+            causes[at] = causes[at].wrapping_add(1);
+        }
+    }
+}
+
+/// Runs a drawn batch on an engine, on a copy of it, which numbers and marks keys anew, and by the
+/// plainest form of the rules. Asserts that all three answer the same.
+fn run_three<R: Abort + Threads + Sync>(
+    rt: &R,
+    alloc: Global,
+    draws: &mut Draws,
+    (engine, plain): (Engine, Plain),
+    causes: &mut [u32; 4],
+) -> (Engine, Plain) {
+    let config = drawn_config(draws);
+    let asks = drawn_asks(rt, alloc, draws, plain.waiting.len());
+    let new = calls(rt, alloc, &asks);
+    let (plain, wanted) = run_plainly(rt, alloc, engine.catalog(), plain, new, &config);
+    let copy = engine.copy(alloc).expect(rt, MEMORY);
+    let new = calls(rt, alloc, &asks);
+    let (_copy, answer) = run(rt, alloc, copy, new, &config, &Free);
+    same(rt, &(&config, "anew"), &answer, &wanted);
+    let new = calls(rt, alloc, &asks);
+    let (engine, answer) = run(rt, alloc, engine, new, &config, &Free);
+    same(rt, &config, &answer, &wanted);
+    count(causes, &answer);
+    (engine, plain)
+}
+
+#[test]
+fn a_thousand_batches_are_as_by_the_plainest_form(rt: HostRuntime) {
+    let alloc = rt.alloc();
+    let mut draws = Draws::of(17, 1);
+    let mut causes = [0_u32; 4];
+    let bank = engine(
+        &rt,
+        alloc,
+        &[(1, 1), (2, 2), (3, 3), (4, 4), (5, 5), (6, 6)],
+    );
+    let plain = Plain {
+        tables: bank.tables().copy().expect(&rt, MEMORY),
+        waiting: Vec::new(alloc),
+        batches: 0,
+        requests: 0,
+    };
+    let mut both = (bank, plain);
+    for _ in 0..1000 {
+        both = run_three(&rt, alloc, &mut draws, both, &mut causes);
+    }
+    let (bank, plain) = both;
+    let carried = (bank.carried(), bank.tables().rows().expect(&rt, MEMORY));
+    let wanted = (
+        plain.waiting.as_slice(),
+        plain.tables.rows().expect(&rt, MEMORY),
+    );
+    same(&rt, &"what waits, and rows", &carried, &wanted);
+    for count in causes {
+        assert!(&rt; count >= 10, "each cause came: {causes:?}");
+    }
+}
