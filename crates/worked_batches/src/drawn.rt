@@ -48,7 +48,7 @@ fn drawn_asks(rt: &impl Abort, alloc: Global, draws: &mut Draws, waiting: usize)
     asks
 }
 
-/// Any settings, and up to three workers.
+/// Any settings, and in one of four batches up to three workers: to start them takes most of the time.
 fn drawn_config(draws: &mut Draws) -> Config
     ensures { (result.fallback ≤ 101) × (1 ≤ result.workers) × (result.workers ≤ 3) }
 {
@@ -57,10 +57,15 @@ fn drawn_config(draws: &mut Draws) -> Config
     } else {
         Rule::Reorder
     };
+    let workers = if drawn(draws, 4) == 1 {
+        drawn(draws, 3)
+    } else {
+        1
+    };
     Config {
         rule,
         fallback: drawn(draws, 102) - 1,
-        workers: drawn(draws, 3),
+        workers,
     }
 }
 
@@ -86,8 +91,13 @@ fn count(causes: &mut [u32; 4], answer: &Answer) {
     }
 }
 
-/// Runs a drawn batch on an engine, on a copy of it, which numbers and marks keys anew, and by the
-/// plainest form of the rules. Asserts that all three answer the same.
+/// Asserts that a batch by these settings is answered as it is by the plainest form.
+fn same_answer(rt: &impl Abort, config: &Config, found: &Answer, wanted: &Answer) {
+    same(rt, config, found, wanted);
+}
+
+/// Runs a drawn batch on an engine, by one worker on a copy of it, which numbers and marks keys anew, and
+/// by the plainest form of the rules. Asserts that all three answer the same.
 fn run_three<R: Abort + Threads + Sync>(
     rt: &R,
     alloc: Global,
@@ -101,11 +111,15 @@ fn run_three<R: Abort + Threads + Sync>(
     let (plain, wanted) = run_plainly(rt, alloc, engine.catalog(), plain, new, &config);
     let copy = engine.copy(alloc).expect(rt, MEMORY);
     let new = calls(rt, alloc, &asks);
-    let (_copy, answer) = run(rt, alloc, copy, new, &config, &Free);
-    same(rt, &(&config, "anew"), &answer, &wanted);
+    let alone = Config {
+        workers: 1,
+        ..config
+    };
+    let (_copy, answer) = run(rt, alloc, copy, new, &alone, &Free);
+    same_answer(rt, &config, &answer, &wanted);
     let new = calls(rt, alloc, &asks);
     let (engine, answer) = run(rt, alloc, engine, new, &config, &Free);
-    same(rt, &config, &answer, &wanted);
+    same_answer(rt, &config, &answer, &wanted);
     count(causes, &answer);
     (engine, plain)
 }

@@ -154,7 +154,11 @@ fn settle(
         let q = number_at(rt, list, place);
         let reply = match *verdicts.get(place).expect(rt, "a verdict") {
             Verdict::Finish { raw } => {
-                let finished = if raw { &mut told.past } else { &mut told.others };
+                let finished = if raw {
+                    &mut told.past
+                } else {
+                    &mut told.others
+                };
                 finished.push(q).expect(rt, MEMORY);
                 finish(rt, outcome, tables)
             }
