@@ -1,0 +1,2 @@
+pub mod OneRuns
+pub mod Texts

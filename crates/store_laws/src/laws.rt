@@ -1,0 +1,45 @@
+// The laws. Each is the contract of a function that does nothing, or only calls a law: a caller has it after the call.
+ghost use Rattle.store_laws.specs.OneRuns.{FilesAreOneRun, RunIsRight, ScriptIsOneRun, StoppedRunsAreOneRun};
+
+use resume_laws::every_stop_resumes;
+
+/// Let `init` make a store of a head, and let `once` with the same rule and fallback read that head and a
+/// script behind it to their end, as one text. Then `run` of the script over the new store comes to its end
+/// as well. It ends in the state in which `once` ends, with the same rows, the same requests that wait and
+/// the same counts, and where nothing is drained the store then holds these. It prints that it begins behind
+/// batch 0, and then what `once` prints, byte by byte, so that each batch has the same answer.
+///
+/// The head's last line is complete, so that the script begins with a line of its own. The script has no
+/// line of a head before its first call, end or settings: a row there is one row more for `once`, and out
+/// of place for `run`. Listings are asked for alike, and what waits is drained in both or in neither. The
+/// bounds on a text's bytes are those of `once`, for which head and script are one text. Workers, replicas
+/// and checkpoints have no say.
+pub fn script_is_one_run()
+    ensures { ScriptIsOneRun }
+{}
+
+/// A script that `run` reads to its end over the new store is one that `once` reads to its end behind the head,
+/// so that the laws here speak of it: where the head's last line is complete, its catalogue has a table or a
+/// procedure, and head and script together have no more bytes than a text may have. Over a store without a
+/// table and a procedure `run` takes a batch without calls, and `once` refuses it where the head has no line.
+pub fn run_is_right()
+    ensures { RunIsRight }
+{}
+
+/// So it is by the files. Whatever images of its disk a stop behind that `init` leaves, they read as the new
+/// store and as nothing else, and `run` over them prints that.
+pub fn files_are_one_run()
+    ensures { FilesAreOneRun }
+{}
+
+/// Where the runs of the script are stopped anywhere and begun again, the last one to its end, that one ends
+/// in the state in which `once` ends, and its store then holds it. It prints the answers of just the batches
+/// that its store lacks, each as `once` prints it.
+///
+/// No batch is drained between the runs: a drained batch has a number that a script's own batch has in
+/// another run.
+pub fn stopped_runs_are_one_run()
+    ensures { StoppedRunsAreOneRun }
+{
+    every_stop_resumes();
+}

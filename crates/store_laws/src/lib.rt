@@ -1,0 +1,8 @@
+//! Laws that tie a store's life to one run in memory: what `init` made of a head, a script that `run` runs
+//! over it, and both as one text of `once`. They speak of what is printed, of states and of files, and rest
+//! on the definitions of these commands.
+#![tactic(auto)]
+
+mod laws;
+
+pub use laws::{files_are_one_run, run_is_right, script_is_one_run, stopped_runs_are_one_run};
