@@ -53,6 +53,18 @@ pub fn same<T: PartialEq + Debug>(rt: &impl Abort, case: &impl Debug, found: &T,
     assert_eq!(rt; found, wanted, "at {case:?}");
 }
 
+/// How many numbers there are, where they are 1, 2, 3 and so on.
+pub fn in_turn(order: &[u64]) -> Option<u64> {
+    let mut last = 0_u64;
+    for &number in order {
+        last = last.wrapping_add(1);
+        if number != last {
+            return None;
+        }
+    }
+    Some(last)
+}
+
 fn call(rt: &impl Abort, alloc: Global, ask: Ask) -> Call {
     let (proc, first, second) = ask;
     let mut args = vec![in alloc; Arg::Int(first)].expect(rt, MEMORY);

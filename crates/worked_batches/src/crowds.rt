@@ -1,5 +1,5 @@
 // Batches that are filled to the last place.
-use crate::banks::{ADD, Ask, MEMORY, SET, calls, engine, run, same};
+use crate::banks::{ADD, Ask, MEMORY, SET, calls, engine, in_turn, run, same};
 use answer_text::{print_answer, print_state};
 use aria_base::{Call, Free};
 use batch_core::{Answer, Reply, Wait};
@@ -57,18 +57,6 @@ fn of_ten_thousand_that_put_one_account_one_finishes(rt: HostRuntime) {
     let text = print_answer(alloc, bank.catalog(), &answer).expect(&rt, MEMORY);
     let begun = text.starts_with(b"batch 1\n1 ok 7\n2 wait waw 1\n");
     same(&rt, &"the first finishes", &begun, &true);
-}
-
-/// How many numbers there are, where they are 1, 2, 3 and so on.
-fn in_turn(order: &[u64]) -> Option<u64> {
-    let mut last = 0_u64;
-    for &number in order {
-        last = last.wrapping_add(1);
-        if number != last {
-            return None;
-        }
-    }
-    Some(last)
 }
 
 #[test]

@@ -1,9 +1,9 @@
 // Drawn batches of a bank, and what they come to by other ways.
 ghost use Rattle.std.specs.Prelude.{◌≤◌, ◌<◌};
 
-use crate::banks::{Ask, MEMORY, SET, calls, engine, run, same};
+use crate::banks::{Account, Ask, MEMORY, SET, calls, engine, run, same};
 use crate::plain::{Plain, run_plainly};
-use aria_base::{Draws, Duplicate, Free, Items};
+use aria_base::{Draws, Duplicate, Free, Items, Request};
 use batch_core::{Answer, Reply, Wait};
 use batch_engine::Engine;
 use batch_rules::verdicts::Rule;
@@ -11,9 +11,13 @@ use dep_rules::Config;
 use std::alloc::Global;
 use std::process::Abort;
 use std::thread::Threads;
+use tbl_rows::Tables;
 
 /// More requests wait at most before no new ones come.
 const CROWD: usize = 24;
+
+/// Accounts that hold their own numbers.
+const ACCOUNTS: [Account; 6] = [(1, 1), (2, 2), (3, 3), (4, 4), (5, 5), (6, 6)];
 
 /// A number from 1 to `most`.
 fn drawn(draws: &mut Draws, most: u32) -> u32
@@ -96,9 +100,41 @@ fn same_answer(rt: &impl Abort, config: &Config, found: &Answer, wanted: &Answer
     same(rt, config, found, wanted);
 }
 
-/// Runs a drawn batch on an engine, by one worker on a copy of it, which numbers and marks keys anew, and
-/// by the plainest form of the rules. Asserts that all three answer the same.
-fn run_three<R: Abort + Threads + Sync>(
+/// Asserts that behind a batch by these settings the same requests wait as by the plainest form.
+fn same_waiting(rt: &impl Abort, config: &Config, found: &[Request], wanted: &[Request]) {
+    same(rt, config, &found, &wanted);
+}
+
+/// Asserts that these tables hold the rows that they hold by the plainest form.
+fn same_rows(rt: &impl Abort, found: &Tables, wanted: &Tables) {
+    let found = found.rows().expect(rt, MEMORY);
+    let wanted = wanted.rows().expect(rt, MEMORY);
+    same(rt, &"rows", &found, &wanted);
+}
+
+/// Runs a batch by one worker on a copy of the engine, which numbers and marks keys anew.
+fn run_anew<R: Abort + Threads + Sync>(
+    rt: &R,
+    alloc: Global,
+    engine: &Engine,
+    asks: &[Ask],
+    config: &Config,
+) -> Answer
+    requires { config.now.fallback ≤ 101 }
+{
+    let alone = Config {
+        rule: config.rule,
+        fallback: config.fallback,
+        workers: 1,
+    };
+    let copy = engine.copy(alloc).expect(rt, MEMORY);
+    let (_copy, answer) = run(rt, alloc, copy, calls(rt, alloc, asks), &alone, &Free);
+    answer
+}
+
+/// Runs a drawn batch on an engine and by the plainest form of the rules, and one batch of ten also on a
+/// copy of the engine. Asserts that all answer the same, and that the same requests wait.
+fn run_both<R: Abort + Threads + Sync>(
     rt: &R,
     alloc: Global,
     draws: &mut Draws,
@@ -109,17 +145,14 @@ fn run_three<R: Abort + Threads + Sync>(
     let asks = drawn_asks(rt, alloc, draws, plain.waiting.len());
     let new = calls(rt, alloc, &asks);
     let (plain, wanted) = run_plainly(rt, alloc, engine.catalog(), plain, new, &config);
-    let copy = engine.copy(alloc).expect(rt, MEMORY);
-    let new = calls(rt, alloc, &asks);
-    let alone = Config {
-        workers: 1,
-        ..config
-    };
-    let (_copy, answer) = run(rt, alloc, copy, new, &alone, &Free);
-    same_answer(rt, &config, &answer, &wanted);
+    if drawn(draws, 10) == 1 {
+        let anew = run_anew(rt, alloc, &engine, &asks, &config);
+        same_answer(rt, &config, &anew, &wanted);
+    }
     let new = calls(rt, alloc, &asks);
     let (engine, answer) = run(rt, alloc, engine, new, &config, &Free);
     same_answer(rt, &config, &answer, &wanted);
+    same_waiting(rt, &config, engine.carried(), &plain.waiting);
     count(causes, &answer);
     (engine, plain)
 }
@@ -129,11 +162,7 @@ fn a_thousand_batches_are_as_by_the_plainest_form(rt: HostRuntime) {
     let alloc = rt.alloc();
     let mut draws = Draws::of(17, 1);
     let mut causes = [0_u32; 4];
-    let bank = engine(
-        &rt,
-        alloc,
-        &[(1, 1), (2, 2), (3, 3), (4, 4), (5, 5), (6, 6)],
-    );
+    let bank = engine(&rt, alloc, &ACCOUNTS);
     let plain = Plain {
         tables: bank.tables().copy().expect(&rt, MEMORY),
         waiting: Vec::new(alloc),
@@ -142,15 +171,10 @@ fn a_thousand_batches_are_as_by_the_plainest_form(rt: HostRuntime) {
     };
     let mut both = (bank, plain);
     for _ in 0..1000 {
-        both = run_three(&rt, alloc, &mut draws, both, &mut causes);
+        both = run_both(&rt, alloc, &mut draws, both, &mut causes);
     }
     let (bank, plain) = both;
-    let carried = (bank.carried(), bank.tables().rows().expect(&rt, MEMORY));
-    let wanted = (
-        plain.waiting.as_slice(),
-        plain.tables.rows().expect(&rt, MEMORY),
-    );
-    same(&rt, &"what waits, and rows", &carried, &wanted);
+    same_rows(&rt, bank.tables(), &plain.tables);
     for count in causes {
         assert!(&rt; count >= 10, "each cause came: {causes:?}");
     }

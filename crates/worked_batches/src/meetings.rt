@@ -1,5 +1,7 @@
 // Workers are at work at once, and each step is told.
-use crate::banks::{Account, Ask, COPY, MEMORY, SET, calls, engine, replicas, run, run_replicas};
+use crate::banks::{
+    Account, Ask, COPY, MEMORY, SET, calls, engine, in_turn, replicas, run, run_replicas,
+};
 use aria_base::{Pace, Place};
 use batch_core::Answer;
 use batch_rules::verdicts::Rule;
@@ -77,11 +79,12 @@ fn apart(rt: &impl Abort, alloc: Global) -> Vec<Ask> {
     asks
 }
 
-/// Asserts that two workers met at the gate, how many steps there were, and how many requests finished.
-fn met(rt: &impl Abort, gate: &Gate, answer: &Answer, steps: u64, finished: usize) {
+/// Asserts that two workers met at the gate, how many steps there were, and that so many requests
+/// finished, in the order of their numbers from 1.
+fn met(rt: &impl Abort, gate: &Gate, answer: &Answer, steps: u64, finished: u64) {
     assert!(rt; !gate.was_missed(), "a worker passed alone");
     assert_eq!(rt; gate.steps(), steps);
-    assert_eq!(rt; answer.order.as_slice().len(), finished);
+    assert_eq!(rt; in_turn(answer.order.as_slice()), Some(finished));
 }
 
 #[test]
