@@ -132,7 +132,7 @@ fn run_anew<R: Abort + Threads + Sync>(
     answer
 }
 
-/// Runs a drawn batch on an engine and by the plainest form of the rules, and one batch of ten also on a
+/// Runs a drawn batch on an engine and by the plainest form of the rules, and each tenth batch also on a
 /// copy of the engine. Asserts that all answer the same, and that the same requests wait.
 fn run_both<R: Abort + Threads + Sync>(
     rt: &R,
@@ -145,7 +145,7 @@ fn run_both<R: Abort + Threads + Sync>(
     let asks = drawn_asks(rt, alloc, draws, plain.waiting.len());
     let new = calls(rt, alloc, &asks);
     let (plain, wanted) = run_plainly(rt, alloc, engine.catalog(), plain, new, &config);
-    if drawn(draws, 10) == 1 {
+    if wanted.number % 10 == 0 {
         let anew = run_anew(rt, alloc, &engine, &asks, &config);
         same_answer(rt, &config, &anew, &wanted);
     }
