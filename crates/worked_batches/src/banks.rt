@@ -1,0 +1,208 @@
+// Banks between two batches: accounts, calls on them, and the next batch.
+ghost use Rattle.std.specs.Prelude.{◌≡◌, ◌≤◌, true};
+ghost use Rattle.std.specs.List.{All, list_all};
+ghost use Rattle.aria_base.specs.Schemas.{IsConsistent};
+ghost use Rattle.proc_lang.specs.Catalogs.{takes};
+ghost use Rattle.worked_batches.specs.Rooms.{HasRoom};
+
+use aria_base::{Arg, Args, Call, Key, Pace, Part, Parts, Row, Value};
+use batch_core::Answer;
+use batch_engine::Engine;
+use cat_builtin::builtin;
+use dep_rules::Config;
+use proc_lang::Catalog;
+use replica_run::Replicas;
+use std::alloc::Global;
+use std::fmt::Debug;
+use std::process::Abort;
+use std::thread::Threads;
+use tbl_rows::Tables;
+
+/// Adds the second number to the account of the first.
+pub const ADD: u16 = 0;
+
+/// Puts what the first account holds into the second.
+pub const COPY: u16 = 1;
+
+/// Puts the second number into the account of the first.
+pub const SET: u16 = 2;
+
+/// Gives what two accounts hold together.
+pub const SUM: u16 = 3;
+
+/// Puts the second number into the account that the account of the first names.
+pub const HOP: u16 = 4;
+
+/// Deletes the account of the first number. The second is not handed over.
+pub const DROP: u16 = 5;
+
+/// A call: the procedure, and two numbers.
+pub type Ask = (u16, i64, i64);
+
+/// An account, and what it holds.
+pub type Account = (i64, i64);
+
+/// What a test says that finds no memory.
+pub const MEMORY: &str = "memory";
+
+/// More batches, and more requests, than any test here has.
+const MANY: u64 = 1_000_000;
+
+/// Asserts that what was found in this case is what was worked out for it.
+pub fn same<T: PartialEq + Debug>(rt: &impl Abort, case: &impl Debug, found: &T, wanted: &T) {
+    assert_eq!(rt; found, wanted, "at {case:?}");
+}
+
+/// How many numbers there are, where they are 1, 2, 3 and so on.
+pub fn in_turn(order: &[u64]) -> Option<u64> {
+    let mut last = 0_u64;
+    for &number in order {
+        last = last.wrapping_add(1);
+        if number != last {
+            return None;
+        }
+    }
+    Some(last)
+}
+
+fn call(rt: &impl Abort, alloc: Global, ask: Ask) -> Call {
+    let (proc, first, second) = ask;
+    let mut args = vec![in alloc; Arg::Int(first)].expect(rt, MEMORY);
+    if proc != DROP {
+        args.push(Arg::Int(second)).expect(rt, MEMORY);
+    }
+    Call {
+        proc,
+        args: Args::from_vec(args),
+    }
+}
+
+/// These calls.
+pub fn calls(rt: &impl Abort, alloc: Global, asks: &[Ask]) -> Vec<Call> {
+    let mut calls = Vec::new(alloc);
+    for &ask in asks {
+        calls.push(call(rt, alloc, ask)).expect(rt, MEMORY);
+    }
+    calls
+}
+
+/// Puts an account.
+#[tactic(auto, using(crate::proofs::Readiness::fit_with))]
+fn put(rt: &impl Abort, alloc: Global, catalog: &Catalog, tables: &mut Tables, account: Account)
+    requires { IsConsistent catalog.now.tables tables.old }
+    ensures { IsConsistent catalog.now.tables tables.new }
+{
+    let (number, amount) = account;
+    let key = Key {
+        table: 0,
+        parts: Parts::one(Part::Int(number)),
+    };
+    let row = Row::from_vec(vec![in alloc; Value::Int(amount)].expect(rt, MEMORY));
+    assert!(rt; catalog.schema().fits(&key, &row), "an account fits");
+    tables.put(key, row).expect(rt, MEMORY);
+}
+
+/// The tables of these accounts.
+#[tactic(auto, using(crate::proofs::Readiness::fit_nowhere))]
+fn tables(rt: &impl Abort, alloc: Global, catalog: &Catalog, accounts: &[Account]) -> Tables
+    ensures { IsConsistent catalog.now.tables result }
+{
+    let mut tables = Tables::new(alloc).expect(rt, MEMORY);
+    for &account in accounts {
+        put(rt, alloc, catalog, &mut tables, account);
+    }
+    tables
+}
+
+/// A bank of these accounts before its first batch.
+#[tactic(auto, using(crate::proofs::Readiness::ready_at_first))]
+pub fn engine(rt: &impl Abort, alloc: Global, accounts: &[Account]) -> Engine {
+    let bank = builtin(alloc, b"bank").expect(rt, MEMORY);
+    let catalog = bank.expect(rt, "a bank");
+    let tables = tables(rt, alloc, &catalog, accounts);
+    Engine::begin(catalog, tables, Vec::new(alloc), 0, 0)
+}
+
+fn are_taken(catalog: &Catalog, calls: &[Call]) -> bool
+    ensures { result ≡ list_all (takes catalog.now) calls.now }
+{
+    for call in calls {
+        if !catalog.takes(call) {
+            return false;
+        }
+    }
+    true
+}
+
+#[tactic(auto, using(crate::proofs::Readiness::all_taken))]
+fn can_take(engine: &Engine, calls: &Vec<Call>) -> bool
+    ensures { result ≡ true → All (λ call. takes engine.now.plan call ≡ true) calls.now.items }
+{
+    are_taken(engine.catalog(), calls)
+}
+
+/// Whether a batch of these calls may be run on the engine, by settings that allow it.
+fn has_room(engine: &Engine, calls: &Vec<Call>) -> bool
+    ensures { result ≡ true → HasRoom engine.now calls.now.items }
+{
+    if !can_take(engine, calls) {
+        return false;
+    }
+    let waiting = engine.carried().len();
+    if waiting > 10_000 {
+        return false;
+    }
+    if calls.len() > 10_000 - waiting {
+        return false;
+    }
+    if engine.batches() > MANY {
+        return false;
+    }
+    engine.requests() <= MANY
+}
+
+/// Runs the next batch.
+pub fn run<P: Pace + Sync, R: Abort + Threads + Sync>(
+    rt: &R,
+    alloc: Global,
+    engine: Engine,
+    calls: Vec<Call>,
+    config: &Config,
+    pace: &P,
+) -> (Engine, Answer)
+    requires percent { config.now.fallback ≤ 101 }
+    requires workers { (1 ≤ config.now.workers) × (config.now.workers ≤ 64) }
+{
+    assert!(rt; has_room(&engine, &calls), "the calls fit and have room");
+    let run = engine.run_batch(rt, alloc, calls, config, pace);
+    run.expect(rt, MEMORY)
+}
+
+/// Replicas of a bank of these accounts before their first batch.
+pub fn replicas(rt: &impl Abort, alloc: Global, accounts: &[Account], count: u32) -> Replicas
+    requires { (1 ≤ count) × (count ≤ 8) }
+{
+    let first = engine(rt, alloc, accounts);
+    Replicas::begin(alloc, first, count).expect(rt, MEMORY)
+}
+
+/// Runs the next batch on all replicas.
+#[tactic(auto, using(crate::proofs::Readiness::all_may_run))]
+pub fn run_replicas<P: Pace + Sync, R: Abort + Threads + Sync>(
+    rt: &R,
+    alloc: Global,
+    replicas: Replicas,
+    calls: Vec<Call>,
+    config: &Config,
+    pace: &P,
+) -> (Replicas, Answer)
+    requires percent { config.now.fallback ≤ 101 }
+    requires workers { (1 ≤ config.now.workers) × (config.now.workers ≤ 64) }
+{
+    assert!(rt;
+        has_room(replicas.first(), &calls),
+        "the calls fit and have room"
+    );
+    let run = replicas.run_batch(rt, alloc, calls, config, pace);
+    run.expect(rt, MEMORY)
+}

@@ -1,0 +1,116 @@
+// Batches that are filled to the last place.
+use crate::banks::{ADD, Ask, MEMORY, SET, calls, engine, in_turn, run};
+use answer_text::{print_answer, print_state};
+use aria_base::{Call, Free};
+use batch_core::{Answer, Reply, Wait};
+use batch_engine::Engine;
+use batch_rules::verdicts::Rule;
+use dep_rules::Config;
+use std::alloc::Global;
+use std::process::Abort;
+
+const CONFIG: Config = Config {
+    rule: Rule::Reorder,
+    fallback: 101,
+    workers: 3,
+};
+
+/// So many times the same call.
+fn crowd(rt: &impl Abort, alloc: Global, ask: Ask, count: usize) -> Vec<Call> {
+    let asks = Vec::from_elem(alloc, ask, count).expect(rt, MEMORY);
+    calls(rt, alloc, &asks)
+}
+
+/// Asserts that the next batch has so much room, and how many requests have a number.
+fn leaves(rt: &impl Abort, bank: &Engine, room: u32, requests: u64) {
+    assert_eq!(rt; bank.room(), room);
+    assert_eq!(rt; bank.requests(), requests);
+}
+
+/// Asserts that these requests finish, in this order.
+fn finish(rt: &impl Abort, answer: &Answer, order: &[u64]) {
+    assert_eq!(rt; answer.order.as_slice(), order);
+}
+
+#[test]
+fn what_waits_takes_places_of_the_next_batch(rt: HostRuntime) {
+    let alloc = rt.alloc();
+    let bank = engine(&rt, alloc, &[(1, 10), (2, 20)]);
+    let three = crowd(&rt, alloc, (ADD, 1, 1), 3);
+    let (bank, _answer) = run(&rt, alloc, bank, three, &CONFIG, &Free);
+    leaves(&rt, &bank, 9_998, 3);
+    let rest = crowd(&rt, alloc, (SET, 2, 7), 9_998);
+    let (bank, answer) = run(&rt, alloc, bank, rest, &CONFIG, &Free);
+    leaves(&rt, &bank, 2, 10_001);
+    finish(&rt, &answer, &[2, 4]);
+}
+
+/// How many lines say that their request waits since request 1 writes what it writes.
+fn behind_the_first(answer: &Answer) -> usize {
+    let mut count = 0_usize;
+    for line in answer.lines.as_slice() {
+        if matches!(line.reply, Reply::Waits(Wait::Waw(1))) {
+            count = count.wrapping_add(1);
+        }
+    }
+    count
+}
+
+/// Asserts that all other requests of so many wait since request 1 writes what they write.
+fn others_wait(rt: &impl Abort, answer: &Answer, requests: usize) {
+    assert_eq!(rt; answer.lines.as_slice().len(), requests);
+    assert_eq!(rt; behind_the_first(answer).wrapping_add(1), requests);
+}
+
+/// Asserts that an answer of the bank is printed with this beginning.
+fn begins(rt: &impl Abort, alloc: Global, bank: &Engine, answer: &Answer, wanted: &[u8]) {
+    let text = print_answer(alloc, bank.catalog(), answer).expect(rt, MEMORY);
+    assert!(rt; text.starts_with(wanted), "what is printed first");
+}
+
+#[test]
+fn of_ten_thousand_that_put_one_account_one_finishes(rt: HostRuntime) {
+    let alloc = rt.alloc();
+    let bank = engine(&rt, alloc, &[(1, 10)]);
+    let all = crowd(&rt, alloc, (SET, 1, 7), 10_000);
+    let (bank, answer) = run(&rt, alloc, bank, all, &CONFIG, &Free);
+    others_wait(&rt, &answer, 10_000);
+    finish(&rt, &answer, &[1]);
+    begins(
+        &rt,
+        alloc,
+        &bank,
+        &answer,
+        b"batch 1\n1 ok 7\n2 wait waw 1\n",
+    );
+}
+
+/// Asserts that so many requests finish, in the order of their numbers from 1.
+fn all_finish(rt: &impl Abort, answer: &Answer, requests: u64) {
+    assert_eq!(rt; in_turn(answer.order.as_slice()), Some(requests));
+}
+
+/// Asserts that the rows behind the first batch are printed so.
+fn same_state(rt: &impl Abort, alloc: Global, bank: &Engine, wanted: &[u8]) {
+    let text = print_state(alloc, bank.catalog(), bank.tables(), 1).expect(rt, MEMORY);
+    assert_eq!(rt; text.as_slice(), wanted);
+}
+
+#[test]
+fn ten_thousand_on_one_account_finish_late(rt: HostRuntime) {
+    let alloc = rt.alloc();
+    let config = Config {
+        fallback: 0,
+        ..CONFIG
+    };
+    let bank = engine(&rt, alloc, &[(1, 10)]);
+    let all = crowd(&rt, alloc, (ADD, 1, 1), 10_000);
+    let (bank, answer) = run(&rt, alloc, bank, all, &config, &Free);
+    all_finish(&rt, &answer, 10_000);
+    same_state(
+        &rt,
+        alloc,
+        &bank,
+        b"state 1\nrow acct 1 = 10010\nend state\n",
+    );
+}

@@ -1,0 +1,21 @@
+//! Worked batches, which the gate runs. There is no code here, only tests.
+//!
+//! `examples` has a table of batches on the catalogue `bank`, each with what it prints, worked out by hand,
+//! and runs them on several numbers of workers and of replicas. `crowds` fills a batch to the last place,
+//! and `meetings` shows that workers are at work at once, and how often they are told of a step. `drawn`
+//! runs drawn batches beside `plain`, the rules in their plainest form, and beside an engine that numbers
+//! keys anew. `banks` makes a database of accounts, and runs batches of calls.
+#![tactic(auto)]
+
+#[cfg(test)]
+mod banks;
+#[cfg(test)]
+mod crowds;
+#[cfg(test)]
+mod drawn;
+#[cfg(test)]
+mod examples;
+#[cfg(test)]
+mod meetings;
+#[cfg(test)]
+mod plain;

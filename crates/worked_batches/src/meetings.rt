@@ -1,0 +1,103 @@
+// Workers are at work at once, and each step is told.
+use crate::banks::{
+    Account, Ask, COPY, MEMORY, SET, calls, engine, in_turn, replicas, run, run_replicas,
+};
+use aria_base::{Pace, Place};
+use batch_core::Answer;
+use batch_rules::verdicts::Rule;
+use dep_rules::Config;
+use std::alloc::Global;
+use std::process::Abort;
+use std::thread::Threads;
+use test_paces::{Gate, Steps};
+
+/// By two workers, and what waits is run again.
+const CONFIG: Config = Config {
+    rule: Rule::Plain,
+    fallback: 0,
+    workers: 2,
+};
+
+const ACCOUNTS: [Account; 3] = [(1, 10), (2, 20), (3, 30)];
+
+/// Three that go round.
+const RING: [Ask; 3] = [(COPY, 1, 2), (COPY, 2, 3), (COPY, 3, 1)];
+
+/// Two wait for the first, and are of one wave, since neither writes what the other reads.
+const FAN: [Ask; 3] = [(SET, 1, 5), (COPY, 1, 2), (COPY, 1, 3)];
+
+/// The answer of a batch of these calls on three accounts, run at this pace.
+fn run_at<P: Pace + Sync, R: Abort + Threads + Sync>(
+    rt: &R,
+    alloc: Global,
+    asks: &[Ask],
+    pace: &P,
+) -> Answer {
+    let bank = engine(rt, alloc, &ACCOUNTS);
+    let (_bank, answer) = run(rt, alloc, bank, calls(rt, alloc, asks), &CONFIG, pace);
+    answer
+}
+
+/// The answer of three replicas.
+fn run_three_at<P: Pace + Sync, R: Abort + Threads + Sync>(
+    rt: &R,
+    alloc: Global,
+    asks: &[Ask],
+    pace: &P,
+) -> Answer {
+    let three = replicas(rt, alloc, &ACCOUNTS, 3);
+    let (_three, answer) = run_replicas(rt, alloc, three, calls(rt, alloc, asks), &CONFIG, pace);
+    answer
+}
+
+/// Asserts how often it was told that a request runs on the batch's start, and that one runs again.
+fn told(rt: &impl Abort, steps: &Steps, executes: u64, reruns: u64) {
+    assert_eq!(rt; steps.told(Place::Execute), executes);
+    assert_eq!(rt; steps.told(Place::Rerun), reruns);
+}
+
+#[test]
+fn each_run_of_a_request_is_told(rt: HostRuntime) {
+    let steps = Steps::new();
+    let _answer = run_at(&rt, rt.alloc(), &RING, &steps);
+    told(&rt, &steps, 3, 2);
+}
+
+#[test]
+fn each_replica_runs_each_request(rt: HostRuntime) {
+    let steps = Steps::new();
+    let _answer = run_three_at(&rt, rt.alloc(), &RING, &steps);
+    told(&rt, &steps, 9, 6);
+}
+
+/// Forty calls that each put an account of its own.
+fn apart(rt: &impl Abort, alloc: Global) -> Vec<Ask> {
+    let mut asks = Vec::new(alloc);
+    for account in 0..40_i64 {
+        asks.push((SET, account, 7)).expect(rt, MEMORY);
+    }
+    asks
+}
+
+/// Asserts that two workers met at the gate, how many steps there were, and that so many requests
+/// finished, in the order of their numbers from 1.
+fn met(rt: &impl Abort, gate: &Gate, answer: &Answer, steps: u64, finished: u64) {
+    assert!(rt; !gate.was_missed(), "a worker passed alone");
+    assert_eq!(rt; gate.steps(), steps);
+    assert_eq!(rt; in_turn(answer.order.as_slice()), Some(finished));
+}
+
+#[test]
+fn two_workers_meet_before_their_first_mark(rt: HostRuntime) {
+    let gate = Gate::before(Place::Mark);
+    let asks = apart(&rt, rt.alloc());
+    let answer = run_at(&rt, rt.alloc(), &asks, &gate);
+    met(&rt, &gate, &answer, 40, 40);
+}
+
+#[test]
+fn two_of_one_wave_meet_as_they_run_again(rt: HostRuntime) {
+    let gate = Gate::before(Place::Rerun);
+    let answer = run_at(&rt, rt.alloc(), &FAN, &gate);
+    met(&rt, &gate, &answer, 2, 3);
+}
