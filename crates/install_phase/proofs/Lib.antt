@@ -1,1 +1,4 @@
+mod Sharing
 mod Dealing
+mod Handing
+mod Installing

@@ -1,26 +1,29 @@
--- Writes that were dealt to the shards.
-use Rattle.std.specs.Prelude.{◌≡◌, ◌<◌, ℕ, List, length, slice_index_or}
-use Rattle.std.specs.FinMap as fin
-use Rattle.aria_base.specs.Orders.{Database}
-use Rattle.aria_base.specs.declared.keys.Key.{Key}
-use Rattle.tbl_rows.specs.Shards.{home, bare}
+-- Writes that were dealt to the shards: a list for each shard, in the order of their numbers.
+use Rattle.std.specs.Prelude.{◌≡◌, ◌++◌, ◌<◌, ℕ, List, [], ◌∷◌, All, filter, length, nat_eq, slice_index_or}
+use Rattle.tbl_rows.specs.Shards.{home}
 use Rattle.tbl_rows.specs.declared.homes.TheConstants.{SHARDS}
-use Rattle.install_phase.specs.Jobs.{Due, idle_due, finished}
+use Rattle.install_phase.specs.Jobs.{Written}
 
--- all shards, in the order of their numbers
-pub record AreAll (jobs : List Due) : Type 0 where
-  pub count : length jobs ≡ SHARDS
-  pub numbered : (i : ℕ) (d : Due) → i < length jobs → (slice_index_or jobs i d).piece.number ≡ i
+-- the writes to keys of a shard, in their order
+abbrev pub at_shard : ℕ → Written → Written
+at_shard number writes = filter (λ write. nat_eq (home write.0) number) writes
 
--- the job that the key belongs to
-abbrev pub job_of : List Due → Key → Due
-job_of jobs key = slice_index_or jobs (home key) (idle_due (bare 0))
+-- each write is in the list of its key's shard
+pub record IsDeal (writes : Written) (lists : List Written) : Type 0 where
+  pub count : length lists ≡ SHARDS
+  pub each : (i : ℕ) (d : Written) → i < length lists → slice_index_or lists i d ≡ at_shard i writes
 
--- with their writes the shards are this map
-abbrev pub Make : List Due → Database → Type 0
-Make jobs rows = (key : Key) → fin.get (finished (job_of jobs key)).rows key ≡ fin.get rows key
+-- these writes too, behind the others
+pub record Adds (more : Written) (before after : List Written) : Type 0 where
+  pub count : length after ≡ length before
+  pub each : (i : ℕ) (d : Written) → i < length before → slice_index_or after i d ≡ slice_index_or before i d ++ at_shard i more
 
--- a step after which the shards, with their writes, are another map: that before it, with this change
-pub record Turns (change : Database → Database) (before after : List Due) : Type 0 where
-  pub all : AreAll after
-  pub made : (rows : Database) → Make before rows → Make after (change rows)
+-- a list for each shard, with writes to its keys alone
+pub record AreOwn (lists : List Written) : Type 0 where
+  pub count : length lists ≡ SHARDS
+  pub own : (i : ℕ) (d : Written) → i < length lists → All (λ write. home write.0 ≡ i) (slice_index_or lists i d)
+
+-- these writes, dealt some after the others
+abbrev pub AreDeals : Written → List (List Written) → Type 0
+AreDeals writes [] = writes ≡ []
+AreDeals writes (deal ∷ deals) = (some : Written) × (others : Written) × (writes ≡ some ++ others) × IsDeal some deal × AreDeals others deals

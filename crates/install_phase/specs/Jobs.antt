@@ -5,10 +5,14 @@ use Rattle.aria_base.specs.declared.keys.Key.{Key}
 use Rattle.batch_rules.specs.Trees.{set_at}
 use Rattle.tbl_rows.specs.Shards.{Piece, home}
 
+-- keys with the rows that they get, in the order in which they get them
+abbrev pub Written : Type 0
+Written = List (Key × Option Cells)
+
 -- a shard, and its writes in the order in which they come
 pub record Due : Type 0 where
   pub piece : Piece
-  pub writes : List (Key × Option Cells)
+  pub writes : Written
 
 -- a shard with nothing to write
 abbrev pub idle_due : Piece → Due
@@ -18,12 +22,12 @@ idle_due piece = record { piece = piece; writes = [] }
 abbrev pub IsOwn : Due → Type 0
 IsOwn due = All (λ write. home write.0 ≡ due.piece.number) due.writes
 
--- one write more
-abbrev pub with_more : Due → Key → Option Cells → Due
-with_more due key row = record { piece = due.piece; writes = due.writes ++ (key, row) ∷ [] }
+-- more writes, behind the others
+abbrev pub with_writes : Due → Written → Due
+with_writes due more = record { piece = due.piece; writes = due.writes ++ more }
 
 -- rows after writes
-abbrev pub applied : Database → List (Key × Option Cells) → Database
+abbrev pub applied : Database → Written → Database
 applied rows [] = rows
 applied rows (write ∷ writes) = applied (set_at rows write.0 write.1) writes
 

@@ -1,17 +1,18 @@
 // Workers that make the writes, each in its own shards.
-ghost use Rattle.std.specs.Prelude.{◌≡◌, ◌≤◌, ◌<◌, ◌+◌, map, IfOk};
-ghost use Rattle.std.specs.Thread.{IsSync};
+ghost use Rattle.std.specs.Prelude.{◌≡◌, ◌≤◌, map, flat_map, IfOk};
 ghost use Rattle.install_phase.specs.Jobs.{finished};
 ghost use Rattle.install_phase.specs.Installs.{after_finishing, after_changes};
 
-use crate::deals::{deal_all, idle};
+use crate::deals::Dealing;
+use crate::hands::hand_out;
 use crate::jobs::Job;
+use crate::shares::{Task, share_out};
 use aria_base::{Changes, Memory, Pace};
 use batch_rules::verdicts::Verdict;
 use proc_exec::Outcome;
 use std::alloc::Global;
-use std::thread::{Threads, join};
-use tbl_rows::{SHARDS, Shard, Tables};
+use std::thread::Threads;
+use tbl_rows::{Shard, Tables};
 
 /// The tables with the writes of all that finish, one request after the other. The workers are those
 /// of [`install_changes`].
@@ -27,8 +28,31 @@ pub fn install<P: Pace + Sync, R: Threads + Sync>(
     requires workers { (1 ≤ workers) × (workers ≤ 64) }
     ensures { IfOk result (λ after. after ≡ after_finishing 1 tables outcomes.items verdicts.now) }
 {
-    let list = changes_of(alloc, outcomes)?;
+    let parts = share_out(rt, alloc, &Taking { alloc }, outcomes, workers)?;
+    let list = all_of(alloc, parts)?;
     install_changes(rt, alloc, tables, list, verdicts, workers, pace)
+}
+
+/// The taking of the writes out of outcomes, of which the rest is let go.
+#[derive(Drop)]
+struct Taking {
+    alloc: Global,
+}
+
+impl Task for Taking {
+    ghost use Rattle.std.specs.Prelude.{◌≡◌, map};
+
+    type Item = Outcome;
+
+    type Made = Vec<Changes>;
+
+    ghost makes = { λ _ _ outcomes list. list.items ≡ map (λ o. o.writes) outcomes };
+
+    fn run(&self, part: Vec<Outcome>, _first: usize, _who: u32) -> Result<Vec<Changes>, Memory>
+        ensures { IfOk result (λ list. list.items ≡ map (λ o. o.writes) part.items) }
+    {
+        changes_of(self.alloc, part)
+    }
 }
 
 /// The writes of these outcomes.
@@ -42,9 +66,10 @@ fn changes_of(alloc: Global, outcomes: Vec<Outcome>) -> Result<Vec<Changes>, Mem
     Ok(list)
 }
 
-/// The same where of each request its writes are handed in, and nothing else. Each worker has shards
-/// of its own; no more threads are started than there are shards, and none for one worker. A worker
-/// whose thread cannot be started does its part on the thread that was to start it.
+/// The same where of each request its writes are handed in, and nothing else. Each worker deals the
+/// writes of some neighbours in the list, and then makes those to shards of its own. At no time are
+/// there more threads than shards, and none is started for one worker. A worker whose thread cannot be
+/// started does its part on the thread that was to start it.
 pub fn install_changes<P: Pace + Sync, R: Threads + Sync>(
     rt: &R,
     alloc: Global,
@@ -57,44 +82,35 @@ pub fn install_changes<P: Pace + Sync, R: Threads + Sync>(
     requires workers { (1 ≤ workers) × (workers ≤ 64) }
     ensures { IfOk result (λ after. after ≡ after_changes 1 tables list.items verdicts.now) }
 {
-    let mut jobs = idle(alloc, tables.split())?;
-    deal_all(&mut jobs, list, verdicts)?;
-    let others = workers.min(u32::from(SHARDS)) - 1;
-    let shards = spread(rt, alloc, jobs, 0, others, pace)?;
+    let deals = share_out(rt, alloc, &Dealing { alloc, verdicts }, list, workers)?;
+    let jobs = hand_out(alloc, tables.split(), deals)?;
+    let parts = share_out(rt, alloc, &Making { alloc, pace }, jobs, workers)?;
+    let shards = all_of(alloc, parts)?;
     Ok(Tables::gather(shards))
 }
 
-/// The shards after their writes, by this worker and `others` more.
-fn spread<P: Pace + Sync, R: Threads + Sync>(
-    rt: &R,
+/// The making of the writes, at this pace.
+#[derive(Drop)]
+struct Making<'a, P> {
     alloc: Global,
-    mut jobs: Vec<Job>,
-    who: u32,
-    others: u32,
-    pace: &P,
-) -> Result<Vec<Shard>, Memory>
-    requires { who + others < 64 }
-    ensures { IfOk result (λ shards. shards.items ≡ map finished jobs.items) }
-{
-    if others == 0 {
-        return finish_all(alloc, jobs, who, pace);
+    pace: &'a P,
+}
+
+impl<'a, P: Pace> Task for Making<'a, P> {
+    ghost use Rattle.std.specs.Prelude.{◌≡◌, map};
+    ghost use Rattle.install_phase.specs.Jobs.{finished};
+
+    type Item = Job;
+
+    type Made = Vec<Shard>;
+
+    ghost makes = { λ _ _ jobs shards. shards.items ≡ map finished jobs };
+
+    fn run(&self, part: Vec<Job>, _first: usize, who: u32) -> Result<Vec<Shard>, Memory>
+        ensures { IfOk result (λ shards. shards.items ≡ map finished part.items) }
+    {
+        finish_all(self.alloc, part, who, self.pace)
     }
-    let fewer = others - 1;
-    let next = who + 1;
-    let share = jobs.len() / (others as usize + 1);
-    let part = jobs.split_off(jobs.len() - share)?;
-    let (theirs, ours) = join(
-        rt,
-        move || finish_all(alloc, part, who, pace),
-        move || -> Result<Vec<Shard>, Memory>
-            requires { IsSync R.row × IsSync P.row × (next + fewer < 64) }
-            ensures { IfOk result (λ shards. shards.items ≡ map finished jobs.items) }
-        { spread(rt, alloc, jobs, next, fewer, pace) },
-    );
-    let mut last = theirs?;
-    let mut shards = ours?;
-    shards.append(&mut last)?;
-    Ok(shards)
 }
 
 /// The shards after their writes, by one worker.
@@ -111,4 +127,15 @@ fn finish_all<P: Pace>(
         shards.push(job.finish(who, pace)?)?;
     }
     Ok(shards)
+}
+
+/// What the parts hold, one part behind the other. It is moved in whole parts.
+fn all_of<T: Drop>(alloc: Global, parts: Vec<Vec<T>>) -> Result<Vec<T>, Memory>
+    ensures { IfOk result (λ all. all.items ≡ flat_map (λ part. part.items) parts.items) }
+{
+    let mut all = Vec::new(alloc);
+    for mut part in parts {
+        all.append(&mut part)?;
+    }
+    Ok(all)
 }

@@ -1,22 +1,26 @@
 // One shard and the writes that belong to it.
-ghost use Rattle.std.specs.Prelude.{◌≡◌, IfOk, OnOk, All};
+ghost use Rattle.std.specs.Prelude.{◌≡◌, IfOk, OnOk, All, flat_map};
 ghost use Rattle.batch_rules.specs.Trees.{set_at};
 ghost use Rattle.tbl_rows.specs.Shards.{home};
-ghost use Rattle.install_phase.specs.Jobs.{idle_due, with_more, finished, applied};
+ghost use Rattle.install_phase.specs.Jobs.{idle_due, with_writes, finished, applied};
 
 use aria_base::{Key, Memory, Pace, Place, Row};
 use std::alloc::Global;
 use std::marker::Model;
 use tbl_rows::Shard;
 
-/// A shard with writes to its keys, which are still to be made.
+/// A key with the row that it gets, or with none where its row goes.
+pub(crate) type Write = (Key, Option<Row>);
+
+/// A shard with writes to its keys, which are still to be made: one list after the other.
 #[derive(Drop)]
 pub(crate) struct Job {
     shard: Shard,
-    writes: Vec<(Key, Option<Row>)>,
+    lists: Vec<Vec<Write>>,
 }
 
 impl Model for Job {
+    ghost use Rattle.std.specs.Prelude.{flat_map};
     ghost use Rattle.install_phase.specs.Codes.{due_code};
     ghost use Rattle.install_phase.specs.Jobs.{Due, IsOwn};
 
@@ -24,9 +28,9 @@ impl Model for Job {
 
     ghost coded = { due_code };
 
-    ghost view = { λ a. record { piece = a.shard; writes = a.writes.items } };
+    ghost view = { λ a. record { piece = a.shard; writes = flat_map (λ list. list.items) a.lists.items } };
 
-    ghost invariant = { λ a. IsOwn (record { piece = a.shard; writes = a.writes.items }) };
+    ghost invariant = { λ a. IsOwn (record { piece = a.shard; writes = flat_map (λ list. list.items) a.lists.items }) };
 }
 
 impl Job {
@@ -36,16 +40,16 @@ impl Job {
     {
         Job {
             shard,
-            writes: Vec::new(alloc),
+            lists: Vec::new(alloc),
         }
     }
 
-    /// One more write, behind the others.
-    pub(crate) fn add(&mut self, key: Key, row: Option<Row>) -> Result<(), Memory>
-        requires { home key ≡ self.old.piece.number }
-        ensures { OnOk result (self.new ≡ with_more self.old key row) }
+    /// These writes too, behind the others.
+    pub(crate) fn take(&mut self, list: Vec<Write>) -> Result<(), Memory>
+        requires { All (λ write. home write.0 ≡ self.old.piece.number) list.items }
+        ensures { OnOk result (self.new ≡ with_writes self.old list.items) }
     {
-        self.writes.push((key, row))?;
+        self.lists.push(list)?;
         Ok(())
     }
 
@@ -53,15 +57,31 @@ impl Job {
     pub(crate) fn finish<P: Pace>(self, who: u32, pace: &P) -> Result<Shard, Memory>
         ensures { IfOk result (λ shard. shard ≡ finished self) }
     {
-        let Job { shard, writes } = self;
-        write_all(shard, writes, who, pace)
+        let Job { shard, lists } = self;
+        write_lists(shard, lists, who, pace)
     }
+}
+
+/// The shard after the writes of these lists, one list after the other.
+fn write_lists<P: Pace>(
+    mut shard: Shard,
+    lists: Vec<Vec<Write>>,
+    who: u32,
+    pace: &P,
+) -> Result<Shard, Memory>
+    requires { All (λ write. home write.0 ≡ shard.number) (flat_map (λ list. list.items) lists.items) }
+    ensures { IfOk result (λ after. after ≡ record { number = shard.number; rows = applied shard.rows (flat_map (λ list. list.items) lists.items) }) }
+{
+    for list in lists {
+        shard = write_all(shard, list, who, pace)?;
+    }
+    Ok(shard)
 }
 
 /// The shard after these writes, one after the other.
 fn write_all<P: Pace>(
     mut shard: Shard,
-    writes: Vec<(Key, Option<Row>)>,
+    writes: Vec<Write>,
     who: u32,
     pace: &P,
 ) -> Result<Shard, Memory>

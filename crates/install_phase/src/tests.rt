@@ -2,7 +2,7 @@
 // at the same time, and counts the steps that they tell of.
 ghost use Rattle.std.specs.Prelude.{◌≤◌};
 
-use crate::install;
+use crate::{install, install_changes};
 use aria_base::{Changes, Free, Key, Keys, Memory, Part, Parts, Row, Value};
 use batch_rules::verdicts::{Cause, Verdict};
 use proc_exec::Outcome;
@@ -16,6 +16,9 @@ use tbl_rows::Tables;
 
 /// How many accounts there are, and requests, each of which writes one.
 const COUNT: i64 = 40;
+
+/// How many requests there are in a crowd, in which five write each account.
+const CROWD: i64 = 200;
 
 /// Asserts that what was found in this case is what is wanted.
 fn same<T: PartialEq + Debug>(rt: &impl Abort, case: &impl Debug, found: &T, wanted: &T) {
@@ -110,6 +113,57 @@ fn any_number_of_workers_gives_the_same_rows(rt: HostRuntime) -> Result<(), Fail
     let wanted = expected(alloc)?;
     for workers in [1, 2, 7, 64_u32] {
         let after = installed(&rt, alloc, workers)?;
+        same(&rt, &workers, &listed(alloc, &after)?, &wanted);
+    }
+    Ok(())
+}
+
+/// The writes of a request of the crowd: it sets its account to a thousand and its number; each fourth
+/// one removes it.
+fn change(alloc: Global, number: i64) -> Result<Changes, Memory> {
+    let after = if number % 4 == 3 {
+        None
+    } else {
+        Some(row(alloc, number.saturating_add(1_000))?)
+    };
+    let write = (key(alloc, number % COUNT)?, after);
+    Ok(Changes::from_vec(vec![in alloc; write]?))
+}
+
+/// The accounts after the crowd.
+fn crowded<R: Threads + Sync>(rt: &R, alloc: Global, workers: u32) -> Result<Tables, Fail>
+    requires { (1 ≤ workers) × (workers ≤ 64) }
+{
+    let mut list = Vec::new(alloc);
+    let mut verdicts = Vec::new(alloc);
+    for number in 0..CROWD {
+        list.push(change(alloc, number)?)?;
+        verdicts.push(verdict(number))?;
+    }
+    let tables = accounts(alloc)?;
+    Ok(install_changes(rt, alloc, tables, list, &verdicts, workers, &Free)?)
+}
+
+/// What stands there then, worked out: the last request of an account is 160 behind its first, and
+/// waits where the account's number is one more than a multiple of three. Then the one before it counts,
+/// 40 earlier.
+fn expected_of_crowd(alloc: Global) -> Result<Vec<(i64, i64)>, Memory> {
+    let mut pairs = Vec::new(alloc);
+    for account in 0..COUNT {
+        let last: i64 = if account % 3 == 1 { 1_120 } else { 1_160 };
+        if account % 4 != 3 {
+            pairs.push((account, last.saturating_add(account)))?;
+        }
+    }
+    Ok(pairs)
+}
+
+#[test]
+fn the_last_request_of_a_crowd_counts_whoever_deals_it(rt: HostRuntime) -> Result<(), Fail> {
+    let alloc = rt.alloc();
+    let wanted = expected_of_crowd(alloc)?;
+    for workers in [1, 2, 7, 64_u32] {
+        let after = crowded(&rt, alloc, workers)?;
         same(&rt, &workers, &listed(alloc, &after)?, &wanted);
     }
     Ok(())

@@ -1,11 +1,10 @@
 // Banks between two batches: accounts, calls on them, and the next batch.
 ghost use Rattle.std.specs.Prelude.{◌≡◌, ◌≤◌, true};
 ghost use Rattle.std.specs.List.{All, list_all};
-ghost use Rattle.aria_base.specs.Schemas.{IsConsistent};
 ghost use Rattle.proc_lang.specs.Catalogs.{takes};
 ghost use Rattle.worked_batches.specs.Rooms.{HasRoom};
 
-use aria_base::{Arg, Args, Call, Key, Pace, Part, Parts, Row, Value};
+use aria_base::{Call, Pace};
 use batch_core::Answer;
 use batch_engine::Engine;
 use cat_builtin::builtin;
@@ -16,34 +15,7 @@ use std::alloc::Global;
 use std::fmt::Debug;
 use std::process::Abort;
 use std::thread::Threads;
-use tbl_rows::Tables;
-
-/// Adds the second number to the account of the first.
-pub const ADD: u16 = 0;
-
-/// Puts what the first account holds into the second.
-pub const COPY: u16 = 1;
-
-/// Puts the second number into the account of the first.
-pub const SET: u16 = 2;
-
-/// Gives what two accounts hold together.
-pub const SUM: u16 = 3;
-
-/// Puts the second number into the account that the account of the first names.
-pub const HOP: u16 = 4;
-
-/// Deletes the account of the first number. The second is not handed over.
-pub const DROP: u16 = 5;
-
-/// A call: the procedure, and two numbers.
-pub type Ask = (u16, i64, i64);
-
-/// An account, and what it holds.
-pub type Account = (i64, i64);
-
-/// What a test says that finds no memory.
-pub const MEMORY: &str = "memory";
+use test_banks::{Account, MEMORY, tables};
 
 /// More batches, and more requests, than any test here has.
 const MANY: u64 = 1_000_000;
@@ -63,55 +35,6 @@ pub fn in_turn(order: &[u64]) -> Option<u64> {
         }
     }
     Some(last)
-}
-
-fn call(rt: &impl Abort, alloc: Global, ask: Ask) -> Call {
-    let (proc, first, second) = ask;
-    let mut args = vec![in alloc; Arg::Int(first)].expect(rt, MEMORY);
-    if proc != DROP {
-        args.push(Arg::Int(second)).expect(rt, MEMORY);
-    }
-    Call {
-        proc,
-        args: Args::from_vec(args),
-    }
-}
-
-/// These calls.
-pub fn calls(rt: &impl Abort, alloc: Global, asks: &[Ask]) -> Vec<Call> {
-    let mut calls = Vec::new(alloc);
-    for &ask in asks {
-        calls.push(call(rt, alloc, ask)).expect(rt, MEMORY);
-    }
-    calls
-}
-
-/// Puts an account.
-#[tactic(auto, using(crate::proofs::Readiness::fit_with))]
-fn put(rt: &impl Abort, alloc: Global, catalog: &Catalog, tables: &mut Tables, account: Account)
-    requires { IsConsistent catalog.now.tables tables.old }
-    ensures { IsConsistent catalog.now.tables tables.new }
-{
-    let (number, amount) = account;
-    let key = Key {
-        table: 0,
-        parts: Parts::one(Part::Int(number)),
-    };
-    let row = Row::from_vec(vec![in alloc; Value::Int(amount)].expect(rt, MEMORY));
-    assert!(rt; catalog.schema().fits(&key, &row), "an account fits");
-    tables.put(key, row).expect(rt, MEMORY);
-}
-
-/// The tables of these accounts.
-#[tactic(auto, using(crate::proofs::Readiness::fit_nowhere))]
-fn tables(rt: &impl Abort, alloc: Global, catalog: &Catalog, accounts: &[Account]) -> Tables
-    ensures { IsConsistent catalog.now.tables result }
-{
-    let mut tables = Tables::new(alloc).expect(rt, MEMORY);
-    for &account in accounts {
-        put(rt, alloc, catalog, &mut tables, account);
-    }
-    tables
 }
 
 /// A bank of these accounts before its first batch.

@@ -1,38 +1,24 @@
 // Drawn batches of a bank, and what they come to by other ways.
 ghost use Rattle.std.specs.Prelude.{◌≤◌, ◌<◌};
 
-use crate::banks::{Account, Ask, MEMORY, SET, calls, engine, run, same};
-use crate::plain::{Plain, run_plainly};
+use crate::banks::{engine, run, same};
 use aria_base::{Draws, Duplicate, Free, Items, Request};
 use batch_core::{Answer, Reply, Wait};
 use batch_engine::Engine;
-use batch_rules::verdicts::Rule;
 use dep_rules::Config;
 use std::alloc::Global;
 use std::process::Abort;
 use std::thread::Threads;
 use tbl_rows::Tables;
+use test_banks::{
+    Account, Ask, MEMORY, Plain, SET, calls, drawn, drawn_ask, drawn_rule, run_plainly,
+};
 
 /// More requests wait at most before no new ones come.
 const CROWD: usize = 24;
 
 /// Accounts that hold their own numbers.
 const ACCOUNTS: [Account; 6] = [(1, 1), (2, 2), (3, 3), (4, 4), (5, 5), (6, 6)];
-
-/// A number from 1 to `most`.
-fn drawn(draws: &mut Draws, most: u32) -> u32
-    requires { (1 ≤ most) × (most ≤ 1000) }
-    ensures { (1 ≤ result) × (result ≤ most) }
-{
-    draws.word() % most + 1
-}
-
-/// A call of one of the six procedures on accounts from 1 to 7, which mostly hold such numbers.
-fn drawn_ask(draws: &mut Draws) -> Ask {
-    let proc = (drawn(draws, 6) - 1) as u16;
-    let first = i64::from(drawn(draws, 7));
-    (proc, first, i64::from(drawn(draws, 7)))
-}
 
 /// At most eight calls, and none where many wait. One batch in a hundred puts 100 accounts.
 fn drawn_asks(rt: &impl Abort, alloc: Global, draws: &mut Draws, waiting: usize) -> Vec<Ask> {
@@ -56,11 +42,7 @@ fn drawn_asks(rt: &impl Abort, alloc: Global, draws: &mut Draws, waiting: usize)
 fn drawn_config(draws: &mut Draws) -> Config
     ensures { (result.fallback ≤ 101) × (1 ≤ result.workers) × (result.workers ≤ 3) }
 {
-    let rule = if drawn(draws, 2) == 1 {
-        Rule::Plain
-    } else {
-        Rule::Reorder
-    };
+    let rule = drawn_rule(draws);
     let workers = if drawn(draws, 4) == 1 {
         drawn(draws, 3)
     } else {
@@ -163,12 +145,7 @@ fn a_thousand_batches_are_as_by_the_plainest_form(rt: HostRuntime) {
     let mut draws = Draws::of(17, 1);
     let mut causes = [0_u32; 4];
     let bank = engine(&rt, alloc, &ACCOUNTS);
-    let plain = Plain {
-        tables: bank.tables().copy().expect(&rt, MEMORY),
-        waiting: Vec::new(alloc),
-        batches: 0,
-        requests: 0,
-    };
+    let plain = Plain::begin(alloc, bank.tables().copy().expect(&rt, MEMORY));
     let mut both = (bank, plain);
     for _ in 0..1000 {
         both = run_both(&rt, alloc, &mut draws, both, &mut causes);

@@ -3,8 +3,8 @@
 //! `examples` has a table of batches on the catalogue `bank`, each with what it prints, worked out by hand,
 //! and runs them on several numbers of workers and of replicas. `crowds` fills a batch to the last place,
 //! and `meetings` shows that workers are at work at once, and how often they are told of a step. `drawn`
-//! runs drawn batches beside `plain`, the rules in their plainest form, and beside an engine that numbers
-//! keys anew. `banks` makes a database of accounts, and runs batches of calls.
+//! runs drawn batches beside the rules in their plainest form (`test_banks`), and beside an engine that
+//! numbers keys anew. `banks` makes a database of accounts, and runs batches of calls.
 #![tactic(auto)]
 
 #[cfg(test)]
@@ -17,5 +17,3 @@ mod drawn;
 mod examples;
 #[cfg(test)]
 mod meetings;
-#[cfg(test)]
-mod plain;

@@ -1,8 +1,5 @@
 // The rules of a batch in their plainest form: one list, one worker, no numbers and no words.
-ghost use Rattle.std.specs.Prelude.{◌≤◌, ◌<◌, ◌≡◌, length};
-ghost use Rattle.aria_base.specs.declared.limits.TheConstants.{MOST_REQUESTS};
-
-use crate::banks::MEMORY;
+use crate::MEMORY;
 use aria_base::{Call, Changes, Duplicate, Items, Keys, Request};
 use batch_core::{Answer, Line, Reply, Wait};
 use batch_rules::verdicts::{Cause, Rule, Verdict};
@@ -22,6 +19,18 @@ pub struct Plain {
     pub waiting: Vec<Request>,
     pub batches: u64,
     pub requests: u64,
+}
+
+impl Plain {
+    /// One with these rows, before its first batch.
+    pub fn begin(alloc: Global, tables: Tables) -> Plain {
+        Plain {
+            tables,
+            waiting: Vec::new(alloc),
+            batches: 0,
+            requests: 0,
+        }
+    }
 }
 
 /// What is said of a batch so far.

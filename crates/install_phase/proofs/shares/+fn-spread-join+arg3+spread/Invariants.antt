@@ -1,5 +1,5 @@
 use Rattle.std.proofs.Common.{◌+◌, ◌*◌}
-use Rattle.install_phase.proofs.installs.+fn-spread-join+arg3+spread.Given as goal
+use Rattle.install_phase.proofs.shares.+fn-spread-join+arg3+spread.Given as goal
 
 abbrev pub decreases-join+arg3 : goal.decreases-join+arg3
 decreases-join+arg3 g l = 2 * l.fewer + 1

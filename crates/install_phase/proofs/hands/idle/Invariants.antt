@@ -1,7 +1,7 @@
 use Rattle.std.proofs.Common.{◌≡◌, ◌++◌, map}
 use Rattle.std.specs.Vec.Iter.{into_iter_items}
 use Rattle.install_phase.specs.Jobs.{idle_due}
-use Rattle.install_phase.proofs.deals.idle.Given as goal
+use Rattle.install_phase.proofs.hands.idle.Given as goal
 
 abbrev pub invariant-loop-shard : goal.invariant-loop-shard
 invariant-loop-shard l =

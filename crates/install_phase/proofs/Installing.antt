@@ -1,0 +1,98 @@
+-- Writes that are made shard by shard leave, at each key, what they leave in the whole map.
+use Rattle.std.proofs.Common.{◌≡◌, refl, sym, ap, subst, ◌∙◌, ◌≢◌, ℕ, ◌<◌, List, [], ◌∷◌, ◌++◌, ◌+◌, map, reverse, flat_map, length, get_or, true, false, cond, Option, nat_eq, All}
+use Rattle.std.specs.Ordering.{eq_by_cmp}
+use Rattle.std.specs.FinMap as fin
+use Rattle.std.proofs.Math.ListN.{get_or-map}
+use Rattle.std.proofs.lemmas.Bool.{eqb-false}
+use Rattle.std.proofs.lemmas.List.{length-map, reverse-append}
+use Rattle.std.proofs.lemmas.List.{get_or-map as get_or-map_within}
+use Rattle.std.proofs.lemmas.List.Elements.{All-append}
+use Rattle.std.proofs.lemmas.List.Concat.{flat_map-append}
+use Rattle.aria_base.specs.Orders.{key_cmp, Cells, Database}
+use Rattle.aria_base.specs.declared.keys.Key.{Key}
+use Rattle.aria_base.proofs.Orders.{key_cmp_total, key_cmp-IsAntisymmetric}
+use Rattle.batch_rules.specs.Trees.{set_at}
+use Rattle.batch_rules.specs.Touches.{overwritten, installed}
+use Rattle.batch_rules.proofs.Maps.{get-set_at, same_key}
+use Rattle.batch_rules.specs.declared.verdicts.Verdict.{Verdict}
+use Rattle.batch_rules.specs.declared.verdicts.Verdict.TheVariants.{Finish, Wait}
+use Rattle.batch_rules.specs.Batches.{Judged, decided, finishing}
+use Rattle.proc_exec.specs.declared.outcomes.Outcome.{Outcome}
+use Rattle.tbl_rows.specs.Shards.{Piece, home, bare, at_home, IsWhole, AllNumbered}
+use Rattle.tbl_rows.specs.declared.homes.TheConstants.{SHARDS}
+use Rattle.tbl_rows.proofs.Together.{home-below}
+use Rattle.install_phase.specs.Jobs.{Due, Written, idle_due, applied, finished}
+use Rattle.install_phase.specs.Deals.{at_shard}
+use Rattle.install_phase.specs.Hands.{AreAll, AreJobs}
+use Rattle.install_phase.specs.Installs.{after_finishing, after_changes, written}
+
+-- ---- writes, one after the other
+
+pub applied-append : (rows : Database) (xs ys : Written) → applied rows (xs ++ ys) ≡ applied (applied rows xs) ys
+applied-append rows [] ys = refl
+applied-append rows (x ∷ xs) ys = applied-append (set_at rows x.0 x.1) xs ys
+
+applied-reverse : (rows : Database) (writes : Written) → applied rows (reverse writes) ≡ overwritten rows writes
+applied-reverse rows [] = refl
+applied-reverse rows (w ∷ ws) =
+    ap (applied rows) (reverse-append (w ∷ []) ws) ∙ applied-append rows (reverse ws) (w ∷ []) ∙ ap (λ m. set_at m w.0 w.1) (applied-reverse rows ws)
+
+applied-installed : (rows : Database) (ones : List (Judged Written)) → applied rows (flat_map (λ one. reverse one.request) ones) ≡ installed (λ one. one.request) rows ones
+applied-installed rows [] = refl
+applied-installed rows (one ∷ ones) =
+    applied-append rows (reverse one.request) (flat_map (λ o. reverse o.request) ones) ∙ ap (λ m. applied m (flat_map (λ o. reverse o.request) ones)) (applied-reverse rows one.request)
+    ∙ applied-installed (overwritten rows one.request) ones
+
+-- the writes alone tell what the outcomes do
+pub same_changes : (tid : ℕ) (rows : Database) (outcomes : List Outcome) (verdicts : List Verdict) → after_changes tid rows (map (λ o. o.writes) outcomes) verdicts ≡ after_finishing tid rows outcomes verdicts
+same_changes tid rows [] verdicts = refl
+same_changes tid rows (outcome ∷ outcomes) [] = refl
+same_changes tid rows (outcome ∷ outcomes) (Finish raw ∷ verdicts) = same_changes (tid + 1) (overwritten rows outcome.writes) outcomes verdicts
+same_changes tid rows (outcome ∷ outcomes) (Wait cause ∷ verdicts) = same_changes (tid + 1) rows outcomes verdicts
+
+-- ---- shard by shard
+
+-- other shards hold other keys
+other_key : (q key : Key) → home q ≢ home key → eq_by_cmp key_cmp q key ≡ false
+other_key q key apart = elim (eq_by_cmp key_cmp q key) as (λ b. eq_by_cmp key_cmp q key ≡ b → b ≡ false) [
+  | true ↦ λ e. absurd (apart (ap home (same_key key_cmp-IsAntisymmetric q key e)))
+  | false ↦ λ e. refl
+] refl
+
+-- of the writes those to the key's shard alone matter to it
+get-at_shard : (writes : Written) (rows all : Database) (q : Key) → fin.get rows q ≡ fin.get all q
+    → fin.get (applied rows (at_shard (home q) writes)) q ≡ fin.get (applied all writes) q
+get-at_shard [] rows all q e = e
+get-at_shard (w ∷ ws) rows all q e =
+    elim (nat_eq (home w.0) (home q)) as (λ t. nat_eq (home w.0) (home q) ≡ t
+    → fin.get (applied rows (cond t (w ∷ at_shard (home q) ws) (at_shard (home q) ws))) q ≡ fin.get (applied (set_at all w.0 w.1) ws) q) [
+      | true ↦ λ here. get-at_shard ws (set_at rows w.0 w.1) (set_at all w.0 w.1) q
+          (get-set_at key_cmp_total rows w.0 w.1 q ∙ ap (cond (eq_by_cmp key_cmp q w.0) w.1) e ∙ sym (get-set_at key_cmp_total all w.0 w.1 q))
+      | false ↦ λ other. get-at_shard ws rows (set_at all w.0 w.1) q
+          (e ∙ sym (get-set_at key_cmp_total all w.0 w.1 q ∙ ap (λ b. cond b w.1 (fin.get all q)) (other_key q w.0 (λ same. eqb-false (home w.0) (home q) other (sym same)))))
+    ] refl
+
+module _ (pieces after : List Piece) (jobs : List Due) (writes : Written) (whole : IsWhole pieces) (are : AreJobs pieces writes jobs) (made : after ≡ map finished jobs) where
+  pub count_after : length after ≡ SHARDS
+  count_after = ap length made ∙ length-map jobs finished ∙ are.count ∙ whole.count
+
+  pub numbered_after : AllNumbered after
+  numbered_after = subst AllNumbered (sym made) (λ i d lt.
+      let within : i < length jobs = rw (← length-map jobs finished) lt in
+      let idle = idle_due (bare 0) in
+      ap (λ (piece : Piece). piece.number) (get_or-map_within finished jobs i idle d within) ∙ ap (λ (due : Due). due.piece.number) (are.each i idle within)
+      ∙ whole.numbered i (bare 0) (subst (λ n. i < n) are.count within))
+
+  home_after : (start : Database) → ((q : Key) → at_home pieces q ≡ fin.get start q) → (q : Key) → at_home after q ≡ fin.get (applied start writes) q
+  home_after start each q =
+      let idle = idle_due (bare 0) in
+      let within : home q < length jobs = subst (λ n. home q < n) (sym (are.count ∙ whole.count)) (home-below q) in
+      ap (λ ps. at_home ps q) made ∙ ap (λ (piece : Piece). fin.get piece.rows q) (get_or-map finished jobs (home q) idle)
+      ∙ ap (λ (due : Due). fin.get (finished due).rows q) (are.each (home q) idle within)
+      ∙ get-at_shard writes (get_or pieces (home q) (bare 0)).rows start q (each q)
+
+  pub together : (tables start : Database) (tid : ℕ) (list : List Written) (verdicts : List Verdict) → writes ≡ written tid list verdicts
+      → ((q : Key) → at_home pieces q ≡ fin.get start q) → ((q : Key) → fin.get tables q ≡ at_home after q) → tables ≡ after_changes tid start list verdicts
+  together tables start tid list verdicts are_written split gathered =
+      fin.same_map key_cmp_total key_cmp-IsAntisymmetric tables (applied start writes) (λ q. gathered q ∙ home_after start split q)
+      ∙ ap (applied start) are_written ∙ applied-installed start (finishing (decided tid list verdicts))
