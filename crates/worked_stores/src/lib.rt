@@ -2,8 +2,8 @@
 //!
 //! `damages` attaches to four files that were changed in one or two places and names the file and the
 //! offset of the damage that comes first; `found` attaches to files that are in order; `written` has the
-//! bytes of a created store, of one with a batch and of one with a second checkpoint; `stops` attaches
-//! after a stop at each call of the disk; in `faults` each of these calls fails in turn.
+//! bytes of a created store, of one with a batch and of one with a second checkpoint; `stops` and
+//! `creations` attach after a stop at each call of the disk; in `faults` each of these calls fails in turn.
 //!
 //! ```text
 //! byte 7 of the slot is 102               damaged: file 1, offset 7
@@ -16,6 +16,8 @@
 
 #[cfg(test)]
 mod bases;
+#[cfg(test)]
+mod creations;
 #[cfg(test)]
 mod damages;
 #[cfg(test)]

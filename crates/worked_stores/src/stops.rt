@@ -12,13 +12,13 @@ use std::process::Abort;
 use std::test::Fail;
 
 /// The payload of a batch of one call.
-const PAYLOAD: &[u8] = b"\x01\x65tx add 5\n";
+pub const PAYLOAD: &[u8] = b"\x01\x65tx add 5\n";
 
 /// What becomes of the bytes that were not synced: all come through, or one byte stands in their place.
-const LEFT: [(bool, u8); 4] = [(true, 0), (false, 0), (false, 1), (false, 77)];
+pub const LEFT: [(bool, u8); 4] = [(true, 0), (false, 0), (false, 1), (false, 77)];
 
 /// What is found where this disk stops after so many calls.
-fn stopped(alloc: Global, disk: &MemDisk, calls: u64, left: (bool, u8)) -> Result<Seen, Fail> {
+pub fn stopped(alloc: Global, disk: &MemDisk, calls: u64, left: (bool, u8)) -> Result<Seen, Fail> {
     if calls > disk.calls() {
         return Err(Fail::new("so many calls were made"));
     }
@@ -28,7 +28,7 @@ fn stopped(alloc: Global, disk: &MemDisk, calls: u64, left: (bool, u8)) -> Resul
 
 /// Whether so many calls before the end the last byte is there: it is written by the last call but one,
 /// an open gate, and synced by the last.
-fn is_shown(missing: u64, left: (bool, u8)) -> bool {
+pub fn is_shown(missing: u64, left: (bool, u8)) -> bool {
     match missing {
         0 => true,
         1 => left.0 || left.1 == 1,
