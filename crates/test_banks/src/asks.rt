@@ -1,11 +1,9 @@
-// Calls on the catalogue `bank`.
+// Rows of the catalogue `bank`, and calls on it.
 ghost use Rattle.std.specs.Prelude.{◌≤◌};
 
-use crate::MEMORY;
-use aria_base::{Arg, Args, Call, Draws};
+use aria_base::{Arg, Args, Call, Draws, Key, Memory, Part, Parts, Row, Value};
 use batch_rules::verdicts::Rule;
 use std::alloc::Global;
-use std::process::Abort;
 
 /// Adds the second number to the account of the first.
 pub const ADD: u16 = 0;
@@ -28,25 +26,38 @@ pub const DROP: u16 = 5;
 /// A call: the procedure, and two numbers.
 pub type Ask = (u16, i64, i64);
 
-fn call(rt: &impl Abort, alloc: Global, ask: Ask) -> Call {
+/// An account, and what it holds.
+pub type Account = (i64, i64);
+
+/// The row of an account, and its key.
+pub fn row_of(alloc: Global, (number, amount): Account) -> Result<(Key, Row), Memory> {
+    let key = Key {
+        table: 0,
+        parts: Parts::one(Part::Int(number)),
+    };
+    let row = Row::from_vec(vec![in alloc; Value::Int(amount)]?);
+    Ok((key, row))
+}
+
+fn call(alloc: Global, ask: Ask) -> Result<Call, Memory> {
     let (proc, first, second) = ask;
-    let mut args = vec![in alloc; Arg::Int(first)].expect(rt, MEMORY);
+    let mut args = vec![in alloc; Arg::Int(first)]?;
     if proc != DROP {
-        args.push(Arg::Int(second)).expect(rt, MEMORY);
+        args.push(Arg::Int(second))?;
     }
-    Call {
+    Ok(Call {
         proc,
         args: Args::from_vec(args),
-    }
+    })
 }
 
 /// These calls.
-pub fn calls(rt: &impl Abort, alloc: Global, asks: &[Ask]) -> Vec<Call> {
+pub fn calls(alloc: Global, asks: &[Ask]) -> Result<Vec<Call>, Memory> {
     let mut calls = Vec::new(alloc);
     for &ask in asks {
-        calls.push(call(rt, alloc, ask)).expect(rt, MEMORY);
+        calls.push(call(alloc, ask)?)?;
     }
-    calls
+    Ok(calls)
 }
 
 /// A number from 1 to `most`.

@@ -9,13 +9,10 @@
 //! ```
 #![tactic(auto)]
 
-mod accounts;
 mod asks;
 mod plain;
 
-pub use accounts::{Account, tables};
-pub use asks::{ADD, Ask, COPY, DROP, HOP, SET, SUM, calls, drawn, drawn_ask, drawn_rule};
+pub use asks::{
+    ADD, Account, Ask, COPY, DROP, HOP, SET, SUM, calls, drawn, drawn_ask, drawn_rule, row_of,
+};
 pub use plain::{Plain, run_plainly};
-
-/// What a test says that finds no memory.
-pub const MEMORY: &str = "memory";

@@ -1,6 +1,5 @@
 // The rules of a batch in their plainest form: one list, one worker, no numbers and no words.
-use crate::MEMORY;
-use aria_base::{Call, Changes, Duplicate, Items, Keys, Request};
+use aria_base::{Call, Changes, Duplicate, Items, Keys, MOST_REQUESTS, Memory, Request};
 use batch_core::{Answer, Line, Reply, Wait};
 use batch_rules::verdicts::{Cause, Rule, Verdict};
 use dep_rules::{Config, Sets, decide_listed};
@@ -8,7 +7,6 @@ use exec_phase::{execute, execute_within};
 use proc_exec::{Declared, Outcome, Within};
 use proc_lang::Catalog;
 use std::alloc::Global;
-use std::process::Abort;
 use tbl_rows::Tables;
 use tbl_snapshot::Snapshot;
 
@@ -45,15 +43,14 @@ struct Told {
     late: Vec<u64>,
 }
 
-/// Runs the next batch.
+/// Runs the next batch. There is none where its list has more than 10,000 requests.
 pub fn run_plainly(
-    rt: &impl Abort,
     alloc: Global,
     catalog: &Catalog,
     plain: Plain,
     calls: Vec<Call>,
     config: &Config,
-) -> (Plain, Answer) {
+) -> Result<Option<(Plain, Answer)>, Memory> {
     let Plain {
         mut tables,
         waiting,
@@ -62,96 +59,94 @@ pub fn run_plainly(
     } = plain;
     let number = batches.wrapping_add(1);
     let total = requests.wrapping_add(calls.len() as u64);
-    let list = number_calls(rt, waiting, calls, requests);
-    let outcomes = execute_all(rt, alloc, catalog, &list, &tables);
-    let sets = sets_of(rt, alloc, &outcomes);
-    let verdicts = decide_all(rt, alloc, &sets, config.rule);
-    let mut told = settle(rt, alloc, &list, outcomes, &verdicts, &mut tables);
+    let list = number_calls(waiting, calls, requests)?;
+    let outcomes = execute_all(alloc, catalog, &list, &tables)?;
+    let sets = sets_of(alloc, &outcomes)?;
+    let Some(verdicts) = decide_all(alloc, &sets, config.rule)? else {
+        return Ok(None);
+    };
+    let mut told = settle(alloc, &list, outcomes, &verdicts, &mut tables)?;
     if is_due(&told.lines, config.fallback) {
-        run_late(rt, alloc, catalog, &mut tables, &mut told, &list, sets);
+        run_late(alloc, catalog, &mut tables, &mut told, &list, sets)?;
     }
     let plain = Plain {
         tables,
-        waiting: still_waiting(rt, alloc, list, &told.lines),
+        waiting: still_waiting(alloc, list, &told.lines)?,
         batches: number,
         requests: total,
     };
-    (plain, answer_of(rt, number, told))
+    Ok(Some((plain, answer_of(number, told)?)))
 }
 
 /// What waits, then the new calls with the next request numbers.
 fn number_calls(
-    rt: &impl Abort,
     waiting: Vec<Request>,
     calls: Vec<Call>,
     requests: u64,
-) -> Vec<Request> {
+) -> Result<Vec<Request>, Memory> {
     let mut list = waiting;
     let mut q = requests;
     for call in calls {
         q = q.wrapping_add(1);
-        list.push(Request { q, call }).expect(rt, MEMORY);
+        list.push(Request { q, call })?;
     }
-    list
+    Ok(list)
 }
 
 /// What each request comes to on these tables.
 fn execute_all(
-    rt: &impl Abort,
     alloc: Global,
     catalog: &Catalog,
     list: &[Request],
     tables: &Tables,
-) -> Vec<Outcome> {
+) -> Result<Vec<Outcome>, Memory> {
     let mut outcomes = Vec::new(alloc);
     for request in list {
-        let outcome = execute(alloc, catalog, request, Snapshot::of(tables));
-        outcomes.push(outcome.expect(rt, MEMORY)).expect(rt, MEMORY);
+        outcomes.push(execute(alloc, catalog, request, Snapshot::of(tables))?)?;
     }
-    outcomes
+    Ok(outcomes)
 }
 
-fn keys_of(rt: &impl Abort, alloc: Global, changes: &Changes) -> Keys {
+fn keys_of(alloc: Global, changes: &Changes) -> Result<Keys, Memory> {
     let mut keys = Vec::new(alloc);
     for change in changes.as_slice() {
-        let key = change.0.duplicate(alloc).expect(rt, MEMORY);
-        keys.push(key).expect(rt, MEMORY);
+        keys.push(change.0.duplicate(alloc)?)?;
     }
-    Items::from_vec(keys)
+    Ok(Items::from_vec(keys))
 }
 
 /// The keys that each request read and wrote.
-fn sets_of(rt: &impl Abort, alloc: Global, outcomes: &[Outcome]) -> Vec<Sets> {
+fn sets_of(alloc: Global, outcomes: &[Outcome]) -> Result<Vec<Sets>, Memory> {
     let mut sets = Vec::new(alloc);
     for outcome in outcomes {
-        let touched = Sets {
-            reads: outcome.reads.duplicate(alloc).expect(rt, MEMORY),
-            writes: keys_of(rt, alloc, &outcome.writes),
-        };
-        sets.push(touched).expect(rt, MEMORY);
+        sets.push(Sets {
+            reads: outcome.reads.duplicate(alloc)?,
+            writes: keys_of(alloc, &outcome.writes)?,
+        })?;
     }
-    sets
+    Ok(sets)
 }
 
-fn decide_all(rt: &impl Abort, alloc: Global, sets: &[Sets], rule: Rule) -> Vec<Verdict> {
-    assert!(rt; sets.len() <= 10_000);
+/// The verdict on each request, where there are no more than a batch has.
+fn decide_all(alloc: Global, sets: &[Sets], rule: Rule) -> Result<Option<Vec<Verdict>>, Memory> {
+    if sets.len() > MOST_REQUESTS {
+        return Ok(None);
+    }
     let mut verdicts = Vec::new(alloc);
     for place in 0..sets.len() as u32 {
-        let verdict = decide_listed(sets, place + 1, rule);
-        verdicts.push(verdict).expect(rt, MEMORY);
+        verdicts.push(decide_listed(sets, place + 1, rule))?;
     }
-    verdicts
+    Ok(Some(verdicts))
 }
 
-/// The line of each request. What finishes is installed.
+/// The line of each request that has a verdict. What finishes is installed.
 fn settle(
-    rt: &impl Abort,
     alloc: Global,
     list: &[Request],
     outcomes: Vec<Outcome>,
     verdicts: &[Verdict],
     tables: &mut Tables,
-) -> Told {
+) -> Result<Told, Memory> {
     let mut told = Told {
         lines: Vec::new(alloc),
         past: Vec::new(alloc),
@@ -160,59 +155,66 @@ fn settle(
     };
     for outcome in outcomes {
         let place = told.lines.len();
-        let q = number_at(rt, list, place);
-        let reply = match *verdicts.get(place).expect(rt, "a verdict") {
+        let q = number_at(list, place);
+        let Some(verdict) = verdicts.get(place) else {
+            return Ok(told);
+        };
+        let reply = match *verdict {
             Verdict::Finish { raw } => {
                 let finished = if raw {
                     &mut told.past
                 } else {
                     &mut told.others
                 };
-                finished.push(q).expect(rt, MEMORY);
-                finish(rt, outcome, tables)
+                finished.push(q)?;
+                finish(outcome, tables)?
             }
-            Verdict::Wait(cause) => Reply::Waits(wait(rt, list, cause)),
+            Verdict::Wait(cause) => Reply::Waits(wait(list, cause)),
         };
-        told.lines.push(Line { q, reply }).expect(rt, MEMORY);
+        told.lines.push(Line { q, reply })?;
     }
-    told
+    Ok(told)
 }
 
 /// Makes the writes of a request, and answers its end.
-fn finish(rt: &impl Abort, outcome: Outcome, tables: &mut Tables) -> Reply {
-    install(rt, tables, outcome.writes);
-    Reply::Ended(outcome.end)
+fn finish(outcome: Outcome, tables: &mut Tables) -> Result<Reply, Memory> {
+    install(tables, outcome.writes)?;
+    Ok(Reply::Ended(outcome.end))
 }
 
-/// The number of the request at this place of the list.
-fn number_at(rt: &impl Abort, list: &[Request], place: usize) -> u64 {
-    list.get(place).expect(rt, "a request").q
+/// The number of the request at this place of the list, and 0 where there is none.
+fn number_at(list: &[Request], place: usize) -> u64 {
+    match list.get(place) {
+        Some(request) => request.q,
+        None => 0,
+    }
 }
 
 /// The cause by request numbers.
-fn wait(rt: &impl Abort, list: &[Request], cause: Cause) -> Wait {
+fn wait(list: &[Request], cause: Cause) -> Wait {
     match cause {
-        Cause::Waw(waw) => Wait::Waw(number_of(rt, list, waw)),
-        Cause::Raw(raw) => Wait::Raw(number_of(rt, list, raw)),
-        Cause::Both(raw, war) => Wait::Both(number_of(rt, list, raw), number_of(rt, list, war)),
+        Cause::Waw(waw) => Wait::Waw(number_of(list, waw)),
+        Cause::Raw(raw) => Wait::Raw(number_of(list, raw)),
+        Cause::Both(raw, war) => Wait::Both(number_of(list, raw), number_of(list, war)),
     }
 }
 
 /// The number of the request at this place, counted from 1.
-fn number_of(rt: &impl Abort, list: &[Request], tid: u32) -> u64 {
-    number_at(rt, list, (tid as usize).wrapping_sub(1))
+fn number_of(list: &[Request], tid: u32) -> u64 {
+    number_at(list, (tid as usize).wrapping_sub(1))
 }
 
 /// Makes the writes of one request, each of another key.
-fn install(rt: &impl Abort, tables: &mut Tables, changes: Changes) {
+fn install(tables: &mut Tables, changes: Changes) -> Result<(), Memory> {
     for (key, row) in changes.into_vec() {
         match row {
-            Some(row) => tables.put(key, row).expect(rt, MEMORY),
+            Some(row) => tables.put(key, row)?,
             None => {
                 tables.delete(&key);
             }
         }
     }
+    Ok(())
 }
 
 fn is_waiting(line: &Line) -> bool {
@@ -234,75 +236,84 @@ fn is_due(lines: &[Line], percent: u32) -> bool {
 
 /// Runs what waits again, one request after the other, each within the keys of its first run.
 fn run_late(
-    rt: &impl Abort,
     alloc: Global,
     catalog: &Catalog,
     tables: &mut Tables,
     told: &mut Told,
     list: &[Request],
     sets: Vec<Sets>,
-) {
+) -> Result<(), Memory> {
     let mut rest = list;
     let mut place = 0_usize;
     for Sets { reads, writes } in sets {
-        let (request, later) = rest.split_first().expect(rt, "a request");
+        let Some((request, later)) = rest.split_first() else {
+            return Ok(());
+        };
         rest = later;
-        if is_waiting(told.lines.get(place).expect(rt, "a line")) {
+        if waits_at(&told.lines, place) {
             let declared = Declared { reads, writes };
-            let reply = run_again(rt, alloc, catalog, tables, request, &declared);
-            tell_late(rt, told, place, reply);
+            let reply = run_again(alloc, catalog, tables, request, &declared)?;
+            tell_late(told, place, reply)?;
         }
         place = place.wrapping_add(1);
+    }
+    Ok(())
+}
+
+/// Whether the request at this place waits.
+fn waits_at(lines: &[Line], place: usize) -> bool {
+    match lines.get(place) {
+        Some(line) => is_waiting(line),
+        None => false,
     }
 }
 
 /// What a request that waited comes to on the tables as they now stand, and installs it.
 fn run_again(
-    rt: &impl Abort,
     alloc: Global,
     catalog: &Catalog,
     tables: &mut Tables,
     request: &Request,
     declared: &Declared,
-) -> Reply {
-    let within = execute_within(alloc, catalog, request, Snapshot::of(tables), declared);
-    match within.expect(rt, MEMORY) {
-        Within::Ended(outcome) => finish(rt, outcome, tables),
-        Within::Moved(key) => Reply::Waits(Wait::Moved(key)),
+) -> Result<Reply, Memory> {
+    match execute_within(alloc, catalog, request, Snapshot::of(tables), declared)? {
+        Within::Ended(outcome) => finish(outcome, tables),
+        Within::Moved(key) => Ok(Reply::Waits(Wait::Moved(key))),
     }
 }
 
 /// Puts the reply of a late run into the line at this place.
-fn tell_late(rt: &impl Abort, told: &mut Told, place: usize, reply: Reply) {
-    let line = told.lines.get_mut(place).expect(rt, "a line");
+fn tell_late(told: &mut Told, place: usize, reply: Reply) -> Result<(), Memory> {
+    let Some(line) = told.lines.get_mut(place) else {
+        return Ok(());
+    };
     line.reply = reply;
     if !is_waiting(line) {
-        told.late.push(line.q).expect(rt, MEMORY);
+        told.late.push(line.q)?;
     }
+    Ok(())
 }
 
 /// Those of the list that wait for the next batch.
 fn still_waiting(
-    rt: &impl Abort,
     alloc: Global,
     list: Vec<Request>,
     lines: &[Line],
-) -> Vec<Request> {
+) -> Result<Vec<Request>, Memory> {
     let mut still = Vec::new(alloc);
-    let mut rest = lines;
+    let mut place = 0_usize;
     for request in list {
-        let (line, later) = rest.split_first().expect(rt, "a line");
-        rest = later;
-        if is_waiting(line) {
-            still.push(request).expect(rt, MEMORY);
+        if waits_at(lines, place) {
+            still.push(request)?;
         }
+        place = place.wrapping_add(1);
     }
-    still
+    Ok(still)
 }
 
 /// The answer of the batch with this number. Those that read past an earlier write stand first, the last
 /// one foremost, then the others, and then those that finished late.
-fn answer_of(rt: &impl Abort, number: u64, told: Told) -> Answer {
+fn answer_of(number: u64, told: Told) -> Result<Answer, Memory> {
     let Told {
         lines,
         past: mut order,
@@ -310,11 +321,11 @@ fn answer_of(rt: &impl Abort, number: u64, told: Told) -> Answer {
         mut late,
     } = told;
     order.reverse();
-    order.append(&mut others).expect(rt, MEMORY);
-    order.append(&mut late).expect(rt, MEMORY);
-    Answer {
+    order.append(&mut others)?;
+    order.append(&mut late)?;
+    Ok(Answer {
         number,
         lines: Items::from_vec(lines),
         order: Items::from_vec(order),
-    }
+    })
 }

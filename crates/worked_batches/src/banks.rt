@@ -1,6 +1,7 @@
 // Banks between two batches: accounts, calls on them, and the next batch.
 ghost use Rattle.std.specs.Prelude.{◌≡◌, ◌≤◌, true};
 ghost use Rattle.std.specs.List.{All, list_all};
+ghost use Rattle.aria_base.specs.Schemas.{IsConsistent};
 ghost use Rattle.proc_lang.specs.Catalogs.{takes};
 ghost use Rattle.worked_batches.specs.Rooms.{HasRoom};
 
@@ -15,7 +16,11 @@ use std::alloc::Global;
 use std::fmt::Debug;
 use std::process::Abort;
 use std::thread::Threads;
-use test_banks::{Account, MEMORY, tables};
+use tbl_rows::Tables;
+use test_banks::{Account, Ask, row_of};
+
+/// What a test says that finds no memory.
+pub const MEMORY: &str = "memory";
 
 /// More batches, and more requests, than any test here has.
 const MANY: u64 = 1_000_000;
@@ -35,6 +40,34 @@ pub fn in_turn(order: &[u64]) -> Option<u64> {
         }
     }
     Some(last)
+}
+
+/// These calls.
+pub fn calls(rt: &impl Abort, alloc: Global, asks: &[Ask]) -> Vec<Call> {
+    test_banks::calls(alloc, asks).expect(rt, MEMORY)
+}
+
+/// Puts an account.
+#[tactic(auto, using(crate::proofs::Readiness::fit_with))]
+fn put(rt: &impl Abort, alloc: Global, catalog: &Catalog, tables: &mut Tables, account: Account)
+    requires { IsConsistent catalog.now.tables tables.old }
+    ensures { IsConsistent catalog.now.tables tables.new }
+{
+    let (key, row) = row_of(alloc, account).expect(rt, MEMORY);
+    assert!(rt; catalog.schema().fits(&key, &row), "an account fits");
+    tables.put(key, row).expect(rt, MEMORY);
+}
+
+/// The tables of these accounts.
+#[tactic(auto, using(crate::proofs::Readiness::fit_nowhere))]
+fn tables(rt: &impl Abort, alloc: Global, catalog: &Catalog, accounts: &[Account]) -> Tables
+    ensures { IsConsistent catalog.now.tables result }
+{
+    let mut tables = Tables::new(alloc).expect(rt, MEMORY);
+    for &account in accounts {
+        put(rt, alloc, catalog, &mut tables, account);
+    }
+    tables
 }
 
 /// A bank of these accounts before its first batch.

@@ -1,5 +1,5 @@
 // Batches that are filled to the last place.
-use crate::banks::{engine, in_turn, run};
+use crate::banks::{MEMORY, calls, engine, in_turn, run};
 use answer_text::{print_answer, print_state};
 use aria_base::{Call, Free};
 use batch_core::{Answer, Reply, Wait};
@@ -8,7 +8,7 @@ use batch_rules::verdicts::Rule;
 use dep_rules::Config;
 use std::alloc::Global;
 use std::process::Abort;
-use test_banks::{ADD, Ask, MEMORY, SET, calls};
+use test_banks::{ADD, Ask, SET};
 
 const CONFIG: Config = Config {
     rule: Rule::Reorder,

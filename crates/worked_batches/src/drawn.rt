@@ -1,7 +1,7 @@
 // Drawn batches of a bank, and what they come to by other ways.
 ghost use Rattle.std.specs.Prelude.{◌≤◌, ◌<◌};
 
-use crate::banks::{engine, run, same};
+use crate::banks::{MEMORY, calls, engine, run, same};
 use aria_base::{Draws, Duplicate, Free, Items, Request};
 use batch_core::{Answer, Reply, Wait};
 use batch_engine::Engine;
@@ -10,9 +10,7 @@ use std::alloc::Global;
 use std::process::Abort;
 use std::thread::Threads;
 use tbl_rows::Tables;
-use test_banks::{
-    Account, Ask, MEMORY, Plain, SET, calls, drawn, drawn_ask, drawn_rule, run_plainly,
-};
+use test_banks::{Account, Ask, Plain, SET, drawn, drawn_ask, drawn_rule, run_plainly};
 
 /// More requests wait at most before no new ones come.
 const CROWD: usize = 24;
@@ -126,7 +124,8 @@ fn run_both<R: Abort + Threads + Sync>(
     let config = drawn_config(draws);
     let asks = drawn_asks(rt, alloc, draws, plain.waiting.len());
     let new = calls(rt, alloc, &asks);
-    let (plain, wanted) = run_plainly(rt, alloc, engine.catalog(), plain, new, &config);
+    let ran = run_plainly(alloc, engine.catalog(), plain, new, &config);
+    let (plain, wanted) = ran.expect(rt, MEMORY).expect(rt, "there is room");
     if wanted.number % 10 == 0 {
         let anew = run_anew(rt, alloc, &engine, &asks, &config);
         same_answer(rt, &config, &anew, &wanted);

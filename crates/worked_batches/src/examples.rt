@@ -1,7 +1,7 @@
 // Examples that were worked out by hand.
 ghost use Rattle.std.specs.Prelude.{◌≤◌};
 
-use crate::banks::{engine, replicas, run, run_replicas, same};
+use crate::banks::{MEMORY, calls, engine, replicas, run, run_replicas, same};
 use answer_text::{append_answer, append_state};
 use aria_base::Free;
 use batch_engine::Engine;
@@ -11,7 +11,7 @@ use dep_rules::Config;
 use std::alloc::Global;
 use std::process::Abort;
 use std::thread::Threads;
-use test_banks::{ADD, Account, Ask, COPY, DROP, HOP, MEMORY, SET, SUM, calls};
+use test_banks::{ADD, Account, Ask, COPY, DROP, HOP, SET, SUM};
 
 /// The accounts before, the calls of each batch, the rule and the percentage from which on those that
 /// wait are run again, and what the batches print, with the rows that they leave.

@@ -1,5 +1,5 @@
 // Workers are at work at once, and each step is told.
-use crate::banks::{engine, in_turn, replicas, run, run_replicas};
+use crate::banks::{MEMORY, calls, engine, in_turn, replicas, run, run_replicas};
 use aria_base::{Pace, Place};
 use batch_core::Answer;
 use batch_rules::verdicts::Rule;
@@ -7,7 +7,7 @@ use dep_rules::Config;
 use std::alloc::Global;
 use std::process::Abort;
 use std::thread::Threads;
-use test_banks::{Account, Ask, COPY, MEMORY, SET, calls};
+use test_banks::{Account, Ask, COPY, SET};
 use test_paces::{Gate, Steps};
 
 /// By two workers, and what waits is run again.

@@ -8,7 +8,8 @@ use dep_rules::Config;
 use proc_lang::Catalog;
 use std::alloc::Global;
 use std::process::Abort;
-use test_banks::{Account, Ask, Plain, calls, drawn, drawn_ask, drawn_rule, run_plainly, tables};
+use tbl_rows::Tables;
+use test_banks::{Account, Ask, Plain, calls, drawn, drawn_ask, drawn_rule, row_of, run_plainly};
 
 /// Accounts that hold their own numbers, and one to which nothing can be added.
 const ACCOUNTS: [Account; 6] = [(1, 1), (2, 2), (3, 3), (4, 4), (5, 5), (6, i64::MAX)];
@@ -85,7 +86,17 @@ fn head_of(alloc: Global, style: &Style) -> Result<String, Memory> {
     Ok(head)
 }
 
-/// Appends an answer, and the rows behind it where they are listed there.
+/// The accounts before the first batch.
+fn tables_of(alloc: Global) -> Result<Tables, Memory> {
+    let mut tables = Tables::new(alloc)?;
+    for account in ACCOUNTS {
+        let (key, row) = row_of(alloc, account)?;
+        tables.put(key, row)?;
+    }
+    Ok(tables)
+}
+
+/// Runs a batch, and appends its answer, and the rows behind it where they are listed there.
 fn append_batch(
     rt: &impl Abort,
     alloc: Global,
@@ -94,8 +105,8 @@ fn append_batch(
     (plain, asks): (Plain, &[Ask]),
     style: &Style,
 ) -> Result<Plain, Memory> {
-    let new = calls(rt, alloc, asks);
-    let (plain, answer) = run_plainly(rt, alloc, catalog, plain, new, &style.config);
+    let run = run_plainly(alloc, catalog, plain, calls(alloc, asks)?, &style.config)?;
+    let (plain, answer) = run.expect(rt, "there is room");
     append_answer(text, &answer)?;
     if style.each {
         append_state(text, &plain)?;
@@ -219,7 +230,7 @@ pub fn drawn_course(
 ) -> Result<Course, Memory> {
     let first = drawn_style(draws);
     let drain = drawn(draws, 2) == 1;
-    let plain = Plain::begin(alloc, tables(rt, alloc, catalog, &ACCOUNTS));
+    let plain = Plain::begin(alloc, tables_of(alloc)?);
     let mut style = first;
     let (front, plain) = drawn_stretch(rt, alloc, catalog, draws, plain, &mut style)?;
     let batches = plain.batches;
