@@ -1,15 +1,17 @@
 // Drawn scripts, each with what it has to print.
 ghost use Rattle.std.specs.Prelude.{◌≤◌};
 
-use crate::prints::{append_answer, append_ask, append_state};
-use aria_base::{Draws, Memory};
+use crate::prints::{MEMORY, append_answer, append_ask, append_state};
+use aria_base::Draws;
 use batch_rules::verdicts::Rule;
 use dep_rules::Config;
 use proc_lang::Catalog;
 use std::alloc::Global;
 use std::process::Abort;
 use tbl_rows::Tables;
-use test_banks::{Account, Ask, Plain, calls, drawn, drawn_ask, drawn_rule, row_of, run_plainly};
+use test_banks::{
+    Account, Ask, Plain, SET, calls, drawn, drawn_ask, drawn_rule, row_of, run_plainly,
+};
 
 /// Accounts that hold their own numbers, and one to which nothing can be added.
 const ACCOUNTS: [Account; 6] = [(1, 1), (2, 2), (3, 3), (4, 4), (5, 5), (6, i64::MAX)];
@@ -76,24 +78,24 @@ fn drawn_style(draws: &mut Draws) -> Style {
 }
 
 /// The catalogue and the rows.
-fn head_of(alloc: Global, style: &Style) -> Result<String, Memory> {
+fn head_of(rt: &impl Abort, alloc: Global, style: &Style) -> String {
     let line_end = style.line_end;
     let mut head = String::new(alloc);
-    write!(head, "catalog bank{line_end}")?;
+    write!(head, "catalog bank{line_end}").expect(rt, MEMORY);
     for (account, amount) in ACCOUNTS {
-        write!(head, "row acct {account} = {amount}{line_end}")?;
+        write!(head, "row acct {account} = {amount}{line_end}").expect(rt, MEMORY);
     }
-    Ok(head)
+    head
 }
 
 /// The accounts before the first batch.
-fn tables_of(alloc: Global) -> Result<Tables, Memory> {
-    let mut tables = Tables::new(alloc)?;
+fn tables_of(rt: &impl Abort, alloc: Global) -> Tables {
+    let mut tables = Tables::new(alloc).expect(rt, MEMORY);
     for account in ACCOUNTS {
-        let (key, row) = row_of(alloc, account)?;
-        tables.put(key, row)?;
+        let (key, row) = row_of(alloc, account).expect(rt, MEMORY);
+        tables.put(key, row).expect(rt, MEMORY);
     }
-    Ok(tables)
+    tables
 }
 
 /// Runs a batch, and appends its answer, and the rows behind it where they are listed there.
@@ -104,14 +106,26 @@ fn append_batch(
     text: &mut String,
     (plain, asks): (Plain, &[Ask]),
     style: &Style,
-) -> Result<Plain, Memory> {
-    let run = run_plainly(alloc, catalog, plain, calls(alloc, asks)?, &style.config)?;
-    let (plain, answer) = run.expect(rt, "there is room");
-    append_answer(text, &answer)?;
+) -> Plain {
+    let new = calls(alloc, asks).expect(rt, MEMORY);
+    let run = run_plainly(alloc, catalog, plain, new, &style.config);
+    let (plain, answer) = run.expect(rt, MEMORY).expect(rt, "there is room");
+    append_answer(rt, text, &answer);
     if style.each {
-        append_state(text, &plain)?;
+        append_state(rt, text, &plain);
     }
-    Ok(plain)
+    plain
+}
+
+/// At most eight requests, and none where many wait.
+fn drawn_asks(rt: &impl Abort, alloc: Global, draws: &mut Draws, waiting: usize) -> Vec<Ask> {
+    let mut asks = Vec::new(alloc);
+    if waiting <= CROWD {
+        for _ in 1..drawn(draws, 9) {
+            asks.push(drawn_ask(draws)).expect(rt, MEMORY);
+        }
+    }
+    asks
 }
 
 impl Stretch {
@@ -123,7 +137,20 @@ impl Stretch {
         }
     }
 
-    /// Appends a batch of at most eight requests, and of none where many wait.
+    /// Appends the line of a request.
+    fn add_ask(&mut self, rt: &impl Abort, ask: Ask, style: &Style) {
+        append_ask(rt, &mut self.lines, ask);
+        self.lines.push_str(style.line_end).expect(rt, MEMORY);
+    }
+
+    /// Appends the end of a batch.
+    fn add_end(&mut self, rt: &impl Abort, number: u64, style: &Style) {
+        let line_end = style.line_end;
+        write!(self.lines, "end {number}{line_end}").expect(rt, MEMORY);
+        write!(self.kept, "batch {number} kept\n").expect(rt, MEMORY);
+    }
+
+    /// Appends a batch, and runs it.
     fn add_batch(
         &mut self,
         rt: &impl Abort,
@@ -132,49 +159,38 @@ impl Stretch {
         draws: &mut Draws,
         plain: Plain,
         style: &Style,
-    ) -> Result<Plain, Memory> {
-        let line_end = style.line_end;
-        let mut asks = Vec::new(alloc);
-        if plain.waiting.len() <= CROWD {
-            for _ in 1..drawn(draws, 9) {
-                let ask = drawn_ask(draws);
-                append_ask(&mut self.lines, ask)?;
-                self.lines.push_str(line_end)?;
-                asks.push(ask)?;
-            }
+    ) -> Plain {
+        let asks = drawn_asks(rt, alloc, draws, plain.waiting.len());
+        for &ask in &asks {
+            self.add_ask(rt, ask, style);
         }
-        let plain = append_batch(rt, alloc, catalog, &mut self.answers, (plain, &asks), style)?;
-        let number = plain.batches;
-        write!(self.lines, "end {number}{line_end}")?;
-        write!(self.kept, "batch {number} kept\n")?;
-        Ok(plain)
+        let answers = &mut self.answers;
+        let plain = append_batch(rt, alloc, catalog, answers, (plain, &asks), style);
+        self.add_end(rt, plain.batches, style);
+        plain
     }
 
     /// Appends a batch that was run before.
-    fn add_kept(&mut self, number: u64, style: &Style) -> Result<(), Memory> {
-        let line_end = style.line_end;
-        write!(self.lines, "tx set 1 99{line_end}end {number}{line_end}")?;
-        write!(self.kept, "batch {number} kept\n")?;
-        write!(self.answers, "batch {number} kept\n")?;
-        Ok(())
+    fn add_kept(&mut self, rt: &impl Abort, number: u64, style: &Style) {
+        self.add_ask(rt, (SET, 1, 99), style);
+        self.add_end(rt, number, style);
+        write!(self.answers, "batch {number} kept\n").expect(rt, MEMORY);
     }
 
     /// Appends other settings, which count from the next batch on.
-    fn add_settings(&mut self, draws: &mut Draws, style: &mut Style) -> Result<(), Memory> {
+    fn add_settings(&mut self, rt: &impl Abort, draws: &mut Draws, style: &mut Style) {
         let line_end = style.line_end;
         style.config = drawn_config(draws);
         let rule = rule_word(style.config.rule);
         let percent = style.config.fallback;
-        write!(self.lines, "settings {rule} {percent}{line_end}")?;
-        Ok(())
+        write!(self.lines, "settings {rule} {percent}{line_end}").expect(rt, MEMORY);
     }
 
     /// Appends a line that says nothing.
-    fn add_remark(&mut self, draws: &mut Draws, style: &Style) -> Result<(), Memory> {
-        let line_end = style.line_end;
+    fn add_remark(&mut self, rt: &impl Abort, draws: &mut Draws, style: &Style) {
         let remark = if drawn(draws, 2) == 1 { "# end 1" } else { " " };
-        write!(self.lines, "{remark}{line_end}")?;
-        Ok(())
+        self.lines.push_str(remark).expect(rt, MEMORY);
+        self.lines.push_str(style.line_end).expect(rt, MEMORY);
     }
 }
 
@@ -186,17 +202,17 @@ fn drawn_stretch(
     draws: &mut Draws,
     mut plain: Plain,
     style: &mut Style,
-) -> Result<(Stretch, Plain), Memory> {
+) -> (Stretch, Plain) {
     let mut lines = Stretch::new(alloc);
     for _ in 0..drawn(draws, 5) {
         match drawn(draws, 8) {
-            1 => lines.add_settings(draws, style)?,
-            2 => lines.add_remark(draws, style)?,
-            3 if plain.batches > 0 => lines.add_kept(plain.batches, style)?,
-            _ => plain = lines.add_batch(rt, alloc, catalog, draws, plain, style)?,
+            1 => lines.add_settings(rt, draws, style),
+            2 => lines.add_remark(rt, draws, style),
+            3 if plain.batches > 0 => lines.add_kept(rt, plain.batches, style),
+            _ => plain = lines.add_batch(rt, alloc, catalog, draws, plain, style),
         }
     }
-    Ok((lines, plain))
+    (lines, plain)
 }
 
 /// What comes behind the last line.
@@ -207,18 +223,18 @@ fn ending(
     mut plain: Plain,
     style: &Style,
     drain: bool,
-) -> Result<String, Memory> {
+) -> String {
     let mut end = String::new(alloc);
     // Each batch finishes one of them or more.
     for _ in 0..plain.waiting.len() {
         if drain && !plain.waiting.is_empty() {
-            plain = append_batch(rt, alloc, catalog, &mut end, (plain, &[]), style)?;
+            plain = append_batch(rt, alloc, catalog, &mut end, (plain, &[]), style);
         }
     }
     if !style.each {
-        append_state(&mut end, &plain)?;
+        append_state(rt, &mut end, &plain);
     }
-    Ok(end)
+    end
 }
 
 /// Draws a script.
@@ -227,24 +243,24 @@ pub fn drawn_course(
     alloc: Global,
     catalog: &Catalog,
     draws: &mut Draws,
-) -> Result<Course, Memory> {
+) -> Course {
     let first = drawn_style(draws);
     let drain = drawn(draws, 2) == 1;
-    let plain = Plain::begin(alloc, tables_of(alloc)?);
+    let plain = Plain::begin(alloc, tables_of(rt, alloc));
     let mut style = first;
-    let (front, plain) = drawn_stretch(rt, alloc, catalog, draws, plain, &mut style)?;
+    let (front, plain) = drawn_stretch(rt, alloc, catalog, draws, plain, &mut style);
     let batches = plain.batches;
     let mut cut = String::new(alloc);
-    append_state(&mut cut, &plain)?;
-    let (back, plain) = drawn_stretch(rt, alloc, catalog, draws, plain, &mut style)?;
-    Ok(Course {
+    append_state(rt, &mut cut, &plain);
+    let (back, plain) = drawn_stretch(rt, alloc, catalog, draws, plain, &mut style);
+    Course {
         style: first,
         drain,
-        head: head_of(alloc, &first)?,
+        head: head_of(rt, alloc, &first),
         front,
         batches,
         cut,
         back,
-        end: ending(rt, alloc, catalog, plain, &style, drain)?,
-    })
+        end: ending(rt, alloc, catalog, plain, &style, drain),
+    }
 }

@@ -1,12 +1,14 @@
 // Drawn scripts through the top call.
 use crate::courses::{Course, drawn_course, rule_word};
-use aria_base::{Draws, Free, MemSink, MemSource, Memory};
-use aria_top::{DONE, NO_MEMORY, aria};
+use crate::prints::MEMORY;
+use aria_base::{Draws, Free, MemSink, MemSource};
+use aria_top::{DONE, aria};
 use cat_builtin::builtin;
 use disk_model::MemDisk;
+use proc_lang::Catalog;
 use std::alloc::Global;
+use std::fmt::Debug;
 use std::process::Abort;
-use std::test::Fail;
 use std::thread::Threads;
 use test_banks::drawn;
 
@@ -29,6 +31,9 @@ const KINDS: [&str; 9] = [
 /// How many bytes a sink takes, more than any of these runs writes.
 const ROOM: usize = 1_000_000;
 
+/// Behind how many batches a checkpoint is laid, 0 for none.
+const CHECKPOINTS: [&str; 3] = ["0", "1", "2"];
+
 /// How many bytes a source gives at a time.
 const PIECES: [usize; 3] = [1, 7, 4096];
 
@@ -44,57 +49,78 @@ fn status_of<R: AllocGlobal + Threads + Sync>(
     aria(rt, rt.alloc(), words, input, out, disk, &Free)
 }
 
-/// Asserts that these words print this on this input and disk, and end as done.
+/// Asserts that what was found in this case is what was worked out for it.
+fn same<T: PartialEq + Debug>(rt: &impl Abort, case: &impl Debug, found: &T, wanted: &T) {
+    assert_eq!(rt; found, wanted, "at {case:?}");
+}
+
+/// One text of these.
+fn joined(rt: &impl Abort, alloc: Global, parts: &[&str]) -> String {
+    let mut text = String::new(alloc);
+    for part in parts {
+        text.push_str(part).expect(rt, MEMORY);
+    }
+    text
+}
+
+/// The words of a command line.
+fn words_of(rt: &impl Abort, alloc: Global, line: &str) -> Vec<String> {
+    let mut words = Vec::new(alloc);
+    for word in line.split(' ') {
+        let word = String::from_str(alloc, word).expect(rt, MEMORY);
+        words.push(word).expect(rt, MEMORY);
+    }
+    words
+}
+
+/// A source of this input, in pieces of one size or another.
+fn source_of(rt: &impl Abort, alloc: Global, draws: &mut Draws, input: &str) -> MemSource {
+    let piece = PIECES[(drawn(draws, 3) - 1) as usize];
+    let bytes = Vec::from_slice(alloc, input.as_bytes()).expect(rt, MEMORY);
+    MemSource::new(bytes, piece, Vec::new(alloc))
+}
+
+/// Asserts that this line prints this on this input and disk, and ends as done.
 fn prints<R: AllocGlobal + Threads + Abort + Sync>(
     rt: &R,
     draws: &mut Draws,
     disk: &mut MemDisk,
-    words: &str,
+    line: &str,
     input: &str,
     output: &str,
-) -> Result<(), Fail> {
+) {
     let alloc = rt.alloc();
-    let mut list = Vec::new(alloc);
-    for word in words.split(' ') {
-        list.push(String::from_str(alloc, word)?)?;
-    }
-    let piece = PIECES[(drawn(draws, 3) - 1) as usize];
-    let bytes = Vec::from_slice(alloc, input.as_bytes())?;
-    let mut source = MemSource::new(bytes, piece, Vec::new(alloc));
-    let mut out = MemSink::new(alloc, ROOM, Vec::new(alloc))?;
-    let status = status_of(rt, &list, &mut source, &mut out, disk);
-    if status == NO_MEMORY {
-        return Err(Memory)?;
-    }
+    let words = words_of(rt, alloc, line);
+    let mut source = source_of(rt, alloc, draws, input);
+    let mut out = MemSink::new(alloc, ROOM, Vec::new(alloc)).expect(rt, MEMORY);
+    let status = status_of(rt, &words, &mut source, &mut out, disk);
     let printed = str::from_utf8(out.bytes()).unwrap_or("?");
-    assert_eq!(rt; (status, printed), (DONE, output), "{words} of {input}");
-    Ok(())
+    same(rt, &(line, input), &(status, printed), &(DONE, output));
 }
 
 /// A disk of four empty files.
-fn empty_disk(alloc: Global) -> Result<MemDisk, Memory> {
-    MemDisk::new(alloc, 1000, 1_000_000, Vec::new(alloc))
+fn empty_disk(rt: &impl Abort, alloc: Global) -> MemDisk {
+    MemDisk::new(alloc, 1000, 1_000_000, Vec::new(alloc)).expect(rt, MEMORY)
 }
 
-/// The options of a run of a script: how many workers and replicas is drawn, when rows are listed is not.
-fn options(
-    alloc: Global,
-    draws: &mut Draws,
-    course: &Course,
-    drain: bool,
-) -> Result<String, Memory> {
+/// The options of a run of a script. How many workers and replicas there are is drawn, when rows are listed
+/// is not.
+fn options(rt: &impl Abort, alloc: Global, draws: &mut Draws, each: bool, drain: bool) -> String {
     let workers = drawn(draws, 3);
     let replicas = drawn(draws, 2);
-    let state = if course.style.each { "each" } else { "last" };
+    let state = if each { "each" } else { "last" };
     let drain = if drain { " --drain" } else { "" };
-    Ok(format!(in alloc; " --workers {workers} --replicas {replicas} --state {state}{drain}")?)
+    let options = format!(in alloc;
+        " --workers {workers} --replicas {replicas} --state {state}{drain}"
+    );
+    options.expect(rt, MEMORY)
 }
 
 /// The options that say by which settings the first batch runs.
-fn settings(alloc: Global, course: &Course) -> Result<String, Memory> {
+fn settings(rt: &impl Abort, alloc: Global, course: &Course) -> String {
     let rule = rule_word(course.style.config.rule);
     let percent = course.style.config.fallback;
-    Ok(format!(in alloc; " --rule {rule} --fallback {percent}")?)
+    format!(in alloc; " --rule {rule} --fallback {percent}").expect(rt, MEMORY)
 }
 
 /// Asserts that `once` prints what the script has to print.
@@ -102,88 +128,103 @@ fn runs_in_memory<R: AllocGlobal + Threads + Abort + Sync>(
     rt: &R,
     draws: &mut Draws,
     course: &Course,
-) -> Result<(), Fail> {
+) {
     let alloc = rt.alloc();
-    let Course {
-        head,
-        front,
-        back,
-        end,
-        ..
-    } = course;
-    let settings = settings(alloc, course)?;
-    let options = options(alloc, draws, course, course.drain)?;
-    let (before, behind) = (&front.lines, &back.lines);
-    let words = format!(in alloc; "once{settings}{options}")?;
-    let script = format!(in alloc; "{head}{before}{behind}")?;
-    let (before, behind) = (&front.answers, &back.answers);
-    let output = format!(in alloc; "{before}{behind}{end}")?;
-    let mut disk = empty_disk(alloc)?;
-    prints(rt, draws, &mut disk, &words, &script, &output)
+    let settings = settings(rt, alloc, course);
+    let options = options(rt, alloc, draws, course.style.each, course.drain);
+    let line = joined(rt, alloc, &["once", &settings, &options]);
+    let (front, back) = (&course.front, &course.back);
+    let script = joined(rt, alloc, &[&course.head, &front.lines, &back.lines]);
+    let output = joined(rt, alloc, &[&front.answers, &back.answers, &course.end]);
+    let mut disk = empty_disk(rt, alloc);
+    prints(rt, draws, &mut disk, &line, &script, &output);
 }
 
-/// Asserts that `init` makes a store of the head, and that `run` of the front and then of the whole script
-/// print what each has to print.
-fn runs_over_a_store<R: AllocGlobal + Threads + Abort + Sync>(
+/// Asserts that `init` makes a store of the head, and answers its disk.
+fn make_store<R: AllocGlobal + Threads + Abort + Sync>(
     rt: &R,
     draws: &mut Draws,
     course: &Course,
-) -> Result<(), Fail> {
+) -> MemDisk {
     let alloc = rt.alloc();
-    let Course {
-        head,
-        front,
-        back,
-        end,
-        batches,
-        cut,
-        ..
-    } = course;
-    let mut disk = empty_disk(alloc)?;
-    let settings = settings(alloc, course)?;
-    let words = format!(in alloc; "init{settings}")?;
-    prints(rt, draws, &mut disk, &words, head, "ready\n")?;
-    let checkpoint = drawn(draws, 4) - 1;
-    let options = options(alloc, draws, course, false)?;
-    let words = format!(in alloc; "run --checkpoint {checkpoint}{options}")?;
-    let listed = if course.style.each { "" } else { cut.as_str() };
-    let answers = &front.answers;
-    let output = format!(in alloc; "at 0\n{answers}{listed}")?;
-    prints(rt, draws, &mut disk, &words, &front.lines, &output)?;
-    let options = self::options(alloc, draws, course, course.drain)?;
-    let words = format!(in alloc; "run{options}")?;
-    let (before, behind) = (&front.lines, &back.lines);
-    let script = format!(in alloc; "{before}{behind}")?;
-    let (before, behind) = (&front.kept, &back.answers);
-    let output = format!(in alloc; "at {batches}\n{before}{behind}{end}")?;
-    prints(rt, draws, &mut disk, &words, &script, &output)
+    let mut disk = empty_disk(rt, alloc);
+    let settings = settings(rt, alloc, course);
+    let line = joined(rt, alloc, &["init", &settings]);
+    prints(rt, draws, &mut disk, &line, &course.head, "ready\n");
+    disk
+}
+
+/// Asserts that `run` of the front prints what it has to print.
+fn runs_front<R: AllocGlobal + Threads + Abort + Sync>(
+    rt: &R,
+    draws: &mut Draws,
+    course: &Course,
+    disk: &mut MemDisk,
+) {
+    let alloc = rt.alloc();
+    let checkpoint = CHECKPOINTS[(drawn(draws, 3) - 1) as usize];
+    let each = course.style.each;
+    let options = options(rt, alloc, draws, each, false);
+    let line = joined(rt, alloc, &["run --checkpoint ", checkpoint, &options]);
+    let listed = if each { "" } else { course.cut.as_str() };
+    let output = joined(rt, alloc, &["at 0\n", &course.front.answers, listed]);
+    prints(rt, draws, disk, &line, &course.front.lines, &output);
+}
+
+/// Asserts that `run` of the whole script behind that prints what is left to print.
+fn runs_whole<R: AllocGlobal + Threads + Abort + Sync>(
+    rt: &R,
+    draws: &mut Draws,
+    course: &Course,
+    disk: &mut MemDisk,
+) {
+    let alloc = rt.alloc();
+    let options = options(rt, alloc, draws, course.style.each, course.drain);
+    let line = joined(rt, alloc, &["run", &options]);
+    let (front, back) = (&course.front, &course.back);
+    let script = joined(rt, alloc, &[&front.lines, &back.lines]);
+    let batches = course.batches;
+    let at = format!(in alloc; "at {batches}\n").expect(rt, MEMORY);
+    let output = joined(rt, alloc, &[&at, &front.kept, &back.answers, &course.end]);
+    prints(rt, draws, disk, &line, &script, &output);
+}
+
+/// The catalogue of all these scripts.
+fn bank(rt: &impl Abort, alloc: Global) -> Catalog {
+    let bank = builtin(alloc, b"bank").expect(rt, MEMORY);
+    bank.expect(rt, "a bank")
+}
+
+/// Asserts that each kind of line stands somewhere.
+fn has_kinds(rt: &impl Abort, text: &str) {
+    for kind in KINDS {
+        same(rt, &kind, &text.contains(kind), &true);
+    }
 }
 
 #[test]
-fn drawn_scripts_print_what_the_plainest_form_gives(rt: HostRuntime) -> Result<(), Fail> {
+fn drawn_scripts_print_what_the_plainest_form_gives(rt: HostRuntime) {
     let alloc = rt.alloc();
-    let catalog = builtin(alloc, b"bank")?.expect(&rt, "a bank");
+    let catalog = bank(&rt, alloc);
     let mut draws = Draws::of(24, 1);
     let mut all = String::new(alloc);
     for _ in 0..SCRIPTS {
-        let course = drawn_course(&rt, alloc, &catalog, &mut draws)?;
-        runs_in_memory(&rt, &mut draws, &course)?;
-        all.push_str(&course.back.answers)?;
+        let course = drawn_course(&rt, alloc, &catalog, &mut draws);
+        runs_in_memory(&rt, &mut draws, &course);
+        all.push_str(&course.back.answers).expect(&rt, MEMORY);
     }
-    for kind in KINDS {
-        assert!(&rt; all.contains(kind), "some script prints{kind}");
-    }
-    Ok(())
+    has_kinds(&rt, &all);
 }
 
 #[test]
-fn drawn_scripts_go_on_over_a_store(rt: HostRuntime) -> Result<(), Fail> {
+fn drawn_scripts_go_on_over_a_store(rt: HostRuntime) {
     let alloc = rt.alloc();
-    let catalog = builtin(alloc, b"bank")?.expect(&rt, "a bank");
+    let catalog = bank(&rt, alloc);
     let mut draws = Draws::of(24, 2);
     for _ in 0..SCRIPTS {
-        let course = drawn_course(&rt, alloc, &catalog, &mut draws)?;
-        runs_over_a_store(&rt, &mut draws, &course)?;
+        let course = drawn_course(&rt, alloc, &catalog, &mut draws);
+        let mut disk = make_store(&rt, &mut draws, &course);
+        runs_front(&rt, &mut draws, &course, &mut disk);
+        runs_whole(&rt, &mut draws, &course, &mut disk);
     }
-    Ok(())
 }

@@ -1,8 +1,12 @@
 // What a bank's batches print, written by itself and not by the code that the program prints with.
-use aria_base::{Key, Memory, Part, Row, Value};
+use aria_base::{Key, Part, Row, Value};
 use batch_core::{Answer, Reply, Wait};
 use proc_lang::{End, Trap};
+use std::process::Abort;
 use test_banks::{Ask, DROP, Plain};
+
+/// What a test says that finds no memory.
+pub const MEMORY: &str = "memory";
 
 /// The procedures of the bank, in the order of their numbers.
 const PROCS: [&str; 6] = ["add", "copy", "set", "sum", "hop", "drop"];
@@ -33,83 +37,77 @@ fn trap_word(trap: Trap) -> &'static str {
 }
 
 /// Appends the line of a request.
-pub fn append_ask(text: &mut String, (proc, first, second): Ask) -> Result<(), Memory> {
+pub fn append_ask(rt: &impl Abort, text: &mut String, (proc, first, second): Ask) {
     let name = PROCS.get(usize::from(proc)).unwrap_or(&"?");
     if proc == DROP {
-        write!(text, "tx {name} {first}")?;
+        write!(text, "tx {name} {first}").expect(rt, MEMORY);
     } else {
-        write!(text, "tx {name} {first} {second}")?;
+        write!(text, "tx {name} {first} {second}").expect(rt, MEMORY);
     }
-    Ok(())
 }
 
-fn append_end(text: &mut String, end: &End) -> Result<(), Memory> {
+fn append_end(rt: &impl Abort, text: &mut String, end: &End) {
     match end {
         End::Done(given) => {
-            text.push_str(" ok")?;
+            text.push_str(" ok").expect(rt, MEMORY);
             for value in given.as_slice() {
                 let number = number_of(Some(value));
-                write!(text, " {number}")?;
+                write!(text, " {number}").expect(rt, MEMORY);
             }
         }
-        End::Back(code) => write!(text, " back {code}")?,
+        End::Back(code) => write!(text, " back {code}").expect(rt, MEMORY),
         End::Trap(trap) => {
             let trap = trap_word(*trap);
-            write!(text, " trap {trap}")?;
+            write!(text, " trap {trap}").expect(rt, MEMORY);
         }
     }
-    Ok(())
 }
 
-fn append_wait(text: &mut String, wait: &Wait) -> Result<(), Memory> {
+fn append_wait(rt: &impl Abort, text: &mut String, wait: &Wait) {
     match wait {
-        Wait::Waw(waw) => write!(text, " wait waw {waw}")?,
-        Wait::Raw(raw) => write!(text, " wait raw {raw}")?,
-        Wait::Both(raw, war) => write!(text, " wait both {raw} {war}")?,
+        Wait::Waw(waw) => write!(text, " wait waw {waw}").expect(rt, MEMORY),
+        Wait::Raw(raw) => write!(text, " wait raw {raw}").expect(rt, MEMORY),
+        Wait::Both(raw, war) => write!(text, " wait both {raw} {war}").expect(rt, MEMORY),
         Wait::Moved(key) => {
             let account = account_of(key);
-            write!(text, " wait moved acct {account}")?;
+            write!(text, " wait moved acct {account}").expect(rt, MEMORY);
         }
     }
-    Ok(())
 }
 
 /// Appends an answer.
-pub fn append_answer(text: &mut String, answer: &Answer) -> Result<(), Memory> {
+pub fn append_answer(rt: &impl Abort, text: &mut String, answer: &Answer) {
     let number = answer.number;
-    write!(text, "batch {number}\n")?;
+    write!(text, "batch {number}\n").expect(rt, MEMORY);
     for line in answer.lines.as_slice() {
         let q = line.q;
-        write!(text, "{q}")?;
+        write!(text, "{q}").expect(rt, MEMORY);
         match &line.reply {
-            Reply::Ended(end) => append_end(text, end)?,
-            Reply::Waits(wait) => append_wait(text, wait)?,
+            Reply::Ended(end) => append_end(rt, text, end),
+            Reply::Waits(wait) => append_wait(rt, text, wait),
         }
-        text.push_str("\n")?;
+        text.push_str("\n").expect(rt, MEMORY);
     }
-    text.push_str("order")?;
+    text.push_str("order").expect(rt, MEMORY);
     for q in answer.order.as_slice() {
-        write!(text, " {q}")?;
+        write!(text, " {q}").expect(rt, MEMORY);
     }
-    write!(text, "\nend {number}\n")?;
-    Ok(())
+    write!(text, "\nend {number}\n").expect(rt, MEMORY);
 }
 
 /// Appends the rows as they stand behind the last batch.
-pub fn append_state(text: &mut String, plain: &Plain) -> Result<(), Memory> {
+pub fn append_state(rt: &impl Abort, text: &mut String, plain: &Plain) {
     let batches = plain.batches;
-    write!(text, "state {batches}\n")?;
-    for (key, row) in plain.tables.rows()? {
-        append_row(text, key, row)?;
+    write!(text, "state {batches}\n").expect(rt, MEMORY);
+    for (key, row) in plain.tables.rows().expect(rt, MEMORY) {
+        append_row(rt, text, key, row);
     }
-    text.push_str("end state\n")?;
-    Ok(())
+    text.push_str("end state\n").expect(rt, MEMORY);
 }
 
 /// Appends the line of an account.
-fn append_row(text: &mut String, key: &Key, row: &Row) -> Result<(), Memory> {
+fn append_row(rt: &impl Abort, text: &mut String, key: &Key, row: &Row) {
     let account = account_of(key);
     let amount = number_of(row.as_slice().first());
-    write!(text, "row acct {account} = {amount}\n")?;
-    Ok(())
+    write!(text, "row acct {account} = {amount}\n").expect(rt, MEMORY);
 }
