@@ -165,9 +165,10 @@ fn runs_front<R: AllocGlobal + Threads + Abort + Sync>(
     let checkpoint = CHECKPOINTS[(drawn(draws, 3) - 1) as usize];
     let each = course.style.each;
     let options = options(rt, alloc, draws, each, false);
-    let line = joined(rt, alloc, &["run --checkpoint ", checkpoint, &options]);
+    let line = format!(in alloc; "run --checkpoint {checkpoint}{options}").expect(rt, MEMORY);
+    let answers = &course.front.answers;
     let listed = if each { "" } else { course.cut.as_str() };
-    let output = joined(rt, alloc, &["at 0\n", &course.front.answers, listed]);
+    let output = format!(in alloc; "at 0\n{answers}{listed}").expect(rt, MEMORY);
     prints(rt, draws, disk, &line, &course.front.lines, &output);
 }
 
