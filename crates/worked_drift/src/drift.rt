@@ -16,14 +16,12 @@ use test_banks::drawn;
 const SCRIPTS: u32 = 200;
 
 /// What stands in the output of one script or another.
-const KINDS: [&str; 9] = [
+const KINDS: [&str; 7] = [
     " ok ",
     " back ",
     " trap overflow\n",
     " wait waw ",
     " wait raw ",
-    " wait both ",
-    " wait moved ",
     " kept\n",
     "state ",
 ];
@@ -212,6 +210,7 @@ fn drawn_scripts_print_what_the_plainest_form_gives(rt: HostRuntime) {
     for _ in 0..SCRIPTS {
         let course = drawn_course(&rt, alloc, &catalog, &mut draws);
         runs_in_memory(&rt, &mut draws, &course);
+        all.push_str(&course.front.answers).expect(&rt, MEMORY);
         all.push_str(&course.back.answers).expect(&rt, MEMORY);
     }
     has_kinds(&rt, &all);
