@@ -34,7 +34,7 @@ def rate(words, few, many):
 
 
 print(f"{'':>6}" + "".join(f"{f'{w} workers':>12}" for w in WORKERS))
-for title, words, few, many in (("ycsb", YCSB, 1, 101), ("tpcc", TPCC, 1, 201)):
+for title, words, few, many in (("ycsb", YCSB, 1, 101), ("tpcc", TPCC, 1, 801)):
     rates = [rate(f"{words} --workers {w}", few, many) for w in WORKERS]
     print(f"{title:>6}" + "".join(f"{r:>12,.0f}" for r in rates), flush=True)
 
