@@ -1,5 +1,6 @@
 -- The options of all commands: their values, and the one that counts where the line gives none.
 use Rattle.std.specs.Prelude.{ℕ, List, codes}
+use Rattle.aria_base.specs.declared.limits.TheConstants.{MOST_REQUESTS}
 use Rattle.batch_rules.specs.declared.verdicts.Rule.{Rule}
 use Rattle.batch_rules.specs.declared.verdicts.Rule.TheVariants.{Plain, Reorder}
 use Rattle.command_words.specs.declared.settings.Listing.{Listing}
@@ -56,7 +57,7 @@ abbrev pub batches : Range
 batches = range (codes "batches") 1 1000 10
 
 abbrev pub size : Range
-size = range (codes "size") 1 10000 100
+size = range (codes "size") 1 MOST_REQUESTS 100
 
 abbrev pub keys : Range
 keys = range (codes "keys") 100 1000000 1000

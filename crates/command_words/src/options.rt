@@ -1,5 +1,6 @@
 // The options of all commands: their values, and the one that counts where the words give none.
 use crate::settings::{Listing, Load};
+use aria_base::MOST_REQUESTS;
 use batch_rules::verdicts::Rule;
 
 /// An option whose value is a number from `low` to `high`, and `usual` where it is not given.
@@ -20,7 +21,7 @@ pub(crate) struct Choice<'a, T> {
 }
 
 macro_rules! number {
-    ($name:literal, $low:literal, $high:literal, $usual:literal) => {
+    ($name:literal, $low:literal, $high:expr, $usual:literal) => {
         Number {
             name: $name,
             low: $low,
@@ -44,7 +45,7 @@ pub(crate) const NUMBER: Number<'static> = number!("number", 0, 9_999_999, 1);
 
 pub(crate) const BATCHES: Number<'static> = number!("batches", 1, 1000, 10);
 
-pub(crate) const SIZE: Number<'static> = number!("size", 1, 10_000, 100);
+pub(crate) const SIZE: Number<'static> = number!("size", 1, MOST_REQUESTS as u32, 100);
 
 pub(crate) const KEYS: Number<'static> = number!("keys", 100, 1_000_000, 1000);
 

@@ -109,12 +109,12 @@ fn path_of(alloc: Global, folder: &str, name: &str) -> Result<String, Memory> {
     Ok(path)
 }
 
-/// Makes the folder, where it is not there, and has its entry reach the disk.
+/// Makes the folder, where it is not there, and has its entry reach the disk: also of a folder that is
+/// there, since whoever made it may have stopped before its entry did.
 fn make_folder<R: Files>(system: &R, folder: &str) -> io::Result<()> {
     match create_dir(system, folder) {
-        Ok(()) => sync_folder(system, parent_of(folder)),
-        Err(error) if error.kind() == ErrorKind::AlreadyExists => Ok(()),
-        Err(error) => Err(error),
+        Err(error) if error.kind() != ErrorKind::AlreadyExists => Err(error),
+        _ => sync_folder(system, parent_of(folder)),
     }
 }
 

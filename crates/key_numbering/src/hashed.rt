@@ -11,12 +11,14 @@ use std::marker::Model;
 /// How many keys the table has for each of its groups at most.
 const GROUP_LOAD: usize = 9;
 
-/// How many groups in a row are counted together. They have room for 64 keys.
-const STRETCH: usize = 4;
+/// How many groups in a row are counted together. A group of the table has twelve places, so that they
+/// have room for 192 keys.
+const STRETCH: usize = 16;
 
-/// How many keys may belong to a stretch, which has 36 on average at most. By chance hardly one in a
-/// thousand stretches would have more.
-const CROWD: u8 = 56;
+/// How many keys may belong to a stretch, which has 144 on average at most: fewer than it has room for, so
+/// that a stretch takes up what the one before leaves over, and full groups in a row come to an end. By
+/// chance some four in a thousand stretches of a full table would have more.
+const CROWD: u8 = 176;
 
 /// Numbers of keys in a hash table. A contract sees the map. The hash is no secret, so that keys can
 /// be chosen to lie together in the table: how many belong to each stretch of it is counted, so that

@@ -255,6 +255,6 @@ fn crowded_stretch_takes_no_more_keys(rt: HostRuntime) -> Result<(), Fail> {
             refused = refused.wrapping_add(1);
         }
     }
-    same(&rt, &"chosen and refused", &(chosen, refused), &(300, 244));
+    same(&rt, &"chosen and refused", &(chosen, refused), &(300, 124));
     Ok(())
 }

@@ -1,6 +1,7 @@
 // The marks of all requests of a batch, by several workers.
-ghost use Rattle.std.specs.Prelude.{◌≡◌, ◌≤◌, ◌<◌, ◌*◌, ◌^◌, ℕ, List, length, IfOk};
+ghost use Rattle.std.specs.Prelude.{◌≡◌, ◌≤◌, ◌<◌, ◌*◌, ℕ, List, length, IfOk};
 ghost use Rattle.aria_base.specs.Reserved.{AreAbove};
+ghost use Rattle.aria_base.specs.declared.limits.TheConstants.{TAGS};
 ghost use Rattle.dep_rules.specs.Sheets.{AreMarksOf};
 ghost use Rattle.dep_rules.specs.Words.{Tell};
 ghost use Rattle.resv_words.specs.Seats.{most_keys, Tells};
@@ -33,7 +34,7 @@ pub fn reserve<P: Pace + Sync, R: Threads + Sync>(
     requires workers { (1 ≤ workers) × (workers ≤ 64) }
     requires keys { numbered.now.keys ≤ most_keys }
     requires old { length old.items ≤ 2 * numbered.now.keys }
-    requires tag { tag < 2 ^ 49 }
+    requires tag { tag < TAGS }
     requires above { AreAbove tag old.items }
     ensures laid { IfOk result (λ closed. (closed.keys ≡ numbered.now.keys) × (closed.tag ≡ tag) × (closed.old ≡ old.items)) }
     ensures marks { IfOk result (λ closed. AreMarksOf numbered.now closed.marks) }

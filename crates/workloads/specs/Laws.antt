@@ -1,5 +1,6 @@
 -- What holds of the settings that words ask for.
 use Rattle.std.specs.Prelude.{◌≡◌, ◌≤◌, ◌*◌, Some}
+use Rattle.aria_base.specs.declared.limits.TheConstants.{MOST_REQUESTS}
 use Rattle.command_words.specs.declared.settings.Amount.{Amount}
 use Rattle.command_words.specs.declared.settings.Bench.{Bench}
 use Rattle.command_words.specs.declared.settings.Command.TheVariants as command
@@ -11,7 +12,7 @@ use Rattle.workloads.specs.Generators.{IsWithin, generator_of}
 -- so many batches of so many requests may be asked for
 pub record IsAmount (a : Amount) : Type 0 where
   pub batches : (1 ≤ a.batches) × (a.batches ≤ 1000)
-  pub size : (1 ≤ a.size) × (a.size ≤ 10000)
+  pub size : (1 ≤ a.size) × (a.size ≤ MOST_REQUESTS)
   pub requests : a.batches * a.size ≤ 1000000
 
 pub record IsAsked (w : Workload) : Type 0 where
