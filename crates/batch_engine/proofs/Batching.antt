@@ -4,7 +4,7 @@ use Rattle.std.specs.List.{All}
 use Rattle.std.proofs.lemmas.List.{length-map}
 use Rattle.aria_base.specs.declared.calls.Call.{Call}
 use Rattle.aria_base.specs.declared.calls.Request.{Request}
-use Rattle.aria_base.specs.declared.limits.TheConstants.{MOST_REQUESTS}
+use Rattle.aria_base.specs.declared.limits.TheConstants.{GREATEST_NUMBER, MOST_REQUESTS}
 use Rattle.aria_base.specs.Orders.{key_cmp, Cells, Database}
 use Rattle.aria_base.specs.declared.keys.Key.{Key}
 use Rattle.batch_core.specs.Progress.{IsProgress}
@@ -22,7 +22,7 @@ use Rattle.proc_lang.specs.Catalogs.{IsCatalog, takes, run_of}
 use Rattle.proc_lang.specs.Meaning.{is_done}
 use Rattle.proc_lang.specs.declared.ends.End.{End}
 use Rattle.batch_engine.specs.Commits.{IsCommitted, IsSettled}
-use Rattle.batch_engine.specs.Engines.{Between, IsReady, state_in, handed_by, most_numbered}
+use Rattle.batch_engine.specs.Engines.{Between, IsReady, state_in, handed_by}
 use Rattle.batch_engine.specs.declared.commits.Committed.{Committed}
 use Rattle.batch_engine.specs.declared.settlements.Settled.{Settled}
 use Rattle.batch_engine.proofs.Readying.{length-list, ready-after}
@@ -80,15 +80,15 @@ module _ {e self : Between} (view : e ≡ self) (config : Config) (calls : List 
   pub ready-is : (s : Settled) {left : List Request} {count : ℕ} → IsDone s → left ≡ s.carried.items → count ≡ length calls
       → IsCatalog e.plan → IsReady e.plan e.rows e.carried e.batches e.requests
       → All (λ call. takes self.plan call ≡ true) calls → length self.carried + length calls ≤ MOST_REQUESTS
-      → self.batches < most_numbered → self.requests + length calls ≤ most_numbered
+      → self.batches < GREATEST_NUMBER → self.requests + length calls ≤ GREATEST_NUMBER
       → IsReady e.plan s.tables left (e.batches + 1) (e.requests + count)
   ready-is s all c n catalog ready fit room batches requests =
       let back = sym view in
       subst (λ (s : State). IsReady e.plan s.rows s.waiting s.batches s.requests) (sym (left-is s all c n))
       (ready-after e.plan (state_in config e) handed catalog ready
       (subst (λ (b : Between). All (λ call. takes b.plan call ≡ true) calls) back fit) (few-list room)
-      (subst (λ (b : Between). b.batches < most_numbered) back batches)
-      (subst (λ (b : Between). b.requests + length calls ≤ most_numbered) back requests))
+      (subst (λ (b : Between). b.batches < GREATEST_NUMBER) back batches)
+      (subst (λ (b : Between). b.requests + length calls ≤ GREATEST_NUMBER) back requests))
 
   pub state-is : (s : Settled) {left : List Request} {count : ℕ} → IsDone s → left ≡ s.carried.items → count ≡ length calls → left_by s left count ≡ state_after self
   state-is s all c n = left-is s all c n ∙ ap state_after view

@@ -7,7 +7,7 @@ use Rattle.aria_base.specs.Orders.{key_cmp}
 use Rattle.aria_base.specs.declared.keys.Key.{Key}
 use Rattle.aria_base.specs.declared.calls.Call.{Call}
 use Rattle.aria_base.specs.declared.calls.Request.{Request}
-use Rattle.aria_base.specs.declared.limits.TheConstants.{MOST_REQUESTS}
+use Rattle.aria_base.specs.declared.limits.TheConstants.{GREATEST_NUMBER, MOST_REQUESTS}
 use Rattle.batch_core.specs.Steps.{State, Handed, numbered, list_of, step, outcome}
 use Rattle.batch_rules.specs.Batches.{Entry, is_carried, on_start, touching}
 use Rattle.batch_rules.proofs.Fates.{requests-settled}
@@ -17,7 +17,7 @@ use Rattle.proc_lang.specs.declared.ends.End.{End}
 use Rattle.proc_lang.specs.Meaning.{is_done}
 use Rattle.proc_lang.specs.Catalogs.{Plan, IsCatalog, takes, run_of}
 use Rattle.proc_sound.proofs.Runs.{catalog_stays_consistent_is}
-use Rattle.batch_engine.specs.Engines.{IsReady, most_numbered}
+use Rattle.batch_engine.specs.Engines.{IsReady}
 
 pub length-numbered : (n : ℕ) (calls : List Call) → length (numbered n calls) ≡ length calls
 length-numbered n [] = refl
@@ -71,7 +71,7 @@ module _ (plan : Plan) (state : State) (handed : Handed) where
       omega (arith, kept, all, length-map (filter is_carried entries) (λ e. e.judged.request))
 
   pub ready-after : IsCatalog plan → IsReady plan state.rows state.waiting state.batches state.requests → All (λ call. takes plan call ≡ true) handed.calls
-      → length list ≤ MOST_REQUESTS → state.batches < most_numbered → state.requests + length handed.calls ≤ most_numbered
+      → length list ≤ MOST_REQUESTS → state.batches < GREATEST_NUMBER → state.requests + length handed.calls ≤ GREATEST_NUMBER
       → IsReady plan next.rows next.waiting next.batches next.requests
   ready-after whole h new few batches requests =
       let fit = fit-list h.fit new in

@@ -1,11 +1,11 @@
 -- An engine between two batches.
-use Rattle.std.specs.Prelude.{◌≡◌, ◌≤◌, ◌^◌, ℕ, true, List, Option, length}
+use Rattle.std.specs.Prelude.{◌≡◌, ◌≤◌, ℕ, true, List, Option, length}
 use Rattle.std.specs.List.{All}
 use Rattle.aria_base.specs.Orders.{Database}
 use Rattle.aria_base.specs.Schemas.{IsConsistent}
 use Rattle.aria_base.specs.declared.calls.Call.{Call}
 use Rattle.aria_base.specs.declared.calls.Request.{Request}
-use Rattle.aria_base.specs.declared.limits.TheConstants.{MOST_REQUESTS}
+use Rattle.aria_base.specs.declared.limits.TheConstants.{GREATEST_NUMBER, MOST_REQUESTS}
 use Rattle.proc_lang.specs.Catalogs.{Plan, takes}
 use Rattle.dep_rules.specs.declared.configs.Config.{Config}
 use Rattle.batch_core.specs.Serial.{RiseWithin}
@@ -37,15 +37,11 @@ state_in config engine = record {
 abbrev pub handed_by : Config → List Call → Handed
 handed_by config calls = record { rule = config.rule; percent = config.fallback; calls = calls }
 
--- the greatest batch and request number
-abbrev pub most_numbered : ℕ
-most_numbered = 2 ^ 62
-
 -- what is true of every engine
 pub record IsReady (plan : Plan) (rows : Database) (carried : List Request) (batches requests : ℕ) : Type 0 where
   pub consistent : IsConsistent plan.tables rows
   pub fit : All (λ request. takes plan request.call ≡ true) carried
   pub numbered : RiseWithin (λ request. request.q) 0 carried requests
   pub few : length carried ≤ MOST_REQUESTS
-  pub batches_within : batches ≤ most_numbered
-  pub requests_within : requests ≤ most_numbered
+  pub batches_within : batches ≤ GREATEST_NUMBER
+  pub requests_within : requests ≤ GREATEST_NUMBER

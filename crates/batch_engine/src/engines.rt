@@ -1,12 +1,12 @@
 // A database between two batches, and the next batch.
 ghost use Rattle.std.specs.Prelude.{◌≡◌, ◌≢◌, ◌≤◌, ◌<◌, ◌+◌, ◌-◌, None, Some, length, true, IfOk};
 ghost use Rattle.std.specs.List.{All};
-ghost use Rattle.aria_base.specs.declared.limits.TheConstants.{MOST_REQUESTS};
+ghost use Rattle.aria_base.specs.declared.limits.TheConstants.{GREATEST_NUMBER, MOST_REQUESTS};
 ghost use Rattle.proc_lang.specs.Catalogs.{takes, run_of};
 ghost use Rattle.batch_core.specs.Steps.{list_of, step, answer};
 ghost use Rattle.batch_core.specs.Serial.{IsSerialAnswer};
 ghost use Rattle.batch_core.specs.Progress.{IsProgress};
-ghost use Rattle.batch_engine.specs.Engines.{IsReady, state_in, handed_by, most_numbered};
+ghost use Rattle.batch_engine.specs.Engines.{IsReady, state_in, handed_by};
 ghost use Rattle.batch_engine.specs.Lasts.{marks_of};
 ghost use Rattle.batch_engine.specs.Marks.{HasMarked};
 
@@ -86,8 +86,8 @@ impl Engine {
     ) -> Result<(Engine, Answer), Memory>
         requires fit { All (λ call. takes self.plan call ≡ true) new.items }
         requires room { length self.carried + length new.items ≤ MOST_REQUESTS }
-        requires batches { self.batches < most_numbered }
-        requires requests { self.requests + length new.items ≤ most_numbered }
+        requires batches { self.batches < GREATEST_NUMBER }
+        requires requests { self.requests + length new.items ≤ GREATEST_NUMBER }
         requires percent { config.now.fallback ≤ 101 }
         requires workers { (1 ≤ config.now.workers) × (config.now.workers ≤ 64) }
         ensures plan { IfOk result (λ r. r.0.plan ≡ self.plan) }

@@ -1,5 +1,6 @@
 //! The requests of a workload.
-ghost use Rattle.std.specs.Prelude.{◌≡◌, ◌≤◌, ◌<◌, ◌^◌, pos, IfOk, OnOk, All, true};
+ghost use Rattle.std.specs.Prelude.{◌≡◌, ◌≤◌, ◌<◌, pos, IfOk, OnOk, All, true};
+ghost use Rattle.aria_base.specs.declared.limits.TheConstants.{GREATEST_NUMBER};
 ghost use Rattle.proc_lang.specs.Catalogs.{takes};
 ghost use Rattle.cat_builtin.specs.Ycsb.{ycsb};
 ghost use Rattle.load_gen.specs.Draws.{times, IsPast};
@@ -21,7 +22,7 @@ pub fn batch(
     size: u32,
 ) -> Result<Vec<Call>, Memory>
     requires within { load.IsWithin settings.now }
-    requires number { number ≤ 2 ^ 62 }
+    requires number { number ≤ GREATEST_NUMBER }
     ensures calls { IfOk result (λ calls. calls.items ≡ (times size (load.request settings.now) draws.old).0) }
     ensures past { OnOk result (draws.new ≡ (times size (load.request settings.now) draws.old).1) }
     ensures fit { IfOk result (λ calls. All (λ call. takes ycsb call ≡ true) calls.items) }

@@ -3,8 +3,8 @@ use Rattle.std.proofs.Common.{◌≡◌, ◌∙◌, sym, refl, ℕ, zero, suc, �
 use Rattle.std.specs.Prelude.{⊤}
 use Rattle.std.specs.List.{AllByRecursion}
 use Rattle.answer_text.specs.Refusals.{refusal_text}
+use Rattle.aria_base.specs.declared.limits.TheConstants.{GREATEST_NUMBER}
 use Rattle.batch_core.specs.Steps.{Handed, State, run, step}
-use Rattle.batch_engine.specs.Engines.{most_numbered}
 use Rattle.batch_rules.specs.declared.verdicts.Rule.{Rule}
 use Rattle.proc_lang.specs.Catalogs.{Plan, run_of}
 use Rattle.report_laws.specs.Laws.{PrintedLines}
@@ -57,7 +57,7 @@ module _ (lines : PrintedLines) (plan : Plan) (each : Bool) (named : PrintedPlan
   pub drained_told : (line n : ℕ) (state : State) → PrintedState state → DrainedBy state (drained plan each line n state)
   drained_told line zero state is = none_drained state is
   drained_told line (suc n) state is =
-      by (length state.waiting == 0) refl (nat_lt state.batches most_numbered)
+      by (length state.waiting == 0) refl (nat_lt state.batches GREATEST_NUMBER)
       (drained_told line n (step (run_of plan) state (no_calls state)) (plan_step plan state (no_calls state) named is tt))
     where
       more : (c : Course State) → DrainedBy (step (run_of plan) state (no_calls state)) c → (length state.waiting == 0) ≡ false

@@ -2,14 +2,14 @@
 use Rattle.std.specs.Prelude.{◌≡◌, ◌≤◌, ◌<◌, ◌+◌, true, List, None, length}
 use Rattle.std.specs.List.{All, AllZip}
 use Rattle.aria_base.specs.declared.calls.Call.{Call}
-use Rattle.aria_base.specs.declared.limits.TheConstants.{MOST_REQUESTS}
+use Rattle.aria_base.specs.declared.limits.TheConstants.{GREATEST_NUMBER, MOST_REQUESTS}
 use Rattle.batch_core.specs.Progress.{IsProgress}
 use Rattle.batch_core.specs.Serial.{IsSerialAnswer}
 use Rattle.batch_core.specs.Steps.{list_of, step, answer}
 use Rattle.batch_core.specs.declared.answers.Answer.{Answer}
 use Rattle.dep_rules.specs.declared.configs.Config.{Config}
 use Rattle.proc_lang.specs.Catalogs.{takes, run_of}
-use Rattle.batch_engine.specs.Engines.{Between, state_in, handed_by, most_numbered}
+use Rattle.batch_engine.specs.Engines.{Between, state_in, handed_by}
 use Rattle.batch_engine.specs.Marks.{HasMarked}
 
 -- an engine, whatever was marked in its last batch
@@ -26,8 +26,8 @@ pub record AreAlike (engines : List Between) : Type 0 where
 pub record MayRun (config : Config) (calls : List Call) (engine : Between) : Type 0 where
   pub fit : All (λ call. takes engine.plan call ≡ true) calls
   pub room : length engine.carried + length calls ≤ MOST_REQUESTS
-  pub batches : engine.batches < most_numbered
-  pub requests : engine.requests + length calls ≤ most_numbered
+  pub batches : engine.batches < GREATEST_NUMBER
+  pub requests : engine.requests + length calls ≤ GREATEST_NUMBER
   pub percent : config.fallback ≤ 101
   pub workers : (1 ≤ config.workers) × (config.workers ≤ 64)
 

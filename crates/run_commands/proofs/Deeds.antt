@@ -7,9 +7,9 @@ use Rattle.aria_base.specs.Orders.{Cells}
 use Rattle.aria_base.specs.Schemas.{Fits}
 use Rattle.aria_base.specs.declared.calls.Call.{Call}
 use Rattle.aria_base.specs.declared.keys.Key.{Key}
-use Rattle.aria_base.specs.declared.limits.TheConstants.{MOST_REQUESTS}
+use Rattle.aria_base.specs.declared.limits.TheConstants.{GREATEST_NUMBER, MOST_REQUESTS}
 use Rattle.batch_core.specs.Steps.{State, Handed, step}
-use Rattle.batch_engine.specs.Engines.{Between, most_numbered}
+use Rattle.batch_engine.specs.Engines.{Between}
 use Rattle.batch_rules.specs.declared.verdicts.Rule.{Rule}
 use Rattle.dep_rules.specs.declared.configs.Config.{Config}
 use Rattle.proc_lang.specs.Catalogs.{Plan, takes, run_of}
@@ -111,8 +111,8 @@ set_bounded (base.Runs live) rule percent within h =
     let same = set_first live.config rule percent live.replicas in
     record {
       few = subst (λ (s : State). length s.waiting ≤ MOST_REQUESTS) (sym same) h.few;
-      batches_within = subst (λ (s : State). s.batches ≤ most_numbered) (sym same) h.batches_within;
-      requests_within = subst (λ (s : State). s.requests ≤ most_numbered) (sym same) h.requests_within;
+      batches_within = subst (λ (s : State). s.batches ≤ GREATEST_NUMBER) (sym same) h.batches_within;
+      requests_within = subst (λ (s : State). s.requests ≤ GREATEST_NUMBER) (sym same) h.requests_within;
       percent = within;
       workers = h.workers;
     }
@@ -179,8 +179,8 @@ pub may_serve : (place : Place) (work : Work) (live : Live) → MayRun place wor
 may_serve place work live may begun = record {
   fit = subst (λ (plan : Plan). All (λ call. takes plan call ≡ true) work.calls.items) (sym begun.plan) (fit_head place.head work.calls.items work.base may.ready may.holds.of_head);
   room = subst (λ (s : State). length s.waiting + length work.calls.items ≤ MOST_REQUESTS) (sym begun.state) may.room;
-  batches = subst (λ (s : State). s.batches < most_numbered) (sym begun.state) may.batches;
-  requests = subst (λ (s : State). s.requests + length work.calls.items ≤ most_numbered) (sym begun.state) may.requests;
+  batches = subst (λ (s : State). s.batches < GREATEST_NUMBER) (sym begun.state) may.batches;
+  requests = subst (λ (s : State). s.requests + length work.calls.items ≤ GREATEST_NUMBER) (sym begun.state) may.requests;
   percent = begun.runnable.percent;
   workers = begun.runnable.workers;
 }

@@ -4,8 +4,8 @@ use Rattle.std.proofs.KnownBytes.{Appends-nil}
 use Rattle.std.proofs.lemmas.Bool.{cond-true, cond-false}
 use Rattle.aria_base.specs.declared.calls.Call.{Call}
 use Rattle.answer_text.specs.Refusals.{refusal_text}
-use Rattle.batch_engine.specs.Engines.{most_numbered}
 use Rattle.std.specs.Prelude.{Result, Ok, Err}
+use Rattle.aria_base.specs.declared.limits.TheConstants.{GREATEST_NUMBER}
 use Rattle.batch_core.specs.Steps.{State, Handed, step}
 use Rattle.proc_lang.specs.Catalogs.{Plan, run_of}
 use Rattle.script_course.proofs.Turns.{cut_longer, serves_behind}
@@ -115,10 +115,10 @@ module _ (live : Live) (calls : List Call) (none : calls ≡ []) where
   Batch handed = Goes (batch_text (plan_of live) live.each (state_of live) handed) (step (run_of (plan_of live)) (state_of live) handed)
 
   -- what it comes to is the next batch, without calls
-  pub one_is : (line : ℕ) → (state_of live).batches < most_numbered → one_drained (plan_of live) live.each line (state_of live) ≡ Goes (next_text live calls) (next_state live calls)
+  pub one_is : (line : ℕ) → (state_of live).batches < GREATEST_NUMBER → one_drained (plan_of live) live.each line (state_of live) ≡ Goes (next_text live calls) (next_state live calls)
   one_is line below =
-      let test : nat_lt (state_of live).batches most_numbered ≡ true = grind (arith, below) in
-      cond-true (nat_lt (state_of live).batches most_numbered) (Batch (no_calls (state_of live))) (Refused line) test ∙ ap (λ (q : Handed). Batch q) (sym handed_none)
+      let test : nat_lt (state_of live).batches GREATEST_NUMBER ≡ true = grind (arith, below) in
+      cond-true (nat_lt (state_of live).batches GREATEST_NUMBER) (Batch (no_calls (state_of live))) (Refused line) test ∙ ap (λ (q : Handed). Batch q) (sym handed_none)
 
   pub fewer_next : (next : Live) → IsNext live calls next → 0 < length (state_of live).waiting → length (state_of next).waiting < length (state_of live).waiting
   fewer_next next is some =
@@ -127,8 +127,8 @@ module _ (live : Live) (calls : List Call) (none : calls ≡ []) where
       subst (λ (s : State). length s.waiting < length (state_of live).waiting) same (fewer (run_of (plan_of live)) (state_of live) some)
 
 -- where the numbers of batches are used up
-pub one_refused : (plan : Plan) (each : Bool) (line : ℕ) (state : State) → most_numbered ≤ state.batches → one_drained plan each line state ≡ Stops (refusal_text (record { line = line; kind = Numbers }))
+pub one_refused : (plan : Plan) (each : Bool) (line : ℕ) (state : State) → GREATEST_NUMBER ≤ state.batches → one_drained plan each line state ≡ Stops (refusal_text (record { line = line; kind = Numbers }))
 one_refused plan each line state past =
-    let test : nat_lt state.batches most_numbered ≡ false = grind (arith, past) in
-    cond-false (nat_lt state.batches most_numbered) (Goes (batch_text plan each state (no_calls state)) (step (run_of plan) state (no_calls state)))
+    let test : nat_lt state.batches GREATEST_NUMBER ≡ false = grind (arith, past) in
+    cond-false (nat_lt state.batches GREATEST_NUMBER) (Goes (batch_text plan each state (no_calls state)) (step (run_of plan) state (no_calls state)))
     (Stops (refusal_text (record { line = line; kind = Numbers }))) test

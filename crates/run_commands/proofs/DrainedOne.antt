@@ -2,9 +2,9 @@
 use Rattle.std.proofs.Common.{◌≡◌, ◌≢◌, ◌∙◌, inl, inr, sym, ap, subst, refl, ℕ, ◌+◌, ◌<◌, ◌==◌, false, List, [], ◌∷◌, length, Option, Some, None, option_map, arith}
 use Rattle.std.specs.Prelude.{Err}
 use Rattle.aria_base.specs.declared.calls.Call.{Call}
+use Rattle.aria_base.specs.declared.limits.TheConstants.{GREATEST_NUMBER}
 use Rattle.aria_store.specs.Stands.{Kept, added}
 use Rattle.batch_core.specs.Steps.{State}
-use Rattle.batch_engine.specs.Engines.{most_numbered}
 use Rattle.disk_model.specs.Histories.{History, LeavesAll}
 use Rattle.image_text.specs.Payloads.{Batch}
 use Rattle.script_course.specs.Courses.{Course}
@@ -40,7 +40,7 @@ not_refused given.NoMemory s k = λ e. absurd (let no : stop.NoMemory ≡ stop.R
 not_refused given.NoWrite s k = λ e. absurd (let no : stop.NoWrite ≡ stop.Refused = sym k ∙ e in cc)
 not_refused given.NoDisk s k = λ e. absurd (let no : stop.NoDisk ≡ stop.Refused = sym k ∙ e in cc)
 
-module _ (live : Live) (calls : List Call) (none : calls ≡ []) (line : ℕ) (below : (state_of live).batches < most_numbered) (ga gb : Option (List ℕ)) (r : Option Live × Given)
+module _ (live : Live) (calls : List Call) (none : calls ≡ []) (line : ℕ) (below : (state_of live).batches < GREATEST_NUMBER) (ga gb : Option (List ℕ)) (r : Option Live × Given)
     (tells : Tells (next_text live calls) (IsNext live calls) ga gb r) where
   pub one_told : (next : Live) → r.0 ≡ Some next → IsGoing (state_of next) (one_drained (plan_of live) live.each line (state_of live)) ga gb
   one_told next e =

@@ -4,14 +4,13 @@ use Rattle.std.proofs.lemmas.List.{length-append}
 use Rattle.std.proofs.lemmas.List.Filters.{length-filter_both}
 use Rattle.aria_base.specs.declared.calls.Call.{Call}
 use Rattle.aria_base.specs.declared.calls.Request.{Request}
-use Rattle.aria_base.specs.declared.limits.TheConstants.{MOST_REQUESTS}
+use Rattle.aria_base.specs.declared.limits.TheConstants.{GREATEST_NUMBER, MOST_REQUESTS}
 use Rattle.aria_base.specs.Orders.{Cells, Database}
 use Rattle.aria_base.specs.declared.keys.Key.{Key}
 use Rattle.batch_core.specs.Serial.{IsSerialAnswer, is_named}
 use Rattle.batch_core.specs.Steps.{State, Handed, numbered, list_of, step}
 use Rattle.batch_core.specs.declared.answers.Answer.{Answer}
 use Rattle.batch_core.proofs.Progress.{progress}
-use Rattle.batch_engine.specs.Engines.{most_numbered}
 use Rattle.batch_rules.specs.Trees.{Tree}
 use Rattle.proc_lang.specs.declared.ends.End.{End}
 use Rattle.proc_lang.specs.Catalogs.{run_of}
@@ -42,8 +41,8 @@ runnable before after calls found may state config serial =
     let size = length-list (state_of before) (next_handed before calls) in
     record {
       few = subst (λ (s : State). length s.waiting ≤ MOST_REQUESTS) (sym state) (omega (arith, few, size, may.room));
-      batches_within = subst (λ (s : State). s.batches ≤ most_numbered) (sym state) (omega (arith, may.batches));
-      requests_within = subst (λ (s : State). s.requests ≤ most_numbered) (sym state) may.requests;
+      batches_within = subst (λ (s : State). s.batches ≤ GREATEST_NUMBER) (sym state) (omega (arith, may.batches));
+      requests_within = subst (λ (s : State). s.requests ≤ GREATEST_NUMBER) (sym state) may.requests;
       percent = rw (ap (λ c. c.fallback) config) may.percent;
       workers = rw (ap (λ c. c.workers) config) may.workers;
     }

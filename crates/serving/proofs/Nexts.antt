@@ -3,11 +3,11 @@ use Rattle.std.proofs.Common.{◌≡◌, sym, ap, subst, refl, ◌+◌, ◌<◌,
 use Rattle.std.specs.List.{All, AllZip, slice_get}
 use Rattle.std.proofs.lemmas.List.Elements.{All-head, All-weaker, length_all_zip}
 use Rattle.aria_base.specs.declared.calls.Call.{Call}
-use Rattle.aria_base.specs.declared.limits.TheConstants.{MOST_REQUESTS}
+use Rattle.aria_base.specs.declared.limits.TheConstants.{GREATEST_NUMBER, MOST_REQUESTS}
 use Rattle.batch_core.specs.Serial.{IsSerialAnswer}
 use Rattle.batch_core.specs.Steps.{State, Handed, list_of, step, answer}
 use Rattle.batch_core.specs.declared.answers.Answer.{Answer}
-use Rattle.batch_engine.specs.Engines.{Between, state_in, handed_by, most_numbered}
+use Rattle.batch_engine.specs.Engines.{Between, state_in, handed_by}
 use Rattle.dep_rules.specs.declared.configs.Config.{Config}
 use Rattle.proc_lang.specs.Catalogs.{Plan, takes, run_of}
 use Rattle.replica_run.specs.Replicas.{MayRun, IsAfter, IsSerialFor, answer_of, unmarked}
@@ -39,8 +39,8 @@ first_may live calls first e h =
     record {
       fit = subst (λ (plan : Plan). All (λ call. takes plan call ≡ true) calls) p h.fit;
       room = subst (λ (state : State). length state.waiting + length calls ≤ MOST_REQUESTS) s h.room;
-      batches = subst (λ (state : State). state.batches < most_numbered) s h.batches;
-      requests = subst (λ (state : State). state.requests + length calls ≤ most_numbered) s h.requests;
+      batches = subst (λ (state : State). state.batches < GREATEST_NUMBER) s h.batches;
+      requests = subst (λ (state : State). state.requests + length calls ≤ GREATEST_NUMBER) s h.requests;
       percent = h.percent;
       workers = h.workers;
     }

@@ -2,11 +2,11 @@
 use Rattle.std.proofs.Common.{◌≡◌, ◌∙◌, ◌⊎◌, inl, inr, sym, ap, subst, refl, ℕ, ◌+◌, ◌<◌, ◌≤◌, List, [], ◌∷◌, ◌++◌, length, map, Some, arith}
 use Rattle.aria_base.specs.declared.calls.Request.{Request}
 use Rattle.aria_base.specs.declared.keys.Key.{Key}
-use Rattle.aria_base.specs.declared.limits.TheConstants.{MOST_REQUESTS}
+use Rattle.aria_base.specs.declared.limits.TheConstants.{GREATEST_NUMBER, MOST_REQUESTS}
 use Rattle.aria_base.specs.Orders.{Cells, Database}
 use Rattle.batch_core.specs.Serial.{RiseWithin}
 use Rattle.batch_core.specs.Steps.{State, Handed, step, run}
-use Rattle.batch_engine.specs.Engines.{Between, IsReady, state_in, most_numbered}
+use Rattle.batch_engine.specs.Engines.{Between, IsReady, state_in}
 use Rattle.batch_rules.specs.Trees.{Tree}
 use Rattle.checkpoint.specs.declared.heads.Head.{Head}
 use Rattle.dep_rules.specs.declared.configs.Config.{Config}
@@ -56,7 +56,7 @@ module _ (old : History) (plan : Plan) (state : State) (store : Kept) (handed : 
   abbrev After : State
   After = step (run_of plan) state handed
 
-  pub may_add : length handed.calls ≤ MOST_REQUESTS → state.batches < most_numbered → state.requests + length handed.calls ≤ most_numbered
+  pub may_add : length handed.calls ≤ MOST_REQUESTS → state.batches < GREATEST_NUMBER → state.requests + length handed.calls ≤ GREATEST_NUMBER
       → MayAdd plan (length handed.calls) c later
   may_add few batches requests =
       let ran : (state_behind c later).batches ≡ state.batches = ap (λ (s : State). s.batches) h.state_is in

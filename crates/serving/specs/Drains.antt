@@ -1,8 +1,8 @@
 -- What the requests that wait come to without new calls.
 use Rattle.std.specs.Prelude.{ℕ, suc, zero, Bool, ◌==◌, nat_lt, if◌then◌else◌, [], length, Result, Ok, Err}
 use Rattle.answer_text.specs.Refusals.{refusal_text}
+use Rattle.aria_base.specs.declared.limits.TheConstants.{GREATEST_NUMBER}
 use Rattle.batch_core.specs.Steps.{State, Handed, step}
-use Rattle.batch_engine.specs.Engines.{most_numbered}
 use Rattle.proc_lang.specs.Catalogs.{Plan, run_of}
 use Rattle.script_course.specs.Courses.{Course, Goes, Stops, behind}
 use Rattle.script_course.specs.declared.stops.Stop.{Stop}
@@ -17,7 +17,7 @@ no_calls state = handed_at state []
 -- that batch, printed; where the numbers of batches are used up it is refused, as this line
 abbrev pub one_drained : Plan → Bool → ℕ → State → Course State
 one_drained plan each line state =
-    if nat_lt state.batches most_numbered
+    if nat_lt state.batches GREATEST_NUMBER
     then Goes (batch_text plan each state (no_calls state)) (step (run_of plan) state (no_calls state))
     else Stops (refusal_text (record { line = line; kind = Numbers }))
 

@@ -5,13 +5,13 @@ use Rattle.std.specs.FinMap as fin
 use Rattle.aria_base.specs.Orders.{Database}
 use Rattle.aria_base.specs.declared.calls.Call.{Call}
 use Rattle.aria_base.specs.declared.calls.Request.{Request}
-use Rattle.aria_base.specs.declared.limits.TheConstants.{MOST_REQUESTS}
+use Rattle.aria_base.specs.declared.limits.TheConstants.{GREATEST_NUMBER, MOST_REQUESTS}
 use Rattle.answer_text.specs.Answers.{answer_text}
 use Rattle.answer_text.specs.States.{state_text}
 use Rattle.batch_core.specs.Serial.{IsSerialAnswer}
 use Rattle.batch_core.specs.Steps.{State, Handed, list_of, step, answer}
 use Rattle.batch_core.specs.declared.answers.Answer.{Answer}
-use Rattle.batch_engine.specs.Engines.{Between, state_in, handed_by, most_numbered}
+use Rattle.batch_engine.specs.Engines.{Between, state_in, handed_by}
 use Rattle.batch_engine.specs.Marks.{HasMarked}
 use Rattle.dep_rules.specs.declared.configs.Config.{Config}
 use Rattle.proc_lang.specs.Catalogs.{Plan, takes, run_of}
@@ -85,8 +85,8 @@ IsSerialNext live calls =
 -- what is true between batches: the bounds of what waits and of the numbers, and the settings within theirs
 pub record IsRunnable (live : Live) : Type 0 where
   pub few : length (state_of live).waiting ≤ MOST_REQUESTS
-  pub batches_within : (state_of live).batches ≤ most_numbered
-  pub requests_within : (state_of live).requests ≤ most_numbered
+  pub batches_within : (state_of live).batches ≤ GREATEST_NUMBER
+  pub requests_within : (state_of live).requests ≤ GREATEST_NUMBER
   pub percent : live.config.fallback ≤ 101
   pub workers : (1 ≤ live.config.workers) × (live.config.workers ≤ 64)
 
@@ -94,8 +94,8 @@ pub record IsRunnable (live : Live) : Type 0 where
 pub record MayServe (live : Live) (calls : List Call) : Type 0 where
   pub fit : All (λ call. takes (plan_of live) call ≡ true) calls
   pub room : length (state_of live).waiting + length calls ≤ MOST_REQUESTS
-  pub batches : (state_of live).batches < most_numbered
-  pub requests : (state_of live).requests + length calls ≤ most_numbered
+  pub batches : (state_of live).batches < GREATEST_NUMBER
+  pub requests : (state_of live).requests + length calls ≤ GREATEST_NUMBER
   pub percent : live.config.fallback ≤ 101
   pub workers : (1 ≤ live.config.workers) × (live.config.workers ≤ 64)
 

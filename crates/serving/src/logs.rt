@@ -2,9 +2,9 @@
 ghost use Rattle.std.specs.Prelude.{◌≡◌, ◌≤◌, ◌<◌, ◌+◌, None, true, List, length, IfErr, IfSome, IsOk, OnOk};
 ghost use Rattle.std.specs.List.{All};
 ghost use Rattle.aria_base.specs.Faults.{Rose};
-ghost use Rattle.aria_base.specs.declared.limits.TheConstants.{MOST_REQUESTS};
+ghost use Rattle.aria_base.specs.declared.limits.TheConstants.{GREATEST_NUMBER, MOST_REQUESTS};
 ghost use Rattle.batch_core.specs.Steps.{step};
-ghost use Rattle.batch_engine.specs.Engines.{state_in, handed_by, most_numbered};
+ghost use Rattle.batch_engine.specs.Engines.{state_in, handed_by};
 ghost use Rattle.disk_model.specs.Histories.{LeavesAll};
 ghost use Rattle.image_text.specs.Payloads.{Batch};
 ghost use Rattle.proc_lang.specs.Catalogs.{takes, run_of};

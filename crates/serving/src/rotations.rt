@@ -1,7 +1,8 @@
 // The next checkpoint, where one is due: behind a batch, or before the first one.
 ghost use Rattle.std.specs.Prelude.{◌≡◌, ◌≤◌, None, true, [], List, IfErr, IfSome, IsOk, OnOk};
 ghost use Rattle.aria_base.specs.Faults.{Rose};
-ghost use Rattle.batch_engine.specs.Engines.{most_numbered, state_in};
+ghost use Rattle.aria_base.specs.declared.limits.TheConstants.{GREATEST_NUMBER};
+ghost use Rattle.batch_engine.specs.Engines.{state_in};
 ghost use Rattle.disk_model.specs.Histories.{LeavesAll};
 ghost use Rattle.image_text.specs.Payloads.{Batch};
 ghost use Rattle.slot_images.specs.Images.{Checkpoint};

@@ -2,8 +2,8 @@
 use Rattle.std.proofs.Common.{◌≡◌, ◌∙◌, sym, ap, refl, ℕ, zero, suc, ◌==◌, nat_lt, Bool, true, false, List, [], ◌++◌, length}
 use Rattle.std.specs.Prelude.{if◌then◌else◌, Result, Ok, Err}
 use Rattle.answer_text.specs.Refusals.{refusal_text}
+use Rattle.aria_base.specs.declared.limits.TheConstants.{GREATEST_NUMBER}
 use Rattle.batch_core.specs.Steps.{State, step}
-use Rattle.batch_engine.specs.Engines.{most_numbered}
 use Rattle.proc_lang.specs.Catalogs.{Plan, run_of}
 use Rattle.script_course.specs.Courses.{Course, Goes, Stops, Out, behind, ended}
 use Rattle.script_course.specs.declared.statuses.TheConstants.{DONE}
@@ -68,7 +68,7 @@ module _ (plan : Plan) (each : Bool) (line other : ℕ) where
   drained_same : (n : ℕ) (state s : State) (bytes : List ℕ) → drained plan each line n state ≡ Goes bytes s → drained plan each other n state ≡ Goes bytes s
   drained_same zero state s bytes is = is
   drained_same (suc n) state s bytes is =
-      drained_by n state s (length state.waiting == 0) (nat_lt state.batches most_numbered) bytes (λ next more goes. drained_same n next s more goes) is
+      drained_by n state s (length state.waiting == 0) (nat_lt state.batches GREATEST_NUMBER) bytes (λ next more goes. drained_same n next s more goes) is
 
   drains_same : (state : State) (c : Course State) → drains plan each line state ≡ c → (ended (listed plan each) c).status ≡ DONE
       → ended (listed plan each) (drains plan each other state) ≡ ended (listed plan each) (drains plan each line state)

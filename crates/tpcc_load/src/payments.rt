@@ -1,6 +1,7 @@
 //! Payments.
-ghost use Rattle.std.specs.Prelude.{◌≡◌, ◌≤◌, ◌<◌, ◌^◌, [], ◌∷◌, ◌++◌, map, pos, IfOk};
+ghost use Rattle.std.specs.Prelude.{◌≡◌, ◌≤◌, ◌<◌, [], ◌∷◌, ◌++◌, map, pos, IfOk};
 ghost use Rattle.aria_base.specs.declared.calls.Arg.TheVariants as arg;
+ghost use Rattle.aria_base.specs.declared.limits.TheConstants.{GREATEST_NUMBER};
 ghost use Rattle.tpcc_load.specs.Heads.{IsWithin};
 ghost use Rattle.tpcc_load.specs.Requests as requests;
 
@@ -19,7 +20,7 @@ pub(crate) fn payment(
     number: u64,
 ) -> Result<Call, Memory>
     requires within { IsWithin settings.now }
-    requires number { number ≤ 2 ^ 62 }
+    requires number { number ≤ GREATEST_NUMBER }
     ensures call { IfOk result (λ call. call ≡ (requests.payment settings.now number draws.old).0) }
     ensures past { draws.new ≡ (requests.payment settings.now number draws.old).1 }
 {
@@ -37,7 +38,7 @@ pub(crate) fn payment(
 
 /// These numbers and the last one behind them, as arguments.
 pub(crate) fn numbers(alloc: Global, first: &[u32], last: u64) -> Result<Vec<Arg>, Memory>
-    requires { last ≤ 2 ^ 62 }
+    requires { last ≤ GREATEST_NUMBER }
     ensures { IfOk result (λ args. args.items ≡ map (λ n. arg.Int (pos n)) first.now ++ arg.Int (pos last) ∷ []) }
 {
     let mut args = Vec::with_capacity(alloc, first.len() + 2)?;

@@ -1,5 +1,6 @@
 //! Batches of requests, and new orders.
-ghost use Rattle.std.specs.Prelude.{◌&&◌, ◌==◌, ◌≡◌, ◌≤◌, ◌<◌, ◌^◌, [], ◌∷◌, pos, IfOk, OnOk, All, true};
+ghost use Rattle.std.specs.Prelude.{◌&&◌, ◌==◌, ◌≡◌, ◌≤◌, ◌<◌, [], ◌∷◌, pos, IfOk, OnOk, All, true};
+ghost use Rattle.aria_base.specs.declared.limits.TheConstants.{GREATEST_NUMBER};
 ghost use Rattle.proc_lang.specs.Catalogs.{takes};
 ghost use Rattle.cat_builtin.specs.Tpcc.{tpcc};
 ghost use Rattle.load_gen.specs.Draws.{times, IsPast};
@@ -25,7 +26,7 @@ pub fn batch(
     size: u32,
 ) -> Result<Vec<Call>, Memory>
     requires within { IsWithin settings.now }
-    requires number { number ≤ 2 ^ 62 }
+    requires number { number ≤ GREATEST_NUMBER }
     ensures calls { IfOk result (λ calls. calls.items ≡ (times size (requests.request settings.now number) draws.old).0) }
     ensures past { OnOk result (draws.new ≡ (times size (requests.request settings.now number) draws.old).1) }
     ensures fit { IfOk result (λ calls. All (λ call. takes tpcc call ≡ true) calls.items) }
@@ -41,7 +42,7 @@ pub fn batch(
 /// The next request.
 fn request(alloc: Global, settings: &Tpcc, draws: &mut Draws, number: u64) -> Result<Call, Memory>
     requires within { IsWithin settings.now }
-    requires number { number ≤ 2 ^ 62 }
+    requires number { number ≤ GREATEST_NUMBER }
     ensures call { IfOk result (λ call. call ≡ (requests.request settings.now number draws.old).0) }
     ensures past { OnOk result (draws.new ≡ (requests.request settings.now number draws.old).1) }
     ensures further { IsPast draws.old draws.new }
@@ -67,7 +68,7 @@ struct Start {
 /// The next new order, in a batch of this number.
 fn new_order(alloc: Global, settings: &Tpcc, draws: &mut Draws, number: u64) -> Result<Call, Memory>
     requires within { IsWithin settings.now }
-    requires number { number ≤ 2 ^ 62 }
+    requires number { number ≤ GREATEST_NUMBER }
     ensures call { IfOk result (λ call. call ≡ (requests.new_order settings.now number draws.old).0) }
     ensures past { OnOk result (draws.new ≡ (requests.new_order settings.now number draws.old).1) }
     ensures further { IsPast draws.old draws.new }
@@ -100,7 +101,7 @@ fn order_start(settings: &Tpcc, draws: &mut Draws) -> Start
 
 /// The call of a new order with these lines.
 fn order_call(alloc: Global, number: u64, start: Start, lines: Tuples) -> Result<Call, Memory>
-    requires { number ≤ 2 ^ 62 }
+    requires { number ≤ GREATEST_NUMBER }
     ensures { IfOk result (λ call. call ≡ requests.order_call number start lines) }
 {
     let mut args = numbers(alloc, &[start.w, start.d, start.c], number)?;

@@ -11,11 +11,11 @@ use Rattle.aria_base.specs.Schemas.{Fits, IsConsistent}
 use Rattle.aria_base.specs.declared.calls.Call.{Call}
 use Rattle.aria_base.specs.declared.calls.Request.{Request}
 use Rattle.aria_base.specs.declared.keys.Key.{Key}
-use Rattle.aria_base.specs.declared.limits.TheConstants.{MOST_REQUESTS}
+use Rattle.aria_base.specs.declared.limits.TheConstants.{GREATEST_NUMBER, MOST_REQUESTS}
 use Rattle.aria_base.specs.declared.schemas.Table.{Table}
 use Rattle.aria_base.proofs.Orders.{key_cmp_total, key_cmp-IsAntisymmetric}
 use Rattle.batch_rules.proofs.Maps.{same_key}
-use Rattle.batch_engine.specs.Engines.{Between, IsReady, most_numbered}
+use Rattle.batch_engine.specs.Engines.{Between, IsReady}
 use Rattle.dep_rules.specs.declared.configs.Config.{Config}
 use Rattle.replica_run.specs.Replicas.{MayRun, unmarked}
 use Rattle.worked_batches.specs.Rooms.{HasRoom}
@@ -56,8 +56,8 @@ may_run_alike : (config : Config) (calls : List Call) (engine first : Between) �
 may_run_alike config calls engine first alike has percent workers = record {
   fit = subst (λ (e : Between). All (λ call. takes e.plan call ≡ true) calls) (sym alike) has.fit;
   room = subst (λ (e : Between). length e.carried + length calls ≤ MOST_REQUESTS) (sym alike) has.room;
-  batches = subst (λ (e : Between). e.batches < most_numbered) (sym alike) has.batches;
-  requests = subst (λ (e : Between). e.requests + length calls ≤ most_numbered) (sym alike) has.requests;
+  batches = subst (λ (e : Between). e.batches < GREATEST_NUMBER) (sym alike) has.batches;
+  requests = subst (λ (e : Between). e.requests + length calls ≤ GREATEST_NUMBER) (sym alike) has.requests;
   percent = percent;
   workers = workers;
 }

@@ -1,6 +1,7 @@
 // Workloads of both kinds.
-ghost use Rattle.std.specs.Prelude.{◌≡◌, ◌≤◌, ◌^◌, IfOk, OnOk, All, true};
+ghost use Rattle.std.specs.Prelude.{◌≡◌, ◌≤◌, IfOk, OnOk, All, true};
 ghost use Rattle.aria_base.specs.Schemas.{IsConsistent};
+ghost use Rattle.aria_base.specs.declared.limits.TheConstants.{GREATEST_NUMBER};
 ghost use Rattle.proc_lang.specs.Catalogs.{takes};
 ghost use Rattle.load_gen.specs.Draws.{times, IsPast};
 ghost use Rattle.workloads.specs.Generators.{generator_of, IsWithin, name_of, plan_of, rows_of, first_draws, request_of};
@@ -95,7 +96,7 @@ impl Generator {
         size: u32,
     ) -> Result<Vec<Call>, Memory>
         requires within { IsWithin self.now }
-        requires number { number ≤ 2 ^ 62 }
+        requires number { number ≤ GREATEST_NUMBER }
         ensures calls { IfOk result (λ calls. calls.items ≡ (times size (request_of self.now number) draws.old).0) }
         ensures past { OnOk result (draws.new ≡ (times size (request_of self.now number) draws.old).1) }
         ensures fit { IfOk result (λ calls. All (λ call. takes (plan_of self.now) call ≡ true) calls.items) }

@@ -2,8 +2,8 @@ use Rattle.std.proofs.Common.{◌≡◌, ◌<◌, ◌≤◌, ◌==◌, sym, subs
 use Rattle.std.specs.Prelude.{IsSomeAnd}
 use Rattle.aria_base.specs.Faults.{Rose}
 use Rattle.answer_text.specs.Refusals.{refusal_text}
+use Rattle.aria_base.specs.declared.limits.TheConstants.{GREATEST_NUMBER}
 use Rattle.batch_core.specs.Steps.{State}
-use Rattle.batch_engine.specs.Engines.{most_numbered}
 use Rattle.script_course.specs.Courses.{Course}
 use Rattle.script_course.specs.Served.{Serves}
 use Rattle.script_course.specs.declared.stops.Stop.TheVariants as stop
@@ -28,7 +28,7 @@ serve_batch-next-requires-clause-logs g c κs within =
 
 pub returns-then-batches-ge-GREATEST_NUMBER-clause-serves : goal.returns-then-batches-ge-GREATEST_NUMBER-clause-serves
 returns-then-batches-ge-GREATEST_NUMBER-clause-serves g c =
-    let past : most_numbered ≤ (state_of c.args.live).batches = omega (arith, c.batches.ensures, c.if-batches-ge-GREATEST_NUMBER.true) in
+    let past : GREATEST_NUMBER ≤ (state_of c.args.live).batches = omega (arith, c.batches.ensures, c.if-batches-ge-GREATEST_NUMBER.true) in
     let old = g.K.Sink.given c.args.out.now in
     let new = g.K.Sink.given c.refuse.new.out in
     subst (λ (q : Course State). Serves q old new (state_result c.refuse.result)) (sym (one_refused (plan_of c.args.live) c.args.live.each c.args.line (state_of c.args.live) past))
@@ -36,7 +36,7 @@ returns-then-batches-ge-GREATEST_NUMBER-clause-serves g c =
 
 pub returns-then-batches-ge-GREATEST_NUMBER-clause-keeps : goal.returns-then-batches-ge-GREATEST_NUMBER-clause-keeps
 returns-then-batches-ge-GREATEST_NUMBER-clause-keeps g c = λ ck later d end h.
-    let past : most_numbered ≤ (state_of c.args.live).batches = omega (arith, c.batches.ensures, c.if-batches-ge-GREATEST_NUMBER.true) in
+    let past : GREATEST_NUMBER ≤ (state_of c.args.live).batches = omega (arith, c.batches.ensures, c.if-batches-ge-GREATEST_NUMBER.true) in
     let some : (length (state_of c.args.live).waiting == 0) ≡ false = some_waits (length (state_of c.args.live).waiting) c.requires.some in
     let disk = g.D.Disk.history c.args.disk.now in
     let live = c.args.live in
@@ -53,44 +53,44 @@ returns-then-batches-ge-GREATEST_NUMBER-clause-cause g c =
 
 pub returns-in-Some-clause-serves : goal.returns-in-Some-clause-serves
 returns-in-Some-clause-serves g c =
-    let below : (state_of c.args.live).batches < most_numbered = omega (arith, c.batches.ensures, c.if-batches-ge-GREATEST_NUMBER.false) in
+    let below : (state_of c.args.live).batches < GREATEST_NUMBER = omega (arith, c.batches.ensures, c.if-batches-ge-GREATEST_NUMBER.false) in
     one_told c.args.live c.new.result.items c.new.ensures.items c.args.line below (g.K.Sink.given c.args.out.now) (g.K.Sink.given c.serve_batch-next.new.out) c.serve_batch-next.result
     c.serve_batch-next.ensures.tells c.in-Some.next c.in-Some.is
 
 pub returns-in-Some-clause-like : goal.returns-in-Some-clause-like
 returns-in-Some-clause-like g c =
-    let below : (state_of c.args.live).batches < most_numbered = omega (arith, c.batches.ensures, c.if-batches-ge-GREATEST_NUMBER.false) in
+    let below : (state_of c.args.live).batches < GREATEST_NUMBER = omega (arith, c.batches.ensures, c.if-batches-ge-GREATEST_NUMBER.false) in
     like_next c.args.live c.new.result.items c.new.ensures.items c.args.line below (g.K.Sink.given c.args.out.now) (g.K.Sink.given c.serve_batch-next.new.out) c.serve_batch-next.result
     c.serve_batch-next.ensures.tells c.in-Some.next c.in-Some.is
 
 pub returns-in-Some-clause-fewer : goal.returns-in-Some-clause-fewer
 returns-in-Some-clause-fewer g c =
-    let below : (state_of c.args.live).batches < most_numbered = omega (arith, c.batches.ensures, c.if-batches-ge-GREATEST_NUMBER.false) in
+    let below : (state_of c.args.live).batches < GREATEST_NUMBER = omega (arith, c.batches.ensures, c.if-batches-ge-GREATEST_NUMBER.false) in
     fewer_next c.args.live c.new.result.items c.new.ensures.items c.in-Some.next
     (next_here c.args.live c.new.result.items c.new.ensures.items c.args.line below (g.K.Sink.given c.args.out.now) (g.K.Sink.given c.serve_batch-next.new.out) c.serve_batch-next.result
     c.serve_batch-next.ensures.tells c.in-Some.next c.in-Some.is) c.requires.some
 
 pub returns-in-Some-clause-counted : goal.returns-in-Some-clause-counted
 returns-in-Some-clause-counted g c =
-    let below : (state_of c.args.live).batches < most_numbered = omega (arith, c.batches.ensures, c.if-batches-ge-GREATEST_NUMBER.false) in
+    let below : (state_of c.args.live).batches < GREATEST_NUMBER = omega (arith, c.batches.ensures, c.if-batches-ge-GREATEST_NUMBER.false) in
     counted_next c.args.live c.new.result.items c.new.ensures.items c.args.line below (g.K.Sink.given c.args.out.now) (g.K.Sink.given c.serve_batch-next.new.out) c.serve_batch-next.result
     c.serve_batch-next.ensures.tells c.in-Some.next c.in-Some.is
 
 pub returns-in-Some-clause-told : goal.returns-in-Some-clause-told
 returns-in-Some-clause-told g c =
-    let below : (state_of c.args.live).batches < most_numbered = omega (arith, c.batches.ensures, c.if-batches-ge-GREATEST_NUMBER.false) in
+    let below : (state_of c.args.live).batches < GREATEST_NUMBER = omega (arith, c.batches.ensures, c.if-batches-ge-GREATEST_NUMBER.false) in
     stored_next c.args.live c.new.result.items c.new.ensures.items c.args.line below (g.K.Sink.given c.args.out.now) (g.K.Sink.given c.serve_batch-next.new.out) c.serve_batch-next.result
     c.serve_batch-next.ensures.tells c.in-Some.next c.in-Some.is c.serve_batch-next.ensures.store
 
 pub returns-in-Some-clause-logging : goal.returns-in-Some-clause-logging
 returns-in-Some-clause-logging g c =
-    let below : (state_of c.args.live).batches < most_numbered = omega (arith, c.batches.ensures, c.if-batches-ge-GREATEST_NUMBER.false) in
+    let below : (state_of c.args.live).batches < GREATEST_NUMBER = omega (arith, c.batches.ensures, c.if-batches-ge-GREATEST_NUMBER.false) in
     told_here c.args.live c.new.result.items c.new.ensures.items c.args.line below (g.K.Sink.given c.args.out.now) (g.K.Sink.given c.serve_batch-next.new.out) c.serve_batch-next.result
     c.serve_batch-next.ensures.tells c.in-Some.next c.in-Some.is (IsLogging (g.D.Disk.history c.serve_batch-next.new.disk)) c.serve_batch-next.ensures.logging
 
 pub returns-in-Some-clause-keeps : goal.returns-in-Some-clause-keeps
 returns-in-Some-clause-keeps g c = λ ck later d end h.
-    let below : (state_of c.args.live).batches < most_numbered = omega (arith, c.batches.ensures, c.if-batches-ge-GREATEST_NUMBER.false) in
+    let below : (state_of c.args.live).batches < GREATEST_NUMBER = omega (arith, c.batches.ensures, c.if-batches-ge-GREATEST_NUMBER.false) in
     let some : (length (state_of c.args.live).waiting == 0) ≡ false = some_waits (length (state_of c.args.live).waiting) c.requires.some in
     keeps_told c.args.live c.new.result.items c.new.ensures.items c.args.line below (g.K.Sink.given c.args.out.now) (g.K.Sink.given c.serve_batch-next.new.out) c.serve_batch-next.result
     c.serve_batch-next.ensures.tells some d end (g.D.Disk.history c.args.disk.now) (g.D.Disk.history c.serve_batch-next.new.disk) (c.serve_batch-next.ensures.images ck later h)
@@ -98,20 +98,20 @@ returns-in-Some-clause-keeps g c = λ ck later d end h.
 
 pub returns-in-Some-clause-holds : goal.returns-in-Some-clause-holds
 returns-in-Some-clause-holds g c = λ first h.
-    let below : (state_of c.args.live).batches < most_numbered = omega (arith, c.batches.ensures, c.if-batches-ge-GREATEST_NUMBER.false) in
+    let below : (state_of c.args.live).batches < GREATEST_NUMBER = omega (arith, c.batches.ensures, c.if-batches-ge-GREATEST_NUMBER.false) in
     holds_next c.args.live c.new.result.items c.new.ensures.items c.args.line below (g.K.Sink.given c.args.out.now) (g.K.Sink.given c.serve_batch-next.new.out) c.serve_batch-next.result
     c.serve_batch-next.ensures.tells c.in-Some.next c.in-Some.is c.serve_batch-next.ensures.store first (g.D.Disk.history c.args.disk.now) (g.D.Disk.history c.serve_batch-next.new.disk)
     c.serve_batch-next.ensures.holds h
 
 pub returns-in-Some-clause-store : goal.returns-in-Some-clause-store
 returns-in-Some-clause-store g c =
-    let below : (state_of c.args.live).batches < most_numbered = omega (arith, c.batches.ensures, c.if-batches-ge-GREATEST_NUMBER.false) in
+    let below : (state_of c.args.live).batches < GREATEST_NUMBER = omega (arith, c.batches.ensures, c.if-batches-ge-GREATEST_NUMBER.false) in
     none_next c.args.live c.new.result.items c.new.ensures.items c.args.line below (g.K.Sink.given c.args.out.now) (g.K.Sink.given c.serve_batch-next.new.out) c.serve_batch-next.result
     c.serve_batch-next.ensures.tells c.in-Some.next c.in-Some.is c.serve_batch-next.ensures.store
 
 pub returns-in-Some-clause-disk : goal.returns-in-Some-clause-disk
 returns-in-Some-clause-disk g c =
-    let below : (state_of c.args.live).batches < most_numbered = omega (arith, c.batches.ensures, c.if-batches-ge-GREATEST_NUMBER.false) in
+    let below : (state_of c.args.live).batches < GREATEST_NUMBER = omega (arith, c.batches.ensures, c.if-batches-ge-GREATEST_NUMBER.false) in
     told_here c.args.live c.new.result.items c.new.ensures.items c.args.line below (g.K.Sink.given c.args.out.now) (g.K.Sink.given c.serve_batch-next.new.out) c.serve_batch-next.result
     c.serve_batch-next.ensures.tells c.in-Some.next c.in-Some.is (λ (n : Live). (g.D.Disk.history c.args.disk.now).faults ≤ (g.D.Disk.history c.serve_batch-next.new.disk).faults)
     c.serve_batch-next.ensures.disk
@@ -120,13 +120,13 @@ returns-in-Some-clause-disk g c =
 
 pub returns-in-None-clause-serves : goal.returns-in-None-clause-serves
 returns-in-None-clause-serves g c =
-    let below : (state_of c.args.live).batches < most_numbered = omega (arith, c.batches.ensures, c.if-batches-ge-GREATEST_NUMBER.false) in
+    let below : (state_of c.args.live).batches < GREATEST_NUMBER = omega (arith, c.batches.ensures, c.if-batches-ge-GREATEST_NUMBER.false) in
     one_cut c.args.live c.new.result.items c.new.ensures.items c.args.line below (g.K.Sink.given c.args.out.now) (g.K.Sink.given c.serve_batch-next.new.out) c.serve_batch-next.result
     c.serve_batch-next.ensures.tells c.why_stopped.result c.in-None.is c.why_stopped.ensures
 
 pub returns-in-None-clause-keeps : goal.returns-in-None-clause-keeps
 returns-in-None-clause-keeps g c = λ ck later d end h.
-    let below : (state_of c.args.live).batches < most_numbered = omega (arith, c.batches.ensures, c.if-batches-ge-GREATEST_NUMBER.false) in
+    let below : (state_of c.args.live).batches < GREATEST_NUMBER = omega (arith, c.batches.ensures, c.if-batches-ge-GREATEST_NUMBER.false) in
     let some : (length (state_of c.args.live).waiting == 0) ≡ false = some_waits (length (state_of c.args.live).waiting) c.requires.some in
     keeps_cut c.args.live c.new.result.items c.new.ensures.items c.args.line below (g.K.Sink.given c.args.out.now) (g.K.Sink.given c.serve_batch-next.new.out) c.serve_batch-next.result
     c.serve_batch-next.ensures.tells some d end (g.D.Disk.history c.args.disk.now) (g.D.Disk.history c.serve_batch-next.new.disk) (c.serve_batch-next.ensures.images ck later h)

@@ -3,17 +3,17 @@ use Rattle.std.specs.List.{All}
 use Rattle.aria_base.specs.Orders.{Database}
 use Rattle.aria_base.specs.Schemas.{IsConsistent}
 use Rattle.aria_base.specs.declared.calls.Request.{Request}
-use Rattle.batch_engine.specs.Engines.{most_numbered}
+use Rattle.aria_base.specs.declared.limits.TheConstants.{GREATEST_NUMBER}
 use Rattle.proc_lang.specs.Catalogs.{Plan, takes}
 use Rattle.store_files.specs.Stores.{next_head}
 use Rattle.serving.proofs.Storing.{carries, rotate_held, rotate_leaves}
 use Rattle.serving.proofs.rotations.rotate.Goals as goal
 
 pub rotate-laid-requires-clause-few : goal.rotate-laid-requires-clause-few
-rotate-laid-requires-clause-few g c = subst (λ (n : ℕ). n ≤ most_numbered) (sym c.batches-batches.ensures) c.ready.ensures.batches_within
+rotate-laid-requires-clause-few g c = subst (λ (n : ℕ). n ≤ GREATEST_NUMBER) (sym c.batches-batches.ensures) c.ready.ensures.batches_within
 
 pub rotate-laid-requires-clause-requests : goal.rotate-laid-requires-clause-requests
-rotate-laid-requires-clause-requests g c = subst (λ (n : ℕ). n ≤ most_numbered) (sym c.requests-requests.ensures) c.ready.ensures.requests_within
+rotate-laid-requires-clause-requests g c = subst (λ (n : ℕ). n ≤ GREATEST_NUMBER) (sym c.requests-requests.ensures) c.ready.ensures.requests_within
 
 pub rotate-laid-requires-clause-rows : goal.rotate-laid-requires-clause-rows
 rotate-laid-requires-clause-rows g c =
