@@ -38,6 +38,7 @@ holds_laid first checkpoint disk plan state (Some store) h = λ images left.
       c = h.c;
       later = h.later;
       reopens = found_now disk store h.c h.later h.holds.stands images left;
+      roomy = h.holds.roomy;
       plan_is = h.holds.plan_is;
       state_is = h.holds.state_is;
       laid = h.laid;

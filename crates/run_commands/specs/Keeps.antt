@@ -1,5 +1,5 @@
 -- What a disk holds while a script runs over it.
-use Rattle.std.specs.Prelude.{◌≡◌, ◌≤◌, ◌<◌, ◌%◌, ℕ, List, length, Option, IfSome}
+use Rattle.std.specs.Prelude.{◌≡◌, ◌≤◌, ◌<◌, ◌%◌, ℕ, List, length, Option, None, IfSome}
 use Rattle.std.specs.Io.KnownBytes.{Appends}
 use Rattle.aria_store.specs.Reopens.{Reopens, Found}
 use Rattle.aria_store.specs.Stands.{Kept}
@@ -10,7 +10,7 @@ use Rattle.image_text.specs.Payloads.{Batch}
 use Rattle.proc_lang.specs.Catalogs.{Plan}
 use Rattle.script_places.specs.declared.deeds.Deed.{Deed}
 use Rattle.script_places.specs.declared.deeds.Deed.TheVariants as deed
-use Rattle.serving.specs.Stored.{GoesOn, HasLines, Holds, ReopensTo, state_behind, told_by}
+use Rattle.serving.specs.Stored.{GoesOn, HasLines, Holds, ReopensTo, crowded, state_behind, told_by}
 use Rattle.slot_images.specs.Images.{Checkpoint}
 use Rattle.run_commands.specs.Bases.{plan_in}
 use Rattle.run_commands.specs.Onces.{Running}
@@ -43,11 +43,12 @@ pub record HoldsState (first checkpoint : ℕ) (disk : History) (plan : Plan) (s
   pub holds : Holds disk plan state store c later
   pub laid : (number : ℕ) → 0 < checkpoint → first < number → number ≤ state.batches → number % checkpoint ≡ 0 → number ≤ c.head.batches
 
--- these four files are the text of this state, by a checkpoint that has what it has in `HoldsState`
+-- these four files are the text of this state, each batch having room, by a checkpoint that has what it has in `HoldsState`
 pub record ReopensLaid (first checkpoint : ℕ) (plan : Plan) (state : State) (images : ℕ → List ℕ) : Type 0 where
   pub c : Checkpoint
   pub later : List Batch
   pub reopens : Reopens images (Found c later)
+  pub roomy : crowded c later ≡ None
   pub plan_is : c.plan ≡ plan
   pub state_is : state_behind c later ≡ state
   pub laid : (number : ℕ) → 0 < checkpoint → first < number → number ≤ state.batches → number % checkpoint ≡ 0 → number ≤ c.head.batches

@@ -145,7 +145,7 @@ module _ (live : Live) (calls : List Call) (may : MayServe live calls) (store : 
       → (Stands old store c later → MayAdd catalog (length calls) c later → Stands new now c (added later live.config.rule live.config.fallback calls))
       → IsHeld new (plan_of live) (next_state live calls) now c (added later live.config.rule live.config.fallback calls)
   logged_holds new now stands =
-      log_held old (plan_of live) (state_of live) store (next_handed live calls) c later here new now (stands here.stands may_here)
+      log_held old (plan_of live) (state_of live) store (next_handed live calls) c later here may.room new now (stands here.stands may_here)
 
   pub logged_leaves : (new : History)
       → (Stands old store c later → MayAdd catalog (length calls) c later
@@ -153,7 +153,7 @@ module _ (live : Live) (calls : List Call) (may : MayServe live calls) (store : 
       → LeavesAll old new (ReopensToEither (plan_of live) (stored_state live) (next_state live calls))
   logged_leaves new all =
       subst (λ (s : Option Kept). LeavesAll old new (ReopensToEither (plan_of live) (told_by s (state_of live)) (next_state live calls))) (sym is)
-      (log_leaves old (plan_of live) (state_of live) store (next_handed live calls) c later here new (all here.stands may_here))
+      (log_leaves old (plan_of live) (state_of live) store (next_handed live calls) c later here may.room new (all here.stands may_here))
 
 -- a database with a store may log where its store goes on
 pub open_store : (live : Live) (store : Kept) → live.store ≡ Some store → (disk : History) → IsLogging disk live → store.files.closed ≡ None

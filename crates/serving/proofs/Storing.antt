@@ -1,5 +1,6 @@
 -- What a store holds is the state of the database, batch by batch.
-use Rattle.std.proofs.Common.{◌≡◌, ◌∙◌, ◌⊎◌, inl, inr, sym, ap, subst, refl, ℕ, ◌+◌, ◌<◌, ◌≤◌, List, [], ◌∷◌, ◌++◌, length, map, Some, arith}
+use Rattle.std.proofs.Common.{◌≡◌, ◌∙◌, ◌⊎◌, inl, inr, sym, ap, subst, refl, ℕ, ◌+◌, ◌<◌, ◌≤◌, nat_lt, Bool, true, false, if◌then◌else◌, List, [], ◌∷◌, ◌++◌, length, map, Option, Some, None, arith}
+use Rattle.std.proofs.lemmas.Bool.Decides.{nat_tests}
 use Rattle.aria_base.specs.declared.calls.Request.{Request}
 use Rattle.aria_base.specs.declared.keys.Key.{Key}
 use Rattle.aria_base.specs.declared.limits.TheConstants.{GREATEST_NUMBER, MOST_REQUESTS}
@@ -20,7 +21,7 @@ use Rattle.aria_store.specs.Records.{requests_after}
 use Rattle.aria_store.specs.Reopens.{Reopens, Found}
 use Rattle.aria_store.specs.Stands.{Kept, Stands, MayAdd, next_checkpoint}
 use Rattle.aria_store.proofs.Founds.{found_now}
-use Rattle.serving.specs.Stored.{IsHeld, LeavesState, ReopensTo, ReopensToEither, batch_of, handed_in, state_at, state_behind, told_by}
+use Rattle.serving.specs.Stored.{IsHeld, LeavesState, ReopensTo, ReopensToEither, batch_of, crowded, crowded_from, handed_in, is_crowded, state_at, state_behind, told_by}
 
 -- ---- batches behind a checkpoint
 
@@ -40,11 +41,25 @@ module _ (tree : Request → Tree Key Cells End) where
   run_added state [] batch = refl
   run_added state (first ∷ later) batch = run_added (step tree state (handed_in first)) later batch
 
+-- a batch that has room behind others that have
+by_room : (full : Bool) (place : ℕ) (rest more : Option ℕ) → (rest ≡ None → more ≡ None) → (if full then Some place else rest) ≡ None
+    → (if full then Some place else more) ≡ None
+by_room true place rest more on none = absurd (cc none)
+by_room false place rest more on none = on none
+
+roomy_added : (plan : Plan) (place : ℕ) (state : State) (later : List Batch) (batch : Batch) → crowded_from plan place state later ≡ None
+    → is_crowded (run (run_of plan) state (map handed_in later)) batch ≡ false → crowded_from plan place state (later ++ batch ∷ []) ≡ None
+roomy_added plan place state [] batch none room = ap (λ (full : Bool). if full then Some place else None) room
+roomy_added plan place state (first ∷ later) batch none room =
+    let After : State = step (run_of plan) state (handed_in first) in
+    by_room (is_crowded state first) place (crowded_from plan (place + 1) After later) (crowded_from plan (place + 1) After (later ++ batch ∷ []))
+        (λ rest. roomy_added plan (place + 1) After later batch rest room) none
+
 -- ---- what is held is what is found
 
 module _ (disk : History) (plan : Plan) (state : State) (store : Kept) (c : Checkpoint) (later : List Batch) (h : IsHeld disk plan state store c later) where
   pub held_reopens : (images : ℕ → List ℕ) → Reopens images (Found c later) → ReopensTo plan state images
-  held_reopens images found = record { c = c; later = later; reopens = found; plan_is = h.plan_is; state_is = h.state_is }
+  held_reopens images found = record { c = c; later = later; reopens = found; roomy = h.roomy; plan_is = h.plan_is; state_is = h.state_is }
 
   pub held_leaves : LeavesState disk plan state
   held_leaves images left = held_reopens images (found_now disk store c later h.stands images left)
@@ -73,15 +88,26 @@ module _ (old : History) (plan : Plan) (state : State) (store : Kept) (handed : 
       ∙ ap (λ (s : State). step (run_of c.plan) s handed) h.state_is
       ∙ ap (λ (p : Plan). step (run_of p) state handed) h.plan_is
 
-  pub log_held : (new : History) (now : Kept) → Stands new now c (later ++ batch_of handed ∷ []) → IsHeld new plan After now c (later ++ batch_of handed ∷ [])
-  log_held new now stands = record { stands = stands; plan_is = h.plan_is; state_is = added_state }
+  abbrev Room : Type 0
+  Room = length state.waiting + length handed.calls ≤ MOST_REQUESTS
 
-  pub log_leaves : (new : History) → LeavesAll old new (λ images. Reopens images (Found c later) ⊎ Reopens images (Found c (later ++ batch_of handed ∷ [])))
+  -- with room beside what waits it has room behind them
+  added_roomy : Room → crowded c (later ++ batch_of handed ∷ []) ≡ None
+  added_roomy room =
+      let waits : (state_behind c later).waiting ≡ state.waiting = ap (λ (s : State). s.waiting) h.state_is in
+      let here : nat_lt MOST_REQUESTS (length state.waiting + length handed.calls) ≡ false = grind (arith, nat_tests, room) in
+      roomy_added c.plan 0 (state_at c) later (batch_of handed) h.roomy
+      (subst (λ (l : List Request). nat_lt MOST_REQUESTS (length l + length handed.calls) ≡ false) (sym waits) here)
+
+  pub log_held : Room → (new : History) (now : Kept) → Stands new now c (later ++ batch_of handed ∷ []) → IsHeld new plan After now c (later ++ batch_of handed ∷ [])
+  log_held room new now stands = record { stands = stands; roomy = added_roomy room; plan_is = h.plan_is; state_is = added_state }
+
+  pub log_leaves : Room → (new : History) → LeavesAll old new (λ images. Reopens images (Found c later) ⊎ Reopens images (Found c (later ++ batch_of handed ∷ [])))
       → LeavesAll old new (ReopensToEither plan (told_by (Some store) state) After)
-  log_leaves new all =
+  log_leaves room new all =
       leaves_more old new (λ images. Reopens images (Found c later) ⊎ Reopens images (Found c (later ++ batch_of handed ∷ []))) (ReopensToEither plan (told_by (Some store) state) After) all (λ images either. elim either [
         | inl was ↦ inl (held_reopens old plan (told_by (Some store) state) store c later h images was)
-        | inr is ↦ inr (record { c = c; later = later ++ batch_of handed ∷ []; reopens = is; plan_is = h.plan_is; state_is = added_state })
+        | inr is ↦ inr (record { c = c; later = later ++ batch_of handed ∷ []; reopens = is; roomy = added_roomy room; plan_is = h.plan_is; state_is = added_state })
       ])
 
 -- ---- the next checkpoint
@@ -106,7 +132,7 @@ module _ (was : Kept) (engine : Between) (config : Config) (plan : Plan) (rows :
   next_state_is = λ i. record { rule = config.rule; percent = config.fallback; rows = r i; waiting = k i; batches = b i; requests = q i }
 
   pub rotate_held : (new : History) (now : Kept) → Stands new now Next [] → (d : Checkpoint) × IsHeld new engine.plan (state_in config engine) now d []
-  rotate_held new now stands = (Next, record { stands = stands; plan_is = p; state_is = next_state_is })
+  rotate_held new now stands = (Next, record { stands = stands; roomy = refl; plan_is = p; state_is = next_state_is })
 
   pub rotate_leaves : (old new : History) (c : Checkpoint) (later : List Batch) → IsHeld old engine.plan (state_in config engine) was c later
       → LeavesAll old new (λ images. Reopens images (Found c later) ⊎ Reopens images (Found Next []))
@@ -114,5 +140,5 @@ module _ (was : Kept) (engine : Between) (config : Config) (plan : Plan) (rows :
   rotate_leaves old new c later h all =
       leaves_more old new (λ images. Reopens images (Found c later) ⊎ Reopens images (Found Next [])) (ReopensTo engine.plan (state_in config engine)) all (λ images either. elim either [
         | inl was_there ↦ held_reopens old engine.plan (state_in config engine) was c later h images was_there
-        | inr is ↦ record { c = Next; later = []; reopens = is; plan_is = p; state_is = next_state_is }
+        | inr is ↦ record { c = Next; later = []; reopens = is; roomy = refl; plan_is = p; state_is = next_state_is }
       ])

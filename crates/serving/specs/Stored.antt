@@ -1,9 +1,10 @@
 -- A database with a store: what its disk holds of it, what four files reopen to, and when a rotation is due.
-use Rattle.std.specs.Prelude.{◌≡◌, ◌⊎◌, ◌≤◌, ◌+◌, ◌%◌, ◌==◌, ◌&&◌, ◌||◌, nat_lt, ℕ, Bool, true, false, List, [], map, length}
+use Rattle.std.specs.Prelude.{◌≡◌, ◌⊎◌, ◌≤◌, ◌+◌, ◌%◌, ◌==◌, ◌&&◌, ◌||◌, nat_lt, ℕ, Bool, true, false, if◌then◌else◌, List, [], ◌∷◌, map, length}
 use Rattle.std.specs.Prelude.{Option, None, Some, option_map, IfSome}
 use Rattle.std.specs.List.{All}
 use Rattle.aria_base.specs.declared.calls.Call.{Call}
-use Rattle.batch_core.specs.Steps.{State, Handed, run}
+use Rattle.aria_base.specs.declared.limits.TheConstants.{MOST_REQUESTS}
+use Rattle.batch_core.specs.Steps.{State, Handed, run, step}
 use Rattle.disk_model.specs.Histories.{History, MayLeave}
 use Rattle.image_text.specs.Exactly.{line_of_call}
 use Rattle.image_text.specs.Payloads.{Batch, payload_text}
@@ -40,17 +41,34 @@ batch_of handed = record { rule = handed.rule; fallback = handed.percent; calls 
 abbrev pub state_behind : Checkpoint → List Batch → State
 state_behind c later = run (run_of c.plan) (state_at c) (map handed_in later)
 
--- these bytes of the four files are the text of this state under this catalogue
+-- there is no room in a batch for these calls beside what waits
+abbrev pub is_crowded : State → Batch → Bool
+is_crowded state batch = nat_lt MOST_REQUESTS (length state.waiting + length batch.calls)
+
+-- The place of the first batch that has no room, where each batch before it was run; none where all have room. The first of these
+-- batches has that place, and finds this state.
+abbrev pub crowded_from : Plan → ℕ → State → List Batch → Option ℕ
+crowded_from plan place state [] = None
+crowded_from plan place state (batch ∷ later) =
+    if is_crowded state batch then Some place else crowded_from plan (place + 1) (step (run_of plan) state (handed_in batch)) later
+
+-- behind a checkpoint
+abbrev pub crowded : Checkpoint → List Batch → Option ℕ
+crowded c later = crowded_from c.plan 0 (state_at c) later
+
+-- these bytes of the four files are the text of this state under this catalogue, and each batch behind the checkpoint has room
 pub record ReopensTo (plan : Plan) (state : State) (images : ℕ → List ℕ) : Type 0 where
   pub c : Checkpoint
   pub later : List Batch
   pub reopens : Reopens images (Found c later)
+  pub roomy : crowded c later ≡ None
   pub plan_is : c.plan ≡ plan
   pub state_is : state_behind c later ≡ state
 
--- This checkpoint with these batches behind it stands on the disk, and is this state under this catalogue.
+-- This checkpoint with these batches behind it, which all have room, stands on the disk, and is this state under this catalogue.
 pub record IsHeld (disk : History) (plan : Plan) (state : State) (store : Kept) (c : Checkpoint) (later : List Batch) : Type 0 where
   pub stands : Stands disk store c later
+  pub roomy : crowded c later ≡ None
   pub plan_is : c.plan ≡ plan
   pub state_is : state_behind c later ≡ state
 

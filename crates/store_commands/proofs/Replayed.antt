@@ -28,13 +28,13 @@ use Rattle.script_course.specs.Served.{Finishes, Serves}
 use Rattle.script_course.specs.declared.stops.Stop.{Stop}
 use Rattle.script_course.specs.declared.stops.Stop.TheVariants as stop
 use Rattle.serving.specs.Lives.{IsRunnable, batch_text, first_state, next_text, plan_of, state_of}
-use Rattle.serving.specs.Stored.{handed_in, state_at}
+use Rattle.serving.specs.Stored.{handed_in, is_crowded, state_at}
 use Rattle.serving.specs.declared.lives.Live.{Live}
 use Rattle.slot_images.specs.Images.{Checkpoint}
 use Rattle.store_files.proofs.Syncs.{rose_later}
 use Rattle.store_files.specs.declared.refusals.StoreRefused.{StoreRefused}
 use Rattle.store_files.specs.declared.refusals.StoreRefused.TheVariants as of_store
-use Rattle.store_openings.specs.Openings.{AreRunnable, MayFollow, ReadsAs, is_crowded, log_in, offset_in}
+use Rattle.store_openings.specs.Openings.{AreRunnable, MayFollow, ReadsAs, log_in, offset_in}
 use Rattle.store_openings.specs.Runs.{IsStepped}
 use Rattle.store_openings.proofs.Fits.{settled}
 use Rattle.store_commands.specs.Replays.{IsAnswered, IsCut, IsHalt, IsOutOf, LeadsTo, crowded_out, out_of, replayed}

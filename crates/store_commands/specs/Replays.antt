@@ -15,11 +15,11 @@ use Rattle.script_course.specs.Served.{Finishes}
 use Rattle.script_course.specs.declared.stops.Stop.{Stop}
 use Rattle.script_course.specs.declared.stops.Stop.TheVariants as stop
 use Rattle.serving.specs.Lives.{batch_text, plan_of, state_of}
-use Rattle.serving.specs.Stored.{handed_in, state_at}
+use Rattle.serving.specs.Stored.{handed_in, is_crowded, state_at}
 use Rattle.serving.specs.declared.lives.Live.{Live}
 use Rattle.store_files.specs.declared.refusals.StoreRefused.{StoreRefused}
 use Rattle.store_files.specs.declared.refusals.StoreRefused.TheVariants as refused
-use Rattle.store_openings.specs.Openings.{is_crowded, log_in, offset_in}
+use Rattle.store_openings.specs.Openings.{log_in, offset_in}
 use Rattle.store_commands.specs.declared.steps.Halt.{Halt}
 use Rattle.store_commands.specs.declared.steps.Halt.TheVariants as halt
 

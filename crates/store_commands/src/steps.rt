@@ -6,8 +6,8 @@ ghost use Rattle.aria_base.specs.Streams.{AppendsFront};
 ghost use Rattle.aria_store.specs.Stands.{batch_in, batches_in};
 ghost use Rattle.script_course.specs.Causes.{IsCause};
 ghost use Rattle.serving.specs.Lives.{IsRunnable, batch_text, plan_of, state_of};
-ghost use Rattle.serving.specs.Stored.{handed_in};
-ghost use Rattle.store_openings.specs.Openings.{AreRunnable, MayFollow, is_crowded};
+ghost use Rattle.serving.specs.Stored.{handed_in, is_crowded};
+ghost use Rattle.store_openings.specs.Openings.{AreRunnable, MayFollow};
 ghost use Rattle.store_openings.specs.Runs.{IsStepped};
 ghost use Rattle.store_commands.specs.Replays.{IsAnswered, IsCut, IsHalt, IsHaltCause};
 

@@ -20,11 +20,11 @@ use Rattle.input_log.specs.declared.logs.Payload.{Payload}
 use Rattle.proc_lang.specs.Catalogs.{Plan, run_of, takes}
 use Rattle.proc_lang.specs.declared.ends.End.{End}
 use Rattle.serving.specs.Lives.{IsNext, IsRunnable, MayServe, first_state, plan_of, state_of}
-use Rattle.serving.specs.Stored.{handed_in}
+use Rattle.serving.specs.Stored.{handed_in, is_crowded}
 use Rattle.serving.specs.declared.lives.Live.{Live}
 use Rattle.slot_images.specs.Images.{Checkpoint}
 use Rattle.slot_images.specs.Said.{IsInOrder}
-use Rattle.store_openings.specs.Openings.{AreRunnable, MayFollow, is_crowded}
+use Rattle.store_openings.specs.Openings.{AreRunnable, MayFollow}
 use Rattle.store_openings.specs.Runs.{IsStepped}
 
 -- ---- a checkpoint

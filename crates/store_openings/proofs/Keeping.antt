@@ -25,7 +25,7 @@ use Rattle.proc_lang.specs.declared.ends.End.{End}
 use Rattle.serving.proofs.Storing.{batches_behind}
 use Rattle.serving.specs.Given.{IsUntold}
 use Rattle.serving.specs.Lives.{IsRunnable, plan_of, state_of}
-use Rattle.serving.specs.Stored.{Holds, HoldsTurned, IsHeld, IsLogging, MayRenew, ReopensTo, handed_in, is_stale, stale_by, state_at, state_behind, told_by, turned, turned_by}
+use Rattle.serving.specs.Stored.{Holds, HoldsTurned, IsHeld, IsLogging, MayRenew, ReopensTo, crowded, crowded_from, handed_in, is_stale, stale_by, state_at, state_behind, told_by, turned, turned_by}
 use Rattle.serving.specs.declared.batches.Given.{Given}
 use Rattle.serving.specs.declared.batches.Given.TheVariants as given
 use Rattle.serving.specs.declared.lives.Live.{Live}
@@ -33,7 +33,7 @@ use Rattle.serving.specs.declared.rotations.TheConstants.{MOST_LOG}
 use Rattle.slot_images.specs.Images.{Checkpoint}
 use Rattle.slot_images.specs.Said.{IsInOrder}
 use Rattle.store_files.specs.Stores.{Rests, slot_in}
-use Rattle.store_openings.specs.Openings.{AreRunnable, LeavesUnwritten, crowded, crowded_from, log_in, offset_at, offset_in}
+use Rattle.store_openings.specs.Openings.{AreRunnable, LeavesUnwritten, log_in, offset_at, offset_in}
 use Rattle.store_openings.specs.Refusals.{IsForGiven, IsRotating}
 use Rattle.store_openings.specs.Runs.{IsFoundAs, IsLook, IsNotFound, IsNotKept, IsNotRun, IsOpenedFrom, IsRerun, IsStoreOf, IsWithStore, LeftOrRun}
 use Rattle.store_openings.specs.declared.engines.Engines.{Engines}
@@ -244,7 +244,7 @@ opened_from disk engines c later live next f k = record {
 
 pub held_found : (disk : History) (store : Kept) (engines : Engines) (c : Checkpoint) (later : List Batch) (live : Live) → IsFoundAs engines c later live
     → Stands disk store c later → IsHeld disk (plan_of live) (state_of live) store c later
-held_found disk store engines c later live f stands = record { stands = stands; plan_is = sym f.plan; state_is = sym f.state }
+held_found disk store engines c later live f stands = record { stands = stands; roomy = f.roomy; plan_is = sym f.plan; state_is = sym f.state }
 
 -- what is held of the database is held of it with its store
 pub holds_kept : (disk kept_disk : History) (checkpoint : ℕ) (live next : Live) → IsWithStore kept_disk checkpoint live next

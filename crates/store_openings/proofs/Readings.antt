@@ -12,13 +12,14 @@ use Rattle.disk_model.specs.Histories.{HasImage, History, LeavesAll, MayLeave, c
 use Rattle.disk_model.proofs.Spans.{leaves_more, leaves_then}
 use Rattle.image_text.specs.Payloads.{Batch}
 use Rattle.input_log.specs.Layout.{log_of}
+use Rattle.serving.specs.Stored.{crowded}
 use Rattle.serving.specs.declared.lives.Live.{Live}
 use Rattle.slot_images.specs.Images.{Checkpoint}
 use Rattle.store_files.specs.Attachments.{ReadsAlike, seen_of}
 use Rattle.store_files.proofs.Syncs.{rose_later}
 use Rattle.store_files.specs.declared.refusals.StoreRefused.{StoreRefused}
 use Rattle.store_files.specs.declared.refusals.StoreRefused.TheVariants as of_store
-use Rattle.store_openings.specs.Openings.{IsFaultOf, IsOpenedAs, IsRefusalOf, LeavesUnwritten, ReadsAs, ReopensToOpened, crowded, log_in, offset_in, opened, opened_at}
+use Rattle.store_openings.specs.Openings.{IsFaultOf, IsOpenedAs, IsRefusalOf, LeavesUnwritten, ReadsAs, ReopensToOpened, log_in, offset_in, opened, opened_at}
 use Rattle.store_openings.specs.Refusals.{IsAttaching, IsFor}
 use Rattle.store_openings.specs.Runs.{IsCrowdAt, IsFoundAs, IsNotFound, LeftOrRun}
 use Rattle.store_openings.specs.declared.engines.Engines.{Engines}

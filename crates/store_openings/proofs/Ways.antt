@@ -5,9 +5,9 @@ use Rattle.batch_core.specs.Steps.{State, run, step}
 use Rattle.image_text.specs.Payloads.{Batch}
 use Rattle.proc_lang.specs.Catalogs.{Plan, run_of}
 use Rattle.serving.specs.Lives.{IsRunnable, plan_of, state_of}
-use Rattle.serving.specs.Stored.{handed_in}
+use Rattle.serving.specs.Stored.{crowded_from, handed_in, is_crowded}
 use Rattle.serving.specs.declared.lives.Live.{Live}
-use Rattle.store_openings.specs.Openings.{AreRunnable, MayFollow, crowded_from, is_crowded}
+use Rattle.store_openings.specs.Openings.{AreRunnable, MayFollow}
 use Rattle.store_openings.specs.Runs.{IsRerun, IsRunAs, IsStepped}
 
 -- from the start on so many of all these batches were run, and had room, and these are left

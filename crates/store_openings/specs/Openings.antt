@@ -1,18 +1,16 @@
 -- What a store comes to when it is opened: the batches behind its checkpoint are run, and one that has no room is damage.
-use Rattle.std.specs.Prelude.{◌≡◌, ℕ, ◌+◌, ◌%◌, ◌<◌, ◌≤◌, nat_lt, Bool, true, if◌then◌else◌, List, [], ◌∷◌, length, Option, None, Some, ⊤}
+use Rattle.std.specs.Prelude.{◌≡◌, ℕ, ◌+◌, ◌%◌, ◌<◌, ◌≤◌, true, List, [], ◌∷◌, length, Option, None, Some, ⊤}
 use Rattle.std.specs.List.{All, slice_get}
 use Rattle.std.specs.Option.{IsSomeAnd}
-use Rattle.aria_base.specs.declared.limits.TheConstants.{MOST_REQUESTS}
 use Rattle.aria_store.specs.Records.{IsWithin}
 use Rattle.aria_store.specs.Reopens.{Reopened, NoStore, Damaged, Found}
-use Rattle.batch_core.specs.Steps.{State, step}
 use Rattle.disk_model.specs.Histories.{History, MayLeave, LeavesAll, current}
 use Rattle.image_text.specs.Payloads.{Batch}
 use Rattle.input_log.specs.Layout.{Log, Ends, Breaks, log_of}
 use Rattle.input_log.specs.declared.logs.Payload.{Payload}
 use Rattle.proc_lang.specs.Catalogs.{Plan, run_of, takes}
 use Rattle.serving.specs.Lives.{plan_of, state_of}
-use Rattle.serving.specs.Stored.{ReopensTo, handed_in, state_at, state_behind}
+use Rattle.serving.specs.Stored.{ReopensTo, crowded, state_behind}
 use Rattle.serving.specs.declared.lives.Live.{Live}
 use Rattle.slot_images.specs.Images.{Checkpoint}
 use Rattle.store_openings.specs.declared.refusals.NotOpened.{NotOpened}
@@ -23,21 +21,6 @@ abbrev pub ReadsAs : History → (ℕ → List ℕ) → Type 0
 ReadsAs disk images = (file : ℕ) → file < 4 → IsSomeAnd (current disk file) (λ f. f.seen ≡ images file)
 
 -- ---- the batches behind a checkpoint
-
--- there is no room in a batch for these calls beside what waits
-abbrev pub is_crowded : State → Batch → Bool
-is_crowded state batch = nat_lt MOST_REQUESTS (length state.waiting + length batch.calls)
-
--- The place of the first batch that has no room, where each batch before it was run; none where all have room. The first of these
--- batches has that place, and finds this state.
-abbrev pub crowded_from : Plan → ℕ → State → List Batch → Option ℕ
-crowded_from plan place state [] = None
-crowded_from plan place state (batch ∷ later) =
-    if is_crowded state batch then Some place else crowded_from plan (place + 1) (step (run_of plan) state (handed_in batch)) later
-
--- behind a checkpoint
-abbrev pub crowded : Checkpoint → List Batch → Option ℕ
-crowded c later = crowded_from c.plan 0 (state_at c) later
 
 -- A batch may be run behind so many batches and requests, where it has room: its calls are of this catalogue, and no number passes the
 -- greatest.

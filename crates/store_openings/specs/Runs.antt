@@ -8,11 +8,11 @@ use Rattle.image_text.specs.Payloads.{Batch}
 use Rattle.input_log.specs.Layout.{log_of}
 use Rattle.proc_lang.specs.Catalogs.{Plan, run_of}
 use Rattle.serving.specs.Lives.{IsRunnable, plan_of, state_of}
-use Rattle.serving.specs.Stored.{IsLogging, ReopensTo, handed_in, state_behind, stored_state, told_by}
+use Rattle.serving.specs.Stored.{IsLogging, ReopensTo, crowded, crowded_from, handed_in, state_behind, stored_state, told_by}
 use Rattle.serving.specs.declared.lives.Live.{Live}
 use Rattle.slot_images.specs.Images.{Checkpoint}
 use Rattle.store_files.specs.Stores.{Rests}
-use Rattle.store_openings.specs.Openings.{crowded, crowded_from, log_in, offset_in}
+use Rattle.store_openings.specs.Openings.{log_in, offset_in}
 use Rattle.store_openings.specs.declared.engines.Engines.{Engines}
 use Rattle.store_openings.specs.declared.refusals.NotOpened.{NotOpened}
 use Rattle.store_openings.specs.declared.refusals.NotOpened.TheVariants as refusal

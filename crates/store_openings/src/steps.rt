@@ -2,7 +2,8 @@
 ghost use Rattle.std.specs.Prelude.{◌≡◌, ◌≤◌, false, IfOk, IfErr};
 ghost use Rattle.aria_store.specs.Stands.{batch_in, batches_in};
 ghost use Rattle.serving.specs.Lives.{IsRunnable, plan_of, state_of};
-ghost use Rattle.store_openings.specs.Openings.{AreRunnable, MayFollow, is_crowded};
+ghost use Rattle.serving.specs.Stored.{is_crowded};
+ghost use Rattle.store_openings.specs.Openings.{AreRunnable, MayFollow};
 ghost use Rattle.store_openings.specs.Runs.{IsHalt, IsRerun, IsStepped};
 
 use aria_base::{MOST_REQUESTS, Memory, Pace};

@@ -3,7 +3,7 @@ use Rattle.std.specs.Vec.Iter.{into_iter_items}
 use Rattle.aria_store.specs.Stands.{batch_in, batches_in}
 use Rattle.image_text.specs.declared.payloads.Logged.{Logged}
 use Rattle.serving.specs.Lives.{state_of}
-use Rattle.store_openings.specs.Openings.{is_crowded}
+use Rattle.serving.specs.Stored.{is_crowded}
 use Rattle.store_commands.specs.Replays.{IsHalt}
 use Rattle.store_commands.specs.declared.steps.Halt.TheVariants as halt
 use Rattle.store_commands.proofs.Replayed.{IsOnWay, on_next, on_stop}
