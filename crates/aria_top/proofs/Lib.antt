@@ -2,3 +2,4 @@ pub mod Asked
 pub mod Ranges
 pub mod Stopped
 pub mod OnStores
+pub mod Alike

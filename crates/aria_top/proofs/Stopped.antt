@@ -1,5 +1,5 @@
 -- What a command that stopped comes to, by its status.
-use Rattle.std.proofs.Common.{◌≡◌, ◌∙◌, sym, ℕ, List, Option, Some, None, ◌⊎◌, arith}
+use Rattle.std.proofs.Common.{◌≡◌, ◌∙◌, sym, ℕ, List, Option, Some, None, ◌⊎◌, inl, inr, arith}
 use Rattle.std.specs.Option.{IfSome}
 use Rattle.std.specs.Io.KnownBytes.{Appends}
 use Rattle.aria_base.specs.Streams.{AppendsFront}
@@ -62,12 +62,18 @@ no_source stop.NoDisk sink disk h = h
 no_source stop.NoRead sink disk h = h
 
 module _ (source sink : Type 0) (status : ℕ) where
+  pub done_cut : (why : Stop) → status ≡ status_of why → IsReadCause why source sink ⊥ → (status ≡ 0) ⊎ (status ≡ 1) ⊎ (status ≡ 3) ⊎ (status ≡ 4) ⊎ (status ≡ 7)
+  done_cut stop.Refused is h = inr (inl is)
+  done_cut stop.NoMemory is h = inr (inr (inr (inr is)))
+  done_cut stop.NoWrite is h = inr (inr (inr (inl is)))
+  done_cut stop.NoDisk is h = absurd h
+  done_cut stop.NoRead is h = inr (inr (inl is))
+
   pub others_cut : (why : Stop) → status ≡ status_of why → IsReadCause why source sink ⊥ → IsEnded status ⊎ (status ≡ 1) ⊎ (status ≡ 3) ⊎ (status ≡ 4) ⊎ (status ≡ 7)
-  others_cut stop.Refused is h = grind (arith, is)
-  others_cut stop.NoMemory is h = grind (arith, is)
-  others_cut stop.NoWrite is h = grind (arith, is)
-  others_cut stop.NoDisk is h = absurd h
-  others_cut stop.NoRead is h = grind (arith, is)
+  others_cut why is h = elim (done_cut why is h) [
+    | inl done ↦ inl (inl done)
+    | inr other ↦ inr other
+  ]
 
   pub read_cut : (why : Stop) → status ≡ status_of why → IsReadCause why source sink ⊥ → status ≡ 3 → source
   read_cut stop.Refused is h e = absurd (omega (arith, is, e))

@@ -1,5 +1,5 @@
 -- What the program prints, and how it ends.
-use Rattle.std.specs.Prelude.{ℕ, List, ◌++◌, Option, Some, None, option_map}
+use Rattle.std.specs.Prelude.{◌≡◌, ℕ, List, ◌++◌, Option, Some, None, option_map}
 use Rattle.answer_text.specs.Notices.{refused_text}
 use Rattle.answer_text.specs.declared.notices.Refused.TheVariants.{Usage}
 use Rattle.audit_command.specs.Audits as audit
@@ -24,7 +24,7 @@ use Rattle.script_course.specs.Served.{IsToldOf}
 use Rattle.script_course.specs.declared.statuses.TheConstants.{DONE, USAGE}
 use Rattle.tpcc_audit.specs.Conditions.{audited}
 use Rattle.tpcc_audit.specs.declared.findings.Audit.{Audit}
-use Rattle.aria_top.specs.Tasks.{task_in}
+use Rattle.aria_top.specs.Tasks.{alone, task_in}
 use Rattle.aria_top.specs.declared.tasks.Task.{Task}
 use Rattle.aria_top.specs.declared.tasks.Task.TheVariants as task
 
@@ -70,3 +70,10 @@ IsToldFor (Some (task.Run settings)) images found left rest old new = IsToldOver
 IsToldFor (Some task.Audit) images found left rest old new = IsToldOf audit.told_of left rest old new
 IsToldFor (Some task.Check) images found left rest old new = IsToldOf check.told_of left rest old new
 IsToldFor other images found left rest old new = ⊥
+
+-- command lines that ask for the same but for workers, replicas and batons print the same
+abbrev pub LinesAreOne : Type 0
+LinesAreOne =
+    (first second : List (List ℕ)) (left : Option (List ℕ)) (images : ℕ → List ℕ) (found : Reopened)
+    → option_map alone (task_in first) ≡ option_map alone (task_in second)
+    → out_for first left images found ≡ out_for second left images found

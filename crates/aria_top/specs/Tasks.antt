@@ -62,3 +62,18 @@ uses_disk (Some (task.Init settings)) = true
 uses_disk (Some (task.Run settings)) = true
 uses_disk (Some (task.Replay settings)) = true
 uses_disk other = false
+
+-- whether it ends in a finding, which may be that something fails
+abbrev pub finds : Option Task → Bool
+finds (Some (task.Bench settings)) = true
+finds (Some task.Audit) = true
+finds (Some task.Check) = true
+finds other = false
+
+-- the same task by one worker on one replica, without batons
+abbrev pub alone : Task → Task
+alone (task.Once settings) = task.Once (record settings { workers = 1; replicas = 1; batons = false })
+alone (task.Run settings) = task.Run (record settings { workers = 1; replicas = 1; batons = false })
+alone (task.Replay settings) = task.Replay (record settings { workers = 1; replicas = 1; batons = false })
+alone (task.Bench settings) = task.Bench (record settings { workers = 1; replicas = 1; batons = false })
+alone other = other

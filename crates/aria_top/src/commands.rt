@@ -26,7 +26,7 @@ use std::alloc::Global;
 use std::thread::Threads;
 
 /// Runs `once`, and answers its status.
-#[tactic(auto, using(crate::proofs::Stopped::answered_end, crate::proofs::Stopped::front_end, crate::proofs::Stopped::front_cut, crate::proofs::Stopped::answered_cut, crate::proofs::Stopped::others_cut, crate::proofs::Stopped::read_cut, crate::proofs::Stopped::write_cut, crate::proofs::Stopped::never_ended, crate::proofs::Stopped::told_cut))]
+#[tactic(auto, using(crate::proofs::Stopped::answered_end, crate::proofs::Stopped::front_end, crate::proofs::Stopped::front_cut, crate::proofs::Stopped::answered_cut, crate::proofs::Stopped::done_cut, crate::proofs::Stopped::read_cut, crate::proofs::Stopped::write_cut, crate::proofs::Stopped::never_ended, crate::proofs::Stopped::told_cut))]
 pub fn run_once<S: Source, K: Sink, D: Disk, P: Pace + Sync, R: Threads + Sync>(
     rt: &R,
     alloc: Global,
@@ -40,7 +40,7 @@ pub fn run_once<S: Source, K: Sink, D: Disk, P: Pace + Sync, R: Threads + Sync>(
     ensures answered { IsAnswered result → IfSome (S.left input.old)
         (λ text. (result ≡ (out_of settings.now text).status) × Appends (K.given out.old) (K.given out.new) (out_of settings.now text).bytes) }
     ensures front { IfSome (S.left input.old) (λ text. AppendsFront (K.given out.old) (K.given out.new) (out_of settings.now text).bytes) }
-    ensures others { IsEnded result ⊎ (result ≡ REFUSED) ⊎ (result ≡ READ_FAULT) ⊎ (result ≡ WRITE_FAULT) ⊎ (result ≡ NO_MEMORY) }
+    ensures others { (result ≡ DONE) ⊎ (result ≡ REFUSED) ⊎ (result ≡ READ_FAULT) ⊎ (result ≡ WRITE_FAULT) ⊎ (result ≡ NO_MEMORY) }
     ensures read { result ≡ READ_FAULT → Rose (S.faults input.old) (S.faults input.new) }
     ensures write { result ≡ WRITE_FAULT → Rose (K.faults out.old) (K.faults out.new) }
     ensures end { IsEnded result → IsAtEnd (S.left input.new) }

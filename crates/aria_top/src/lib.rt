@@ -20,6 +20,7 @@
 #![tactic(auto)]
 
 mod commands;
+mod laws;
 mod stores;
 mod summaries;
 mod tasks;

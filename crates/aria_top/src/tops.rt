@@ -4,29 +4,34 @@ ghost use Rattle.std.specs.Io.KnownBytes.{Appends, IsAtEnd};
 ghost use Rattle.aria_base.specs.Faults.{Rose};
 ghost use Rattle.aria_base.specs.Streams.{AppendsFront};
 ghost use Rattle.command_words.specs.declared.settings.Once.{Once};
-ghost use Rattle.aria_top.specs.Out.{out_for, out_of_task, IsToldFor};
+ghost use Rattle.aria_top.specs.Out.{out_for, out_of_task, IsToldFor, LinesAreOne};
 ghost use Rattle.aria_top.specs.Statuses.{IsAnswered, IsEnded};
 ghost use Rattle.aria_store.specs.Reopens.{Reopened};
 ghost use Rattle.aria_top.specs.Disks.{LeavesDisk, Sees};
-ghost use Rattle.aria_top.specs.Tasks.{opens, reads, task_in, uses_disk, IsInRange};
+ghost use Rattle.aria_top.specs.Tasks.{finds, opens, reads, task_in, uses_disk, IsInRange};
 ghost use Rattle.answer_text.specs.Notices.{refused_text};
 ghost use Rattle.answer_text.specs.declared.notices.Refused.TheVariants.{Usage};
-ghost use Rattle.run_commands.specs.Outs.{AreOne, IsAlike};
-ghost use Rattle.run_commands.specs.Serial.{EachIsSerial, EachRunIsSerial};
+ghost use Rattle.run_commands.specs.Serial.{EachIsSerial, EachReplayIsSerial, EachRunIsSerial};
 
 use crate::commands::{run_audit, run_bench, run_check, run_gen, run_once};
+use crate::laws::lines_are_one;
 use crate::stores::{run_batches, run_init, run_replay};
 use crate::tasks::{Task, read_task};
 use answer_text::{Refused, refused_line};
 use aria_base::{Memory, Pace, Sink, Source};
 use disk_model::Disk;
-use run_commands::{each_is_serial, each_run_is_serial, one_output};
-use script_course::{DISK_FAULT, DONE, NO_MEMORY, READ_FAULT, STORE_REFUSED, USAGE, WRITE_FAULT};
+use run_commands::{each_is_serial, each_replay_is_serial, each_run_is_serial};
+use script_course::{
+    DISK_FAULT, FAILS, NO_MEMORY, READ_FAULT, REFUSED, STORE_REFUSED, USAGE, WRITE_FAULT,
+};
 use std::alloc::Global;
 use std::thread::Threads;
 
 /// Runs the command that the words are, without the program's name, from the input's bytes to the output's,
-/// and answers its status. Commands that the program does not have yet are refused as words that are none.
+/// and answers its status: `DONE`; `REFUSED` for a line of the input; `USAGE` for the words; `READ_FAULT`,
+/// `WRITE_FAULT` and `DISK_FAULT` where the source, the sink or the disk failed; `STORE_REFUSED` where there
+/// is no store, one in the way or a damaged one; `NO_MEMORY`; `FAILS` where an audit or a report does not
+/// hold. Commands that the program does not have yet are refused as words that are none.
 /// Those on a store have it on the disk, and all others leave the disk alone. No answer depends on the pace,
 /// the workers and the replicas.
 pub fn aria<S: Source, K: Sink, D: Disk, P: Pace + Sync, R: Threads + Sync>(
@@ -58,6 +63,12 @@ pub fn aria<S: Source, K: Sink, D: Disk, P: Pace + Sync, R: Threads + Sync>(
     ensures untouched { reads (task_in (map string_bytes words.now)) ≡ false → input.new ≡ input.old }
     ensures usage { result ≡ USAGE → task_in (map string_bytes words.now) ≡ None }
 
+    // Only what is read is refused, only a finding fails, and only a command on a store refuses one, whatever
+    // the source and the disk tell.
+    ensures refuses { result ≡ REFUSED → reads (task_in (map string_bytes words.now)) ≡ true }
+    ensures fails { result ≡ FAILS → finds (task_in (map string_bytes words.now)) ≡ true }
+    ensures unopened { result ≡ STORE_REFUSED → uses_disk (task_in (map string_bytes words.now)) ≡ true }
+
     // Without a store that can be opened, nothing is read for a command that needs one.
     ensures unread { result ≡ STORE_REFUSED → opens (task_in (map string_bytes words.now)) ≡ true → input.new ≡ input.old }
 
@@ -65,16 +76,19 @@ pub fn aria<S: Source, K: Sink, D: Disk, P: Pace + Sync, R: Threads + Sync>(
     ensures disk { uses_disk (task_in (map string_bytes words.now)) ≡ false → disk.new ≡ disk.old }
     ensures leaves { (images : ℕ → List ℕ) (found : Reopened) → Sees (task_in (map string_bytes words.now)) (D.history disk.old) images found → LeavesDisk (task_in (map string_bytes words.now)) images found (S.left input.old) (D.history disk.old) (D.history disk.new) (K.given out.old) (K.given out.new) result }
 
-    // Each batch of a script, and each that drains it, is serialised by the order that its answer prints.
+    // Each batch of a script, each that drains it, and each of a log is serialised by the order that its answer
+    // prints.
     ensures serial { (settings : Once) (text : List ℕ) → EachIsSerial settings text }
     ensures stored { EachRunIsSerial }
+    ensures replayed { EachReplayIsSerial }
 
     // Workers, replicas and batons have no say in what is printed.
-    ensures alike { (first second : Once) (text : List ℕ) → IsAlike first second → AreOne first second text }
+    ensures alike { LinesAreOne }
 {
     each_is_serial();
     each_run_is_serial();
-    one_output();
+    each_replay_is_serial();
+    lines_are_one();
     match read_task(alloc, words) {
         Ok(Some(task)) => return run_task(rt, alloc, &task, input, out, disk, pace),
         Ok(None) => return refuse_usage(out),
@@ -104,6 +118,9 @@ fn run_task<S: Source, K: Sink, D: Disk, P: Pace + Sync, R: Threads + Sync>(
     ensures end { IsEnded result → reads (Some task.now) ≡ true → IsAtEnd (S.left input.new) }
     ensures told { (images : ℕ → List ℕ) (found : Reopened) → Sees (Some task.now) (D.history disk.old) images found → result ≡ READ_FAULT → IsToldFor (Some task.now) images found (S.left input.old) (S.left input.new) (K.given out.old) (K.given out.new) }
     ensures untouched { reads (Some task.now) ≡ false → input.new ≡ input.old }
+    ensures refuses { result ≡ REFUSED → reads (Some task.now) ≡ true }
+    ensures fails { result ≡ FAILS → finds (Some task.now) ≡ true }
+    ensures unopened { result ≡ STORE_REFUSED → uses_disk (Some task.now) ≡ true }
     ensures unread { result ≡ STORE_REFUSED → opens (Some task.now) ≡ true → input.new ≡ input.old }
     ensures disk { uses_disk (Some task.now) ≡ false → disk.new ≡ disk.old }
     ensures leaves { (images : ℕ → List ℕ) (found : Reopened) → Sees (Some task.now) (D.history disk.old) images found → LeavesDisk (Some task.now) images found (S.left input.old) (D.history disk.old) (D.history disk.new) (K.given out.old) (K.given out.new) result }

@@ -25,7 +25,7 @@ use Rattle.run_commands.specs.Bases.{counts_of, plan_in}
 use Rattle.run_commands.specs.Onces.{Doing, done, done_by, handed_in, on_end, on_line}
 use Rattle.run_commands.specs.Outs.{AreOne, IsAlike, is_each, no_line, start_by, start_of, told_of}
 use Rattle.run_commands.specs.Resumes.{start_over, told_from}
-use Rattle.run_commands.specs.Serial.{EachIsSerial, EachRunIsSerial, GoesSerially}
+use Rattle.run_commands.specs.Serial.{EachIsSerial, EachReplayIsSerial, EachRunIsSerial, GoesSerially}
 
 abbrev Counted : Course Doing → Type 0
 Counted (Goes bytes d) = IsNumbered d.state
@@ -108,3 +108,7 @@ each_run_is_serial settings files c later text reopens =
     let begun : Counted (Goes [] d) = run_numbered c.plan (state_at c) later (numbered_opened c later (opened_of files) reopens) in
     serially (told_from d text)
     (behind_counted (at_text d.state.batches) (told on_line no_line d text) (fault_counted (with_lines on_line (Goes [] d) s.lines) s.fault (lines_counted (Goes [] d) s.lines begun)))
+
+pub each_replay_is_serial : EachReplayIsSerial
+each_replay_is_serial files c later reopens =
+    all_serial (run_of c.plan) (state_at c) (map handed_batch later) (numbered_opened c later (opened_of files) reopens)

@@ -1,5 +1,5 @@
 -- The promise of the printed order.
-use Rattle.std.specs.Prelude.{ℕ, List}
+use Rattle.std.specs.Prelude.{ℕ, List, map}
 use Rattle.aria_store.specs.Reopens.{Found, Reopens}
 use Rattle.batch_core.specs.Serial.{AllSerial}
 use Rattle.batch_core.specs.Steps.{Handed}
@@ -8,6 +8,7 @@ use Rattle.command_words.specs.declared.settings.Run.{Run}
 use Rattle.image_text.specs.Payloads.{Batch}
 use Rattle.proc_lang.specs.Catalogs.{run_of}
 use Rattle.script_course.specs.Courses.{Course, Goes, Stops}
+use Rattle.serving.specs.Stored.{handed_in, state_at}
 use Rattle.slot_images.specs.Images.{Checkpoint}
 use Rattle.run_commands.specs.Bases.{plan_in}
 use Rattle.run_commands.specs.Onces.{Doing}
@@ -27,4 +28,12 @@ EachIsSerial settings text = GoesSerially (told_of settings text)
 
 -- and behind those of every text over a store, whatever four files it stands in
 abbrev pub EachRunIsSerial : Type 0
-EachRunIsSerial = (settings : Run) (files : ℕ → List ℕ) (c : Checkpoint) (later : List Batch) (text : List ℕ) → Reopens files (Found c later) → GoesSerially (told_from (start_over settings c later) text)
+EachRunIsSerial =
+    (settings : Run) (files : ℕ → List ℕ) (c : Checkpoint) (later : List Batch) (text : List ℕ) → Reopens files (Found c later)
+    → GoesSerially (told_from (start_over settings c later) text)
+
+-- and so are the batches of the log, which `replay` answers
+abbrev pub EachReplayIsSerial : Type 0
+EachReplayIsSerial =
+    (files : ℕ → List ℕ) (c : Checkpoint) (later : List Batch) → Reopens files (Found c later)
+    → AllSerial (run_of c.plan) (state_at c) (map handed_in later)

@@ -2,7 +2,7 @@
 ghost use Rattle.std.specs.Prelude.{ℕ, List};
 ghost use Rattle.command_words.specs.declared.settings.Once.{Once};
 ghost use Rattle.run_commands.specs.Outs.{AreOne, IsAlike};
-ghost use Rattle.run_commands.specs.Serial.{EachIsSerial, EachRunIsSerial};
+ghost use Rattle.run_commands.specs.Serial.{EachIsSerial, EachReplayIsSerial, EachRunIsSerial};
 
 /// Each batch of a script is serialised by the order that its answer prints, whatever came before it.
 pub fn each_is_serial()
@@ -12,6 +12,11 @@ pub fn each_is_serial()
 /// So is each batch of a script over a store, whatever the store had before.
 pub fn each_run_is_serial()
     ensures { EachRunIsSerial }
+{}
+
+/// So is each batch of a store's log, which is answered again.
+pub fn each_replay_is_serial()
+    ensures { EachReplayIsSerial }
 {}
 
 /// Settings that differ in workers, replicas and batons alone tell the same and print the same.

@@ -1,5 +1,5 @@
 -- The files that `init` leaves, and runs over them that are stopped.
-use Rattle.std.proofs.Common.{◌≡◌, ◌∙◌, ap, refl, ℕ, false, List, [], Some, subst}
+use Rattle.std.proofs.Common.{◌≡◌, ◌∙◌, ap, refl, ℕ, false, List, [], Some, option_map, subst}
 use Rattle.aria_base.specs.Orders.{Database}
 use Rattle.aria_store.proofs.Founds.{found_now, reopens_once}
 use Rattle.aria_store.specs.Reopens.{Found, Reopened, Reopens}
@@ -8,13 +8,14 @@ use Rattle.command_words.specs.declared.settings.Init.{Init}
 use Rattle.disk_model.specs.Histories.{History, MayLeave}
 use Rattle.proc_lang.specs.Catalogs.{Plan}
 use Rattle.script_course.specs.Courses.{Out}
+use Rattle.store_openings.proofs.Readings.{opened_roomy}
 use Rattle.store_openings.specs.Openings.{opened}
 use Rattle.run_commands.specs.Outs.{is_each}
-use Rattle.run_commands.specs.Resumes.{held_over_all, out_over, resumed}
+use Rattle.run_commands.specs.Resumes.{held_over_all, out_from, out_over, resumed}
 use Rattle.resume_laws.specs.Resumptions.{EveryStopResumes, later_than}
 use Rattle.store_commands.specs.Inits.{IsMadeOf, first_checkpoint}
 use Rattle.store_laws.proofs.Held.{script_held}
-use Rattle.store_laws.specs.OneRuns.{HoldsAs, FilesAreOneRun, StoppedRunsAreOneRun, new_state}
+use Rattle.store_laws.specs.OneRuns.{HoldsAs, FilesAreOneRun, LeftRunsOn, StoppedRunsAreOneRun, new_state}
 use Rattle.store_laws.proofs.Together.{script_is_one_run}
 
 -- they read as the first checkpoint without batches, and as nothing else
@@ -45,3 +46,10 @@ stopped_runs_are_one_run every_stop_resumes made settings whole alike head scrip
           (script_held (resumed each values.0 second) ends.end script ends.printed refl ends.runs);
       answered = ends.answered ∙ ap (λ (l : List (ℕ × List ℕ)). later_than second.batches l) one.answered;
     }
+
+pub left_runs_on : LeftRunsOn
+left_runs_on plan state images is found reads settings left =
+    let same : found ≡ Found is.c is.later = reopens_once images found (Found is.c is.later) reads is.reopens in
+    ap (λ (f : Reopened). out_over settings (opened images f) left) same
+    ∙ ap (λ (f : Reopened). out_over settings f left) (opened_roomy images is.c is.later is.roomy)
+    ∙ (λ i. option_map (out_from settings.drain (resumed (is_each settings.listing) (is.plan_is i) (is.state_is i))) left)

@@ -1,5 +1,5 @@
 -- A store's life from its head on, and one run in memory of the head and the script.
-use Rattle.std.specs.Prelude.{◌≡◌, ◌≢◌, ◌≤◌, ◌++◌, ℕ, false, true, List, [], length, Some}
+use Rattle.std.specs.Prelude.{◌≡◌, ◌≢◌, ◌≤◌, ◌++◌, ℕ, false, true, List, [], length, Option, Some, option_map}
 use Rattle.answer_text.specs.Notices.{at_text}
 use Rattle.aria_base.specs.Orders.{Database}
 use Rattle.aria_store.specs.Reopens.{Reopened, Reopens}
@@ -13,7 +13,7 @@ use Rattle.script_course.specs.Courses.{Goes, out_behind, told_whole}
 use Rattle.script_course.specs.declared.statuses.TheConstants.{DONE}
 use Rattle.script_text.specs.Lines.{scan}
 use Rattle.serving.specs.Lives.{no_plan}
-use Rattle.serving.specs.Stored.{state_at}
+use Rattle.serving.specs.Stored.{ReopensTo, state_at}
 use Rattle.store_openings.specs.Openings.{opened}
 use Rattle.run_commands.specs.Onces.{Doing, on_line}
 use Rattle.run_commands.specs.Outs.{is_each, no_line, out_of, start_of}
@@ -128,3 +128,13 @@ StoppedRunsAreOneRun =
     → (head script : List ℕ) (values : Plan × Database) → AreRight whole head script values
     → (between : List State) (second : State) → AreStopped (is_each settings.listing) values.0 script (new_state made values) between second
     → EndsAsOneRun settings whole head script values second
+
+-- ---- by the files again
+
+-- Whatever files a stop leaves that reopen to a state, `run` opens them and prints what its script comes to over that state.
+abbrev pub LeftRunsOn : Type 0
+LeftRunsOn =
+    (plan : Plan) (state : State) (images : ℕ → List ℕ) → ReopensTo plan state images → (found : Reopened) → Reopens images found
+    → (settings : Run) (left : Option (List ℕ))
+    → out_over settings (opened images found) left
+      ≡ option_map (out_from settings.drain (resumed (is_each settings.listing) plan state)) left

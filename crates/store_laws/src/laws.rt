@@ -1,5 +1,5 @@
 // The laws. Each is the contract of a function that does nothing, or only calls a law: a caller has it after the call.
-ghost use Rattle.store_laws.specs.OneRuns.{FilesAreOneRun, RunIsRight, ScriptIsOneRun, StoppedRunsAreOneRun};
+ghost use Rattle.store_laws.specs.OneRuns.{FilesAreOneRun, LeftRunsOn, RunIsRight, ScriptIsOneRun, StoppedRunsAreOneRun};
 
 use resume_laws::every_stop_resumes;
 
@@ -43,3 +43,10 @@ pub fn stopped_runs_are_one_run()
 {
     every_stop_resumes();
 }
+
+/// What a stop leaves is run on. Four files that reopen to a state, as a stop of `run` leaves them, are opened
+/// by the next `run`, which prints what its script comes to over that state. So the states of the law above are
+/// those of files, in whatever images.
+pub fn left_runs_on()
+    ensures { LeftRunsOn }
+{}

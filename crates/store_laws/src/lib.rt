@@ -5,4 +5,6 @@
 
 mod laws;
 
-pub use laws::{files_are_one_run, run_is_right, script_is_one_run, stopped_runs_are_one_run};
+pub use laws::{
+    files_are_one_run, left_runs_on, run_is_right, script_is_one_run, stopped_runs_are_one_run,
+};

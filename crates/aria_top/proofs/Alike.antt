@@ -1,0 +1,66 @@
+-- Workers, replicas and batons have no say in what a command line prints.
+use Rattle.std.proofs.Common.{◌≡◌, ◌∙◌, sym, ap, refl, ℕ, false, List, Option, Some, None, option_map}
+use Rattle.aria_store.specs.Reopens.{Reopened, NoStore, Damaged, Found}
+use Rattle.command_words.specs.declared.settings.Bench.{Bench}
+use Rattle.command_words.specs.declared.settings.Load.{Load}
+use Rattle.command_words.specs.declared.settings.Load.TheVariants as load
+use Rattle.command_words.specs.declared.settings.Once.{Once}
+use Rattle.command_words.specs.declared.settings.Replay.{Replay}
+use Rattle.command_words.specs.declared.settings.Run.{Run}
+use Rattle.run_commands.specs.Outs.{out_of}
+use Rattle.run_commands.specs.Resumes.{out_over}
+use Rattle.script_course.specs.Courses.{Out}
+use Rattle.store_commands.specs.Replays as replay
+use Rattle.store_openings.specs.Openings.{opened}
+use Rattle.aria_top.specs.Out.{LinesAreOne, bench_by, out_by, out_of_task}
+use Rattle.aria_top.specs.Tasks.{alone, task_in}
+use Rattle.aria_top.specs.declared.tasks.Task.{Task}
+use Rattle.aria_top.specs.declared.tasks.Task.TheVariants as task
+
+-- ---- each kind of settings
+
+once_alone : (settings : Once) (left : Option (List ℕ))
+    → option_map (out_of settings) left ≡ option_map (out_of (record settings { workers = 1; replicas = 1; batons = false })) left
+once_alone settings None = refl
+once_alone settings (Some text) = refl
+
+run_alone : (settings : Run) (found : Reopened) (left : Option (List ℕ))
+    → out_over settings found left ≡ out_over (record settings { workers = 1; replicas = 1; batons = false }) found left
+run_alone settings NoStore left = refl
+run_alone settings (Damaged file at) left = refl
+run_alone settings (Found c later) None = refl
+run_alone settings (Found c later) (Some text) = refl
+
+replay_alone : (settings : Replay) (images : ℕ → List ℕ) (found : Reopened)
+    → replay.out_of settings images found ≡ replay.out_of (record settings { workers = 1; replicas = 1; batons = false }) images found
+replay_alone settings images NoStore = refl
+replay_alone settings images (Damaged file at) = refl
+replay_alone settings images (Found c later) = refl
+
+bench_alone : (kind : Load) (settings : Bench) → bench_by kind settings ≡ bench_by kind (record settings { workers = 1; replicas = 1; batons = false })
+bench_alone load.Ycsb settings = refl
+bench_alone load.Tpcc settings = refl
+
+-- ---- each task
+
+task_alone : (t : Task) (left : Option (List ℕ)) (images : ℕ → List ℕ) (found : Reopened)
+    → out_of_task t left images found ≡ out_of_task (alone t) left images found
+task_alone (task.Once settings) left images found = once_alone settings left
+task_alone (task.Init settings) left images found = refl
+task_alone (task.Run settings) left images found = run_alone settings (opened images found) left
+task_alone (task.Replay settings) left images found = ap (λ (o : Out). Some o) (replay_alone settings images found)
+task_alone (task.Gen settings) left images found = refl
+task_alone (task.Bench settings) left images found = ap (λ (o : Out). Some o) (bench_alone settings.workload.kind settings)
+task_alone task.Audit left images found = refl
+task_alone task.Check left images found = refl
+
+asked_alone : (o : Option Task) (left : Option (List ℕ)) (images : ℕ → List ℕ) (found : Reopened)
+    → out_by o left images found ≡ out_by (option_map alone o) left images found
+asked_alone None left images found = refl
+asked_alone (Some t) left images found = task_alone t left images found
+
+pub lines_are_one : LinesAreOne
+lines_are_one first second left images found same =
+    asked_alone (task_in first) left images found
+    ∙ ap (λ (o : Option Task). out_by o left images found) same
+    ∙ sym (asked_alone (task_in second) left images found)
