@@ -53,7 +53,7 @@ roomy_added plan place state [] batch none room = ap (λ (full : Bool). if full 
 roomy_added plan place state (first ∷ later) batch none room =
     let After : State = step (run_of plan) state (handed_in first) in
     by_room (is_crowded state first) place (crowded_from plan (place + 1) After later) (crowded_from plan (place + 1) After (later ++ batch ∷ []))
-        (λ rest. roomy_added plan (place + 1) After later batch rest room) none
+    (λ rest. roomy_added plan (place + 1) After later batch rest room) none
 
 -- ---- what is held is what is found
 

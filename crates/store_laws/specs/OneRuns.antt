@@ -137,4 +137,4 @@ LeftRunsOn =
     (plan : Plan) (state : State) (images : ℕ → List ℕ) → ReopensTo plan state images → (found : Reopened) → Reopens images found
     → (settings : Run) (left : Option (List ℕ))
     → out_over settings (opened images found) left
-      ≡ option_map (out_from settings.drain (resumed (is_each settings.listing) plan state)) left
+    ≡ option_map (out_from settings.drain (resumed (is_each settings.listing) plan state)) left
