@@ -49,8 +49,38 @@ const BEHIND_ORDER: [Row; 7] = [
     ),
 ];
 
-/// Whole inputs without an order: no rows, and sums past 64 bits.
-const WHOLE: [Row; 4] = [
+/// One order and one payment by name in one district. The name has four customers, and the second of them
+/// by first names paid. Of the 500 bytes of the old text the first 485 are left, behind what was put there.
+const BY_NAME: &str = concat!(
+    "catalog tpcc\n",
+    "row warehouse 1 = 500 32500\n",
+    "row district 1 1 = 700 32500 3\n",
+    "row customer 1 1 1 = 7 2 1 1000 -3500 3500 2 \"1 1 1 1 1 2500 ",
+    "xxxxxxxxxxxxxxxxxxxxxxxxxxxxxxxxxxxxxxxxxxxxxxxxxxxxxxxxxxxxxxxxxxxxxxxxxxxxxxxxxxxxxxxxxxxxxxxxx",
+    "xxxxxxxxxxxxxxxxxxxxxxxxxxxxxxxxxxxxxxxxxxxxxxxxxxxxxxxxxxxxxxxxxxxxxxxxxxxxxxxxxxxxxxxxxxxxxxxxx",
+    "xxxxxxxxxxxxxxxxxxxxxxxxxxxxxxxxxxxxxxxxxxxxxxxxxxxxxxxxxxxxxxxxxxxxxxxxxxxxxxxxxxxxxxxxxxxxxxxxx",
+    "xxxxxxxxxxxxxxxxxxxxxxxxxxxxxxxxxxxxxxxxxxxxxxxxxxxxxxxxxxxxxxxxxxxxxxxxxxxxxxxxxxxxxxxxxxxxxxxxx",
+    "xxxxxxxxxxxxxxxxxxxxxxxxxxxxxxxxxxxxxxxxxxxxxxxxxxxxxxxxxxxxxxxxxxxxxxxxxxxxxxxxxxxxxxxxxxxxxxxxx",
+    "\"\n",
+    "row customer 1 1 2 = 7 3 0 0 -1000 1000 1 \"\"\n",
+    "row customer 1 1 3 = 7 1 0 0 -1000 1000 1 \"\"\n",
+    "row customer 1 1 4 = 7 4 0 0 -1000 1000 1 \"\"\n",
+    "row history 2 = 1 1 1 1 1 0 2500\n",
+    "row new_order 1 1 2 =\n",
+    "row orders 1 1 2 = 1 0 0 1 1\n",
+    "row order_line 1 1 2 1 = 1 1 0 5 5000\n",
+    "row item 1 = 1000 1\n",
+    "row stock 1 1 = 100 5 1 0 1\n",
+    "row name_count 1 1 7 = 4\n",
+    "row name_place 1 1 7 1 = 3\n",
+    "row name_place 1 1 7 2 = 1\n",
+    "row name_place 1 1 7 3 = 2\n",
+    "row name_place 1 1 7 4 = 4\n",
+);
+
+/// Whole inputs: no rows, sums past 64 bits, a district before its first order and behind it, and one behind
+/// an order and a payment by name.
+const WHOLE: [Row; 7] = [
     ("", 0, "audit holds\n"),
     ("# no catalogue\n\n", 0, "audit holds\n"),
     ("catalog tpcc\n", 0, "audit holds\n"),
@@ -63,6 +93,35 @@ row district -2 2 = 0 9223372036854775807 1
         8,
         "audit fails 1 -2 0\nwanted 18446744073709551614\nfound -9223372036854775808\n",
     ),
+    // the next order is to be the second, and there was no first one
+    (
+        "catalog tpcc
+row warehouse 1 = 500 30000
+row district 1 1 = 700 30000 2
+row customer 1 1 1 = 7 1 1 1000 -1000 1000 1 \"\"
+row item 1 = 1000 1
+row stock 1 1 = 14 0 0 0 1
+",
+        8,
+        "audit fails 2 1 1\nwanted 1\nfound 0\n",
+    ),
+    // five of the item were ordered, so that its stock was filled up
+    (
+        "catalog tpcc
+row warehouse 1 = 500 30000
+row district 1 1 = 700 30000 3
+row customer 1 1 1 = 7 1 1 1000 -1000 1000 1 \"\"
+row new_order 1 1 2 =
+row orders 1 1 2 = 1 0 0 1 1
+row order_line 1 1 2 1 = 1 1 0 5 5000
+row item 1 = 1000 1
+row stock 1 1 = 100 5 1 0 1
+",
+        0,
+        "audit holds\n",
+    ),
+    // no condition speaks of names
+    (BY_NAME, 0, "audit holds\n"),
 ];
 
 /// Inputs that are refused at a line.

@@ -70,13 +70,18 @@ fn tables(rt: &impl Abort, alloc: Global, catalog: &Catalog, accounts: &[Account
     tables
 }
 
-/// A bank of these accounts before its first batch.
+/// An engine with the built-in catalogue of this name and these accounts, before its first batch.
 #[tactic(auto, using(crate::proofs::Readiness::ready_at_first))]
-pub fn engine(rt: &impl Abort, alloc: Global, accounts: &[Account]) -> Engine {
-    let bank = builtin(alloc, b"bank").expect(rt, MEMORY);
-    let catalog = bank.expect(rt, "a bank");
+pub fn engine_of(rt: &impl Abort, alloc: Global, name: &[u8], accounts: &[Account]) -> Engine {
+    let found = builtin(alloc, name).expect(rt, MEMORY);
+    let catalog = found.expect(rt, "a built-in catalogue");
     let tables = tables(rt, alloc, &catalog, accounts);
     Engine::begin(catalog, tables, Vec::new(alloc), 0, 0)
+}
+
+/// A bank of these accounts before its first batch.
+pub fn engine(rt: &impl Abort, alloc: Global, accounts: &[Account]) -> Engine {
+    engine_of(rt, alloc, b"bank", accounts)
 }
 
 fn are_taken(catalog: &Catalog, calls: &[Call]) -> bool

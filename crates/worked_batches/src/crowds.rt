@@ -1,11 +1,12 @@
 // Batches that are filled to the last place.
-use crate::banks::{MEMORY, calls, engine, in_turn, run};
+use crate::banks::{MEMORY, calls, engine, in_turn, replicas, run, run_replicas};
 use answer_text::{print_answer, print_state};
 use aria_base::{Call, Free};
 use batch_core::{Answer, Reply, Wait};
 use batch_engine::Engine;
 use batch_rules::verdicts::Rule;
 use dep_rules::Config;
+use replica_run::Replicas;
 use std::alloc::Global;
 use std::process::Abort;
 use test_banks::{ADD, Ask, SET};
@@ -44,6 +45,28 @@ fn what_waits_takes_places_of_the_next_batch(rt: HostRuntime) {
     let (bank, answer) = run(&rt, alloc, bank, rest, &CONFIG, &Free);
     leaves(&rt, &bank, 2, 10_001);
     finish(&rt, &answer, &[2, 4]);
+}
+
+/// Asserts that there are three replicas, that the next batch of each has so much room, and how many
+/// requests have a number in each.
+fn each_leaves(rt: &impl Abort, three: Replicas, room: u32, requests: u64) {
+    assert_eq!(rt; three.count(), 3);
+    for bank in three.parts().as_slice() {
+        leaves(rt, bank, room, requests);
+    }
+}
+
+#[test]
+fn what_waits_takes_places_in_each_replica(rt: HostRuntime) {
+    let alloc = rt.alloc();
+    let banks = replicas(&rt, alloc, &[(1, 10), (2, 20)], 3);
+    let three = crowd(&rt, alloc, (ADD, 1, 1), 3);
+    let (banks, _answer) = run_replicas(&rt, alloc, banks, three, &CONFIG, &Free);
+    leaves(&rt, banks.first(), 9_998, 3);
+    let rest = crowd(&rt, alloc, (SET, 2, 7), 9_998);
+    let (banks, answer) = run_replicas(&rt, alloc, banks, rest, &CONFIG, &Free);
+    finish(&rt, &answer, &[2, 4]);
+    each_leaves(&rt, banks, 2, 10_001);
 }
 
 /// How many lines say that their request waits since request 1 writes what it writes.
@@ -95,6 +118,32 @@ fn all_finish(rt: &impl Abort, answer: &Answer, requests: u64) {
 fn same_state(rt: &impl Abort, alloc: Global, bank: &Engine, wanted: &[u8]) {
     let text = print_state(alloc, bank.catalog(), bank.tables(), 1).expect(rt, MEMORY);
     assert_eq!(rt; text.as_slice(), wanted);
+}
+
+/// Asserts that there are three replicas, and that the rows of each behind the first batch are printed so.
+fn each_state(rt: &impl Abort, alloc: Global, three: Replicas, wanted: &[u8]) {
+    assert_eq!(rt; three.count(), 3);
+    for bank in three.parts().as_slice() {
+        same_state(rt, alloc, bank, wanted);
+    }
+}
+
+#[test]
+fn in_each_replica_one_of_ten_thousand_finishes(rt: HostRuntime) {
+    let alloc = rt.alloc();
+    let banks = replicas(&rt, alloc, &[(1, 10)], 3);
+    let all = crowd(&rt, alloc, (SET, 1, 7), 10_000);
+    let (banks, answer) = run_replicas(&rt, alloc, banks, all, &CONFIG, &Free);
+    others_wait(&rt, &answer, 10_000);
+    finish(&rt, &answer, &[1]);
+    begins(
+        &rt,
+        alloc,
+        banks.first(),
+        &answer,
+        b"batch 1\n1 ok 7\n2 wait waw 1\n",
+    );
+    each_state(&rt, alloc, banks, b"state 1\nrow acct 1 = 7\nend state\n");
 }
 
 #[test]

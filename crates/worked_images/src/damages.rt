@@ -82,6 +82,38 @@ fn one_byte_is_another(rt: HostRuntime) -> Result<(), Fail> {
     Ok(())
 }
 
+/// What is found in format 1, with this generation and so many batches.
+fn found_in_first(alloc: Global, generation: u8, batches: u8) -> Result<Option<u64>, Fail> {
+    let mut bytes = SLOT.to_vec(alloc)?;
+    let places: [(usize, u8); 3] = [(5, 1), (8, generation), (16, batches)];
+    for (place, byte) in places {
+        if let Some(old) = bytes.get_mut(place) {
+            *old = byte;
+        }
+    }
+    found(alloc, bytes)
+}
+
+/// In format 1 the generation is at most one above the batches; in format 2 it may be two above them.
+#[test]
+fn format_1_has_a_bound_of_its_own(rt: HostRuntime) -> Result<(), Fail> {
+    let cases: [(u8, u8, Option<u64>); 4] = [
+        (9, 8, Some(999)),
+        (9, 7, Some(8)),
+        (1, 0, Some(999)),
+        (3, 1, Some(8)),
+    ];
+    for (generation, batches, wanted) in cases {
+        same(
+            &rt,
+            &(generation, batches),
+            &found_in_first(rt.alloc(), generation, batches)?,
+            &wanted,
+        );
+    }
+    Ok(())
+}
+
 /// The changes that were made in this slot, from the last of the conditions to the first: each is named
 /// although those of the lines above still hold.
 const CHANGES: [(usize, u8, Option<u64>); 9] = [

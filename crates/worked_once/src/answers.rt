@@ -1,5 +1,5 @@
 // Scripts that are answered to their end.
-use crate::runs::{Case, RING, RING_ANSWER, Row, all_end, ends};
+use crate::runs::{Case, RING, RING_ANSWER, Row, all_end, ends, once_ends, repeated};
 use std::test::Fail;
 
 /// Scripts on the bank and on catalogues of their own: words, script, status and output.
@@ -139,8 +139,10 @@ const ANSWERED: [Row; 23] = [
     ),
 ];
 
-/// Orders and payments.
-const ORDERS: [Row; 2] = [
+/// Orders: one that leaves nine of a stock, so that 91 are added, with a payment behind it; one of an item
+/// that is not there; one that leaves ten. Payments by name: by the second of three holders, far from where
+/// it is paid; by nobody, and then by an only holder, whose credit is good.
+const ORDERS: [Row; 5] = [
     (
         "once",
         "catalog tpcc\nrow warehouse 1 = 500 30000\nrow district 1 1 = 700 30000 2\nrow customer 1 1 1 = 7 1 1 1000 -1000 1000 1 \"\"\nrow item 1 = 1000 1\nrow stock 1 1 = 14 0 0 0 1\ntx neworder 1 1 1 0 [1,1,5]\nend 1\ntx payment 1 1 1 1 0 1 2500 0\nend 2\n",
@@ -153,7 +155,40 @@ const ORDERS: [Row; 2] = [
         0,
         "batch 1\n1 back 1\norder 1\nend 1\nstate 1\nrow warehouse 1 = 500 30000\nrow district 1 1 = 700 30000 2\nrow customer 1 1 1 = 7 1 1 1000 -1000 1000 1 \"\"\nrow item 1 = 1000 1\nrow stock 1 1 = 14 0 0 0 1\nend state\n",
     ),
+    (
+        "once",
+        "catalog tpcc\nrow warehouse 1 = 500 30000\nrow district 1 1 = 700 30000 2\nrow customer 1 1 1 = 7 1 1 1000 -1000 1000 1 \"\"\nrow item 1 = 1000 1\nrow stock 1 1 = 14 0 0 0 1\ntx neworder 1 1 1 0 [1,1,4]\nend 1\n",
+        0,
+        "batch 1\n1 ok 2 10 \"B\" 4000 4032\norder 1\nend 1\nstate 1\nrow warehouse 1 = 500 30000\nrow district 1 1 = 700 30000 3\nrow customer 1 1 1 = 7 1 1 1000 -1000 1000 1 \"\"\nrow new_order 1 1 2 =\nrow orders 1 1 2 = 1 0 0 1 1\nrow order_line 1 1 2 1 = 1 1 0 4 4000\nrow item 1 = 1000 1\nrow stock 1 1 = 10 4 1 0 1\nend state\n",
+    ),
+    (
+        "once",
+        "catalog tpcc\nrow warehouse 1 = 0 0\nrow district 1 2 = 0 0 1\nrow customer 3 4 5 = 7 2 1 0 0 0 0 \"old\"\nrow name_count 3 4 7 = 3\nrow name_place 3 4 7 1 = 9\nrow name_place 3 4 7 2 = 5\nrow name_place 3 4 7 3 = 6\ntx payment 1 2 3 4 1 7 2500 8\nend 1\n",
+        0,
+        "batch 1\n1 ok 5 -2500\norder 1\nend 1\nstate 1\nrow warehouse 1 = 0 2500\nrow district 1 2 = 0 2500 1\nrow customer 3 4 5 = 7 2 1 0 -2500 2500 1 \"5 4 3 2 1 2500 old\"\nrow history 1 = 5 4 3 2 1 8 2500\nrow name_count 3 4 7 = 3\nrow name_place 3 4 7 1 = 9\nrow name_place 3 4 7 2 = 5\nrow name_place 3 4 7 3 = 6\nend state\n",
+    ),
+    (
+        "once",
+        "catalog tpcc\nrow warehouse 1 = 0 0\nrow district 1 1 = 0 0 1\nrow customer 1 1 4 = 7 2 0 0 100 0 0 \"old\"\nrow name_count 1 1 7 = 1\nrow name_place 1 1 7 1 = 4\ntx payment 1 1 1 1 1 8 2500 0\nend 1\ntx payment 1 1 1 1 1 7 2500 0\nend 2\n",
+        0,
+        "batch 1\n1 back 2\norder 1\nend 1\nbatch 2\n2 ok 4 -2400\norder 2\nend 2\nstate 2\nrow warehouse 1 = 0 2500\nrow district 1 1 = 0 2500 1\nrow customer 1 1 4 = 7 2 0 0 -2400 2500 1 \"old\"\nrow history 2 = 4 1 1 1 1 0 2500\nrow name_count 1 1 7 = 1\nrow name_place 1 1 7 1 = 4\nend state\n",
+    ),
 ];
+
+/// A name with four holders, the second of them of bad credit, and a payment by this name. Between the two
+/// stand the 500 bytes of this customer's text.
+const NAMED: &str =
+    "catalog tpcc\nrow warehouse 1 = 500 30000\nrow district 1 1 = 700 30000 2\nrow name_count 1 1 7 = 4\nrow name_place 1 1 7 1 = 4\nrow name_place 1 1 7 2 = 1\nrow name_place 1 1 7 3 = 2\nrow name_place 1 1 7 4 = 3\nrow customer 1 1 1 = 7 1 1 1000 -1000 1000 1 \"";
+
+const PAID_BY_NAME: &str = "\"\ntx payment 1 1 1 1 1 7 2500 0\nend 1\n";
+
+/// What is printed, up to the 15 bytes that now begin the text, and from the 481st byte of the old one on.
+/// The first 485 of these bytes have room.
+const PRINTED: &str =
+    "batch 1\n1 ok 1 -3500\norder 1\nend 1\nstate 1\nrow warehouse 1 = 500 32500\nrow district 1 1 = 700 32500 2\nrow customer 1 1 1 = 7 1 1 1000 -3500 3500 2 \"1 1 1 1 1 2500 ";
+
+const PRINTED_BEHIND: &str =
+    "abcde\"\nrow history 1 = 1 1 1 1 1 0 2500\nrow name_count 1 1 7 = 4\nrow name_place 1 1 7 1 = 4\nrow name_place 1 1 7 2 = 1\nrow name_place 1 1 7 3 = 2\nrow name_place 1 1 7 4 = 3\nend state\n";
 
 #[test]
 fn scripts_are_answered(rt: HostRuntime) -> Result<(), Fail> {
@@ -163,6 +198,14 @@ fn scripts_are_answered(rt: HostRuntime) -> Result<(), Fail> {
 #[test]
 fn orders_and_payments_are_answered(rt: HostRuntime) -> Result<(), Fail> {
     all_end(&rt, &ORDERS)
+}
+
+#[test]
+fn a_customers_text_is_cut(rt: HostRuntime) -> Result<(), Fail> {
+    let alloc = rt.alloc();
+    let script = repeated(alloc, NAMED, "abcdefghij", 50, PAID_BY_NAME)?;
+    let output = repeated(alloc, PRINTED, "abcdefghij", 48, PRINTED_BEHIND)?;
+    once_ends(&rt, &script, 0, &output)
 }
 
 /// Words that ask for more than one worker or replica.

@@ -1,11 +1,9 @@
 // Batches that are filled to the last place, and one place past it.
-use crate::runs::{Case, ends};
+use crate::runs::{once_ends, repeated};
 use aria_base::Memory;
 use aria_top::{DONE, REFUSED};
 use std::alloc::Global;
-use std::process::Abort;
 use std::test::Fail;
-use std::thread::Threads;
 
 /// Rows and, in the second, a batch that leaves two of its three requests waiting, with its answer.
 const HEAD: &str = "catalog bank\nrow acct 1 = 10\nrow acct 2 = 20\nrow acct 3 = 30\n";
@@ -14,16 +12,6 @@ const THREE_ADDS: &str =
     "catalog bank\nrow acct 1 = 10\nrow acct 2 = 20\nrow acct 3 = 30\ntx add 1 1\ntx add 1 1\ntx add 1 1\nend 1\n";
 
 const ADDED: &str = "batch 1\n1 ok 11\n2 wait waw 1\n3 wait waw 1\norder 1\nend 1\n";
-
-/// A head, so often this line, and the end of the batch.
-fn crowd(alloc: Global, head: &str, line: &str, count: u32, end: &str) -> Result<String, Memory> {
-    let mut script = String::from_str(alloc, head)?;
-    for _ in 0..count {
-        script.push_str(line)?;
-    }
-    script.push_str(end)?;
-    Ok(script)
-}
 
 /// What stands before them, the lines of the requests from `first` to `last`, which wait for the write of
 /// `holder`, and what stands behind them.
@@ -43,27 +31,10 @@ fn waits(
     Ok(text)
 }
 
-/// Asserts that `once` ends so on this script.
-fn once_ends<R: AllocGlobal + Threads + Abort + Sync>(
-    rt: &R,
-    script: &str,
-    status: u8,
-    output: &str,
-) -> Result<(), Fail> {
-    let case = Case {
-        words: "once",
-        script,
-        piece: 4096,
-        failing_take: 0,
-        failing_give: 0,
-    };
-    ends(rt, &case, status, output)
-}
-
 #[test]
 fn a_batch_has_ten_thousand_places(rt: HostRuntime) -> Result<(), Fail> {
     let alloc = rt.alloc();
-    let script = crowd(alloc, HEAD, "tx set 1 7\n", 10_000, "end 1\n")?;
+    let script = repeated(alloc, HEAD, "tx set 1 7\n", 10_000, "end 1\n")?;
     let output = waits(
         alloc,
         "batch 1\n1 ok 7\n",
@@ -73,14 +44,14 @@ fn a_batch_has_ten_thousand_places(rt: HostRuntime) -> Result<(), Fail> {
         "order 1\nend 1\nstate 1\nrow acct 1 = 7\nrow acct 2 = 20\nrow acct 3 = 30\nend state\n",
     )?;
     once_ends(&rt, &script, DONE, &output)?;
-    let script = crowd(alloc, HEAD, "tx set 1 7\n", 10_001, "end 1\n")?;
+    let script = repeated(alloc, HEAD, "tx set 1 7\n", 10_001, "end 1\n")?;
     once_ends(&rt, &script, REFUSED, "refused 10005 batch\n")
 }
 
 #[test]
 fn what_waits_takes_places_too(rt: HostRuntime) -> Result<(), Fail> {
     let alloc = rt.alloc();
-    let script = crowd(alloc, THREE_ADDS, "tx set 2 7\n", 9_998, "end 2\n")?;
+    let script = repeated(alloc, THREE_ADDS, "tx set 2 7\n", 9_998, "end 2\n")?;
     let output = waits(
         alloc,
         "batch 1\n1 ok 11\n2 wait waw 1\n3 wait waw 1\norder 1\nend 1\nbatch 2\n2 ok 12\n3 wait waw 2\n4 ok 7\n",
@@ -90,7 +61,7 @@ fn what_waits_takes_places_too(rt: HostRuntime) -> Result<(), Fail> {
         "order 2 4\nend 2\nstate 2\nrow acct 1 = 12\nrow acct 2 = 7\nrow acct 3 = 30\nend state\n",
     )?;
     once_ends(&rt, &script, DONE, &output)?;
-    let script = crowd(alloc, THREE_ADDS, "tx set 2 7\n", 9_999, "end 2\n")?;
+    let script = repeated(alloc, THREE_ADDS, "tx set 2 7\n", 9_999, "end 2\n")?;
     let output = waits(alloc, ADDED, 1, 0, 0, "refused 10008 batch\n")?;
     once_ends(&rt, &script, REFUSED, &output)
 }

@@ -1,4 +1,5 @@
-// Workloads as scripts, through the top call.
+// Workloads as scripts, through the top call: `gen` writes them, `once` runs them, and `check` takes what it
+// printed as a report on them.
 use crate::runs::{Case, ends, run};
 use aria_base::Free;
 use aria_top::{DONE, WRITE_FAULT};
@@ -6,10 +7,19 @@ use std::process::Abort;
 use std::test::Fail;
 use std::thread::Threads;
 
-/// Small workloads of both kinds, each of three batches.
-const GENS: [&str; 2] = [
-    "gen --batches 3 --size 20 --keys 100",
-    "gen --kind tpcc --batches 3 --size 5",
+/// Small workloads of both kinds, each of three batches, and the words that run them. Each run answers the
+/// third batch, drains what waits and lists the rows last.
+const WORKLOADS: [(&str, &str); 4] = [
+    ("gen --batches 3 --size 20 --keys 100", "once --drain"),
+    (
+        "gen --batches 3 --size 20 --keys 100 --hot 50",
+        "once --rule plain --state each --drain",
+    ),
+    ("gen --kind tpcc --batches 3 --size 5", "once --drain"),
+    (
+        "gen --kind tpcc --warehouses 2 --batches 3 --size 20",
+        "once --fallback 0 --state last --drain",
+    ),
 ];
 
 /// The words and the script of a run in which the source and the sink do not fail.
@@ -23,26 +33,48 @@ fn case_of<'a>(words: &'a str, script: &'a str) -> Case<'a> {
     }
 }
 
-/// Asserts that `once` takes a workload's script to its end, and answers the third batch as the last one.
-fn is_taken<R: AllocGlobal + Threads + Abort + Sync>(rt: &R, words: &str) -> Result<(), Fail> {
-    let (status, script) = run(rt, &case_of(words, ""), &Free)?;
+/// What the words write on this script. They have to end as done.
+fn written<R: AllocGlobal + Threads + Abort + Sync>(
+    rt: &R,
+    words: &'static str,
+    script: &str,
+) -> Result<Vec<u8>, Fail> {
+    let (status, bytes) = run(rt, &case_of(words, script), &Free)?;
     assert_eq!(rt; status, DONE, "of {words}");
+    Ok(bytes)
+}
+
+/// Asserts that `check` takes what was printed for a script as a report on it.
+fn is_report<R: AllocGlobal + Threads + Abort + Sync>(
+    rt: &R,
+    script: &str,
+    printed: &str,
+) -> Result<(), Fail> {
+    let mut input = String::from_str(rt.alloc(), script)?;
+    input.push_str("report\n")?;
+    input.push_str(printed)?;
+    ends(rt, &case_of("check", &input), DONE, "check holds\n")
+}
+
+/// Asserts that a workload's script is run to its end, and that what was printed is a report on it.
+fn comes_through<R: AllocGlobal + Threads + Abort + Sync>(
+    rt: &R,
+    workload: &'static str,
+    words: &'static str,
+) -> Result<(), Fail> {
+    let script = written(rt, workload, "")?;
     let script = str::from_utf8(&script).unwrap_or("?");
-    let (status, output) = run(rt, &case_of("once --drain", script), &Free)?;
-    let output = str::from_utf8(&output).unwrap_or("?");
-    let answered = output.contains("\nend 3\n") && output.ends_with("end state\n");
-    assert_eq!(rt;
-        (status, answered),
-        (DONE, true),
-        "of the script of {words}"
-    );
-    Ok(())
+    let printed = written(rt, words, script)?;
+    let printed = str::from_utf8(&printed).unwrap_or("?");
+    let answered = printed.contains("\nend 3\n") && printed.ends_with("end state\n");
+    assert!(rt; answered, "of the script of {workload}");
+    is_report(rt, script, printed)
 }
 
 #[test]
-fn once_takes_what_gen_writes(rt: HostRuntime) -> Result<(), Fail> {
-    for words in GENS {
-        is_taken(&rt, words)?;
+fn what_gen_writes_is_run_and_checked(rt: HostRuntime) -> Result<(), Fail> {
+    for (workload, words) in WORKLOADS {
+        comes_through(&rt, workload, words)?;
     }
     Ok(())
 }

@@ -1,5 +1,5 @@
 // The audit of order entry, the check of reports, and summaries of workloads, through the top call.
-use crate::runs::{Case, Row, all_end, run};
+use crate::runs::{Case, RING_REPORTED, RING_TURNED, Row, TURNED_FOUND, all_end, run};
 use aria_base::Free;
 use aria_top::{DONE, FAILS};
 use std::process::Abort;
@@ -50,8 +50,9 @@ const AUDITS: [Row; 8] = [
     ),
 ];
 
-/// A report that holds, one with a wrong reply, and none at all.
-const CHECKS: [Row; 3] = [
+/// A report that holds, one with a wrong reply, and none at all; the ring's answer, and that with its order
+/// turned round.
+const CHECKS: [Row; 5] = [
     (
         "check",
         "catalog bank\nrow acct 1 = 10\ntx add 1 5\nend 1\nreport\nbatch 1\n1 ok 15\norder 1\nend 1\nstate 1\nrow acct 1 = 15\nend state\n",
@@ -65,6 +66,8 @@ const CHECKS: [Row; 3] = [
         "check fails 2\nwanted 1 ok 15\nfound 1 ok 16\n",
     ),
     ("check", "", FAILS, "check fails 1\nwanted state 0\nfound\n"),
+    ("check", RING_REPORTED, DONE, "check holds\n"),
+    ("check", RING_TURNED, FAILS, TURNED_FOUND),
 ];
 
 /// Workloads that read alone, so that nobody waits and every column stays 0.
@@ -83,10 +86,17 @@ const BENCHES: [Row; 2] = [
     ),
 ];
 
-/// Order entry in contention, by one worker and by four on two replicas.
-const CONTENDED: [&str; 2] = [
-    "bench --kind tpcc --batches 4 --size 20 --fallback 0 --drain",
-    "bench --kind tpcc --batches 4 --size 20 --fallback 0 --drain --workers 4 --replicas 2",
+/// Order entry in contention, by one worker and by four: in one warehouse, where only the four have a second
+/// replica, and in two warehouses, each on two replicas.
+const CONTENDED: [(&str, &str); 2] = [
+    (
+        "bench --kind tpcc --batches 4 --size 20 --fallback 0 --drain",
+        "bench --kind tpcc --batches 4 --size 20 --fallback 0 --drain --workers 4 --replicas 2",
+    ),
+    (
+        "bench --kind tpcc --warehouses 2 --batches 4 --size 20 --fallback 0 --drain --replicas 2",
+        "bench --kind tpcc --warehouses 2 --batches 4 --size 20 --fallback 0 --drain --replicas 2 --workers 4",
+    ),
 ];
 
 #[test]
@@ -118,20 +128,37 @@ fn summary<R: AllocGlobal + Threads + Abort + Sync>(rt: &R, words: &str) -> Resu
     Ok(text)
 }
 
-#[test]
-fn order_entry_holds_in_contention(rt: HostRuntime) -> Result<(), Fail> {
-    let [alone, shared] = CONTENDED;
-    let text = summary(&rt, alone)?;
-    assert_eq!(&rt;
+/// Whether each of four times twenty requests has ended without a trap, and the audit holds.
+fn is_whole(text: &str) -> bool {
+    text.starts_with("bench tpcc\n")
+        && text.contains("\nrequests 80\n")
+        && text.contains("\ntrap 0\n")
+        && text.contains("\nleft 0\n")
+        && text.ends_with("\naudit holds\n")
+}
+
+/// Asserts that both lines print one summary, which is whole.
+fn is_one_summary<R: AllocGlobal + Threads + Abort + Sync>(
+    rt: &R,
+    alone: &str,
+    shared: &str,
+) -> Result<(), Fail> {
+    let text = summary(rt, alone)?;
+    assert_eq!(rt;
         text,
-        summary(&rt, shared)?,
+        summary(rt, shared)?,
         "workers and replicas have no say"
     );
     let text = str::from_utf8(&text).unwrap_or("?");
-    let whole = text.starts_with("bench tpcc\n")
-        && text.contains("\nrequests 80\n")
-        && text.contains("\nleft 0\n")
-        && text.ends_with("\naudit holds\n");
-    assert!(&rt; whole, "{text}");
+    let whole = is_whole(text);
+    assert!(rt; whole, "{text}");
+    Ok(())
+}
+
+#[test]
+fn order_entry_holds_in_contention(rt: HostRuntime) -> Result<(), Fail> {
+    for (alone, shared) in CONTENDED {
+        is_one_summary(&rt, alone, shared)?;
+    }
     Ok(())
 }

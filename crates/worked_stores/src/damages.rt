@@ -92,6 +92,39 @@ fn the_log_is_another(rt: HostRuntime) -> Result<(), Fail> {
     Ok(())
 }
 
+/// What is found where the log is these bytes, then so many lines of one call each, and a closed gate.
+fn with_lines(alloc: Global, front: &[u8], count: u32) -> Result<Seen, Fail> {
+    let mut log = front.to_vec(alloc)?;
+    for _ in 0..count {
+        log.extend_from_slice(b"tx add 5\n")?;
+    }
+    log.push(0)?;
+    let mut disk = disk_of(alloc, [b"\0", &SLOT, b"", &log])?;
+    found_on(alloc, &mut disk)
+}
+
+/// A line has 9 bytes, so that the payloads have 90,002 and 90,011. A record of 7 bytes stands before.
+#[test]
+fn a_record_has_ten_thousand_calls_at_most(rt: HostRuntime) -> Result<(), Fail> {
+    let cases: [(&[u8], u32, Seen); 2] = [
+        (
+            b"\x01\x02\0\0\0\x00\x00\x01\x92\x5f\x01\0\x01\x65",
+            10_000,
+            Seen::Stands(1, 2, 90_014, 10_000),
+        ),
+        (
+            b"\x01\x02\0\0\0\x00\x00\x01\x9b\x5f\x01\0\x01\x65",
+            10_001,
+            Seen::Damaged(3, 7),
+        ),
+    ];
+    for (front, count, wanted) in cases {
+        let found = with_lines(rt.alloc(), front, count)?;
+        same(&rt, &count, &found, &wanted);
+    }
+    Ok(())
+}
+
 /// What is found of two files that are damaged, with the batch's log or without.
 fn with_two(alloc: Global, zero: &[u8], place: usize, byte: u8, log: &[u8]) -> Result<Seen, Fail> {
     let mut slot = SLOT.to_vec(alloc)?;

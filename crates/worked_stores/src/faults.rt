@@ -22,7 +22,8 @@ enum Fate {
     Done,
 }
 
-/// What comes of a creation, a batch and a rotation on a disk of which the call with this number fails.
+/// What comes of a creation, and of a batch and a rotation twice, on a disk of which the call with this
+/// number fails.
 fn came_of(alloc: Global, number: u64) -> Result<Fate, Fail> {
     let mut fails = Vec::new(alloc);
     fails.push(number)?;
@@ -33,7 +34,8 @@ fn came_of(alloc: Global, number: u64) -> Result<Fate, Fail> {
     }
 }
 
-/// What comes of a batch and a rotation.
+/// What comes of a batch and a rotation, and of both once more. The first rotation finds the gate of its
+/// slot closed and reads it alone; the second finds one open, which it closes by a write and a sync.
 fn written(alloc: Global, base: &mut Base) -> Fate
     requires { IsReady (history_of base.old.disk) base.old.store base.old.before base.old.catalog base.old.tables }
 {
@@ -43,6 +45,12 @@ fn written(alloc: Global, base: &mut Base) -> Fate
     if let Err(refused) = base.rotate(alloc, Rule::Plain, 7, 1) {
         return Fate::Rotated(refused, base.append(alloc, PAYLOAD).err());
     }
+    if let Err(refused) = base.append(alloc, PAYLOAD) {
+        return Fate::Added(refused, base.append(alloc, PAYLOAD).err());
+    }
+    if let Err(refused) = base.rotate(alloc, Rule::Reorder, 101, 2) {
+        return Fate::Rotated(refused, base.append(alloc, PAYLOAD).err());
+    }
     Fate::Done
 }
 
@@ -50,11 +58,14 @@ fn written(alloc: Global, base: &mut Base) -> Fate
 fn each_call_fails_in_turn(rt: HostRuntime) -> Result<(), Fail> {
     let fault = StoreRefused::DiskFault;
     let closed = Some(StoreRefused::Closed { faults: 1 });
-    let cases: [(u64, u64, Fate); 4] = [
+    let cases: [(u64, u64, Fate); 6] = [
         (1, 17, Fate::Created(fault)),
         (18, 21, Fate::Added(fault, closed)),
         (22, 29, Fate::Rotated(fault, closed)),
-        (30, 33, Fate::Done),
+        (30, 33, Fate::Added(fault, closed)),
+        // three calls for the open gate, three for what is behind it, two for the log, two for the gate
+        (34, 43, Fate::Rotated(fault, closed)),
+        (44, 47, Fate::Done),
     ];
     for (first, last, wanted) in cases {
         for number in first..=last {
