@@ -6,13 +6,13 @@
 //! where there was no memory. A stop at any moment leaves every batch that was answered.
 //!
 //! ```text
-//! words ──> tasks (command_words) ──> tops (aria) ─┬> commands ─┬> run_commands (once)
-//!                                                  │            ├> gen_command (gen)
-//!                                                  │            ├> audit_command (audit)
-//!                                                  │            ├> check_command (check)
-//!                                                  │            └> summaries ──> bench_command (bench)
-//!                                                  └> stores ───┬> store_commands (init, replay)
-//!                                                               └> run_commands (run)
+//! words ─> tasks (command_words) ─> top_call (aria) ┬> commands ─┬> run_commands (once)
+//!                                                   │            ├> gen_command (gen)
+//!                                                   │            ├> audit_command (audit)
+//!                                                   │            ├> check_command (check)
+//!                                                   │            └> summaries ──> bench_command (bench)
+//!                                                   └> stores ───┬> store_commands (init, replay)
+//!                                                                └> run_commands (run)
 //! ```
 //!
 //! In `specs/`: `Tasks` says what words ask for, `Out` what they print on an input, `Disks` what a command
@@ -24,10 +24,10 @@ mod laws;
 mod stores;
 mod summaries;
 mod tasks;
-mod tops;
+mod top_call;
 
 pub use script_course::{
     DISK_FAULT, DONE, FAILS, NO_MEMORY, READ_FAULT, REFUSED, STORE_REFUSED, USAGE, WRITE_FAULT,
 };
 pub use serving::{Given, Live, MOST_LOG, serve_batch};
-pub use tops::aria;
+pub use top_call::aria;

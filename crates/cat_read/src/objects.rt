@@ -11,7 +11,7 @@ ghost use Rattle.cat_read.specs.Places.{path_of};
 ghost use Rattle.cat_read.specs.Faults.{Reads};
 
 use crate::faults::Fault;
-use crate::places::{Place, fault_at};
+use crate::places::{JsonPlace, fault_at};
 use aria_base::{Items, Kind, Table, Txt, TxtRefused, is_word};
 use cat_forms::{Member, arg_kind_named, kind_named};
 use proc_lang::{ArgKind, Proc};
@@ -138,7 +138,7 @@ fn is_taken<T: Named>(earlier: &[T], name: &[u8]) -> bool
 #[tactic(auto, using(crate::proofs::Texts::word_is_short, crate::proofs::Texts::word_has_no_bad_byte))]
 pub fn read_name<T: Named>(
     alloc: Global,
-    place: &Place<'_>,
+    place: &JsonPlace<'_>,
     earlier: &[T],
     value: &Value,
 ) -> Result<Txt, Fault>
@@ -197,7 +197,7 @@ fn named_by<K: Called>(value: &Value) -> Option<K>
 /// What the strings of an array with `low` to `high` items name.
 pub fn read_named<K: Called>(
     alloc: Global,
-    place: &Place<'_>,
+    place: &JsonPlace<'_>,
     low: usize,
     high: usize,
     value: &Value,
@@ -212,7 +212,7 @@ pub fn read_named<K: Called>(
     for (at, item) in items.iter().enumerate() {
         match named_by(item) {
             Some(one) => found.push(one)?,
-            None => return Err(fault_at(alloc, &Place::Item(place, at))),
+            None => return Err(fault_at(alloc, &JsonPlace::Item(place, at))),
         }
     }
     Ok(Items::from_vec(found))

@@ -13,10 +13,10 @@ use std::alloc::Global;
 /// A place: the root, or a part of another place. It lies on the stack, and takes memory only where
 /// a path is made of it.
 #[derive(Drop)]
-pub enum Place<'a> {
+pub enum JsonPlace<'a> {
     Root,
-    Member(&'a Place<'a>, Member),
-    Item(&'a Place<'a>, usize),
+    Member(&'a JsonPlace<'a>, Member),
+    Item(&'a JsonPlace<'a>, usize),
 }
 
 /// What the member is called, as a text.
@@ -31,17 +31,17 @@ fn member_text(alloc: Global, member: Member) -> Result<Txt, Memory>
 }
 
 /// The steps from the root to the place.
-fn parts(alloc: Global, place: &Place<'_>) -> Result<Vec<PathPart>, Memory>
+fn parts(alloc: Global, place: &JsonPlace<'_>) -> Result<Vec<PathPart>, Memory>
     ensures { IfOk result (λ parts. parts.items ≡ path_of place.now) }
 {
     match place {
-        Place::Root => Ok(Vec::new(alloc)),
-        Place::Member(before, member) => {
+        JsonPlace::Root => Ok(Vec::new(alloc)),
+        JsonPlace::Member(before, member) => {
             let mut parts = parts(alloc, before)?;
             parts.push(PathPart::Member(member_text(alloc, *member)?))?;
             Ok(parts)
         }
-        Place::Item(before, at) => {
+        JsonPlace::Item(before, at) => {
             let mut parts = parts(alloc, before)?;
             parts.push(PathPart::Place(u32::try_from(*at).unwrap_or(u32::MAX)))?;
             Ok(parts)
@@ -50,7 +50,7 @@ fn parts(alloc: Global, place: &Place<'_>) -> Result<Vec<PathPart>, Memory>
 }
 
 /// The fault of this place, or want of memory for its path.
-pub fn fault_at(alloc: Global, place: &Place<'_>) -> Fault
+pub fn fault_at(alloc: Global, place: &JsonPlace<'_>) -> Fault
     ensures { IsFaultAt (path_of place.now) result }
 {
     match parts(alloc, place) {

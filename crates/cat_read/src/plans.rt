@@ -9,7 +9,7 @@ use crate::faults::Fault;
 use crate::objects::{
     four_members, items_between, read_name, read_named, three_members, two_members,
 };
-use crate::places::{Place, fault_at};
+use crate::places::{JsonPlace, fault_at};
 use crate::walks::read_body;
 use aria_base::{Kinds, MOST_ARGS, MOST_COLUMNS, MOST_PARTS, Table};
 use cat_forms::Member;
@@ -21,7 +21,7 @@ use std::alloc::Global;
 /// A table, behind the earlier ones.
 fn read_table(
     alloc: Global,
-    place: &Place<'_>,
+    place: &JsonPlace<'_>,
     earlier: &[Table],
     value: &Value,
 ) -> Result<Table, Fault>
@@ -32,17 +32,22 @@ fn read_table(
     let Some((name, key, cols)) = members else {
         return Err(fault_at(alloc, place));
     };
-    let name = read_name(alloc, &Place::Member(place, Member::Name), earlier, name)?;
+    let name = read_name(
+        alloc,
+        &JsonPlace::Member(place, Member::Name),
+        earlier,
+        name,
+    )?;
     let key: Kinds = read_named(
         alloc,
-        &Place::Member(place, Member::Key),
+        &JsonPlace::Member(place, Member::Key),
         1,
         MOST_PARTS,
         key,
     )?;
     let cols: Kinds = read_named(
         alloc,
-        &Place::Member(place, Member::Cols),
+        &JsonPlace::Member(place, Member::Cols),
         0,
         MOST_COLUMNS,
         cols,
@@ -51,7 +56,7 @@ fn read_table(
 }
 
 /// All tables.
-fn read_tables(alloc: Global, place: &Place<'_>, value: &Value) -> Result<Vec<Table>, Fault>
+fn read_tables(alloc: Global, place: &JsonPlace<'_>, value: &Value) -> Result<Vec<Table>, Fault>
     ensures tables { Reads (λ ts. ts.items) result (tables_at (path_of place.now) (view value.now)) }
     ensures few { IfOk result (λ ts. length ts.items ≤ MOST_TABLES) }
 {
@@ -60,7 +65,7 @@ fn read_tables(alloc: Global, place: &Place<'_>, value: &Value) -> Result<Vec<Ta
     };
     let mut tables = Vec::with_capacity(alloc, items.len())?;
     for (at, item) in items.iter().enumerate() {
-        let table = read_table(alloc, &Place::Item(&*place, at), &tables, item)?;
+        let table = read_table(alloc, &JsonPlace::Item(&*place, at), &tables, item)?;
         tables.push(table)?;
     }
     Ok(tables)
@@ -70,7 +75,7 @@ fn read_tables(alloc: Global, place: &Place<'_>, value: &Value) -> Result<Vec<Ta
 fn read_proc(
     alloc: Global,
     tables: &[Table],
-    place: &Place<'_>,
+    place: &JsonPlace<'_>,
     earlier: &[Proc],
     value: &Value,
 ) -> Result<Proc, Fault>
@@ -81,10 +86,10 @@ fn read_proc(
     let Some((name, args, regs, body)) = four_members(value, Name, Args, Regs, Body) else {
         return Err(fault_at(alloc, place));
     };
-    let name = read_name(alloc, &Place::Member(place, Name), earlier, name)?;
-    let args: ArgKinds = read_named(alloc, &Place::Member(place, Args), 0, MOST_ARGS, args)?;
-    let regs: Kinds = read_named(alloc, &Place::Member(place, Regs), 0, MOST_REGS, regs)?;
-    let body = read_body(alloc, tables, &Place::Member(place, Body), body)?;
+    let name = read_name(alloc, &JsonPlace::Member(place, Name), earlier, name)?;
+    let args: ArgKinds = read_named(alloc, &JsonPlace::Member(place, Args), 0, MOST_ARGS, args)?;
+    let regs: Kinds = read_named(alloc, &JsonPlace::Member(place, Regs), 0, MOST_REGS, regs)?;
+    let body = read_body(alloc, tables, &JsonPlace::Member(place, Body), body)?;
     Ok(Proc {
         name,
         args,
@@ -97,7 +102,7 @@ fn read_proc(
 fn read_procs(
     alloc: Global,
     tables: &[Table],
-    place: &Place<'_>,
+    place: &JsonPlace<'_>,
     value: &Value,
 ) -> Result<Vec<Proc>, Fault>
     requires { length tables.now ≤ MOST_TABLES }
@@ -109,7 +114,7 @@ fn read_procs(
     };
     let mut procs = Vec::with_capacity(alloc, items.len())?;
     for (at, item) in items.iter().enumerate() {
-        let proc = read_proc(alloc, tables, &Place::Item(&*place, at), &procs, item)?;
+        let proc = read_proc(alloc, tables, &JsonPlace::Item(&*place, at), &procs, item)?;
         procs.push(proc)?;
     }
     Ok(procs)
@@ -121,12 +126,12 @@ pub fn read_plan(alloc: Global, value: &Value) -> Result<(Vec<Table>, Vec<Proc>)
         (plan_of (view value.now)) }
 {
     let Some((tables, procs)) = two_members(value, Member::Tables, Member::Procs) else {
-        return Err(fault_at(alloc, &Place::Root));
+        return Err(fault_at(alloc, &JsonPlace::Root));
     };
-    let root = Place::Root;
-    let tables_place = Place::Member(&root, Member::Tables);
+    let root = JsonPlace::Root;
+    let tables_place = JsonPlace::Member(&root, Member::Tables);
     let tables = read_tables(alloc, &tables_place, tables)?;
-    let procs_place = Place::Member(&root, Member::Procs);
+    let procs_place = JsonPlace::Member(&root, Member::Procs);
     let procs = read_procs(alloc, &tables, &procs_place, procs)?;
     Ok((tables, procs))
 }

@@ -6,7 +6,7 @@ ghost use Rattle.cat_read.specs.Places.{path_of};
 ghost use Rattle.cat_read.specs.Faults.{Reads};
 
 use crate::faults::Fault;
-use crate::places::{Place, fault_at};
+use crate::places::{JsonPlace, fault_at};
 use crate::terms::{index, number_between, read_expr};
 use aria_base::{Memory, Table};
 use cat_forms::NO_TABLE;
@@ -64,7 +64,7 @@ pub fn indexes(alloc: Global, value: &Value) -> Result<Option<Regs>, Memory>
 /// The expressions of the operand at this place.
 pub fn read_exprs(
     alloc: Global,
-    place: &Place<'_>,
+    place: &JsonPlace<'_>,
     at: usize,
     value: &Value,
 ) -> Result<Exprs, Fault>
@@ -73,10 +73,10 @@ pub fn read_exprs(
     let Some(items) = value.as_array() else {
         return Err(fault_at(alloc, place));
     };
-    let list = Place::Item(place, at);
+    let list = JsonPlace::Item(place, at);
     let mut exprs = Vec::with_capacity(alloc, items.len())?;
     for (count, item) in items.iter().enumerate() {
-        exprs.push(read_expr(alloc, &Place::Item(&list, count), 1, item)?)?;
+        exprs.push(read_expr(alloc, &JsonPlace::Item(&list, count), 1, item)?)?;
     }
     Ok(Exprs::from_vec(exprs))
 }

@@ -14,7 +14,7 @@ ghost use Rattle.cat_read.specs.Places.{path_of};
 ghost use Rattle.cat_read.specs.Faults.{Reads};
 
 use crate::faults::Fault;
-use crate::places::{Place, fault_at};
+use crate::places::{JsonPlace, fault_at};
 use aria_base::{Txt, TxtRefused};
 use cat_forms::{Form, form_named};
 use proc_lang::{DEEPEST_EXPR, Expr, MOST_FRONT};
@@ -44,7 +44,7 @@ pub fn index(value: &Value) -> Option<u32>
 #[cycle(reading)]
 pub fn read_expr(
     alloc: Global,
-    place: &Place<'_>,
+    place: &JsonPlace<'_>,
     level: usize,
     value: &Value,
 ) -> Result<Expr, Fault>
@@ -66,7 +66,7 @@ pub fn read_expr(
 
 /// The text as an expression.
 #[tactic(auto, using(crate::proofs::Texts::text_kept, crate::proofs::Texts::text_too_long, crate::proofs::Texts::text_with_bad_byte))]
-fn read_text(alloc: Global, place: &Place<'_>, text: &str) -> Result<Expr, Fault>
+fn read_text(alloc: Global, place: &JsonPlace<'_>, text: &str) -> Result<Expr, Fault>
     ensures { Reads term_of result (at_path (path_of place.now) (option_map Text (text_of text.now))) }
 {
     match Txt::of(alloc, text.as_bytes()) {
@@ -82,7 +82,7 @@ fn read_text(alloc: Global, place: &Place<'_>, text: &str) -> Result<Expr, Fault
 #[cycle(reading)]
 fn read_node(
     alloc: Global,
-    place: &Place<'_>,
+    place: &JsonPlace<'_>,
     level: usize,
     items: &Vec<Value>,
 ) -> Result<Expr, Fault>
@@ -102,7 +102,7 @@ fn read_node(
 #[cycle(reading)]
 fn read_form(
     alloc: Global,
-    place: &Place<'_>,
+    place: &JsonPlace<'_>,
     level: usize,
     form: Form,
     operands: &[Value],
@@ -128,7 +128,7 @@ fn form_of(name: &Value) -> Option<Form>
 }
 
 /// The expression of the form without operands.
-fn read_alone(alloc: Global, place: &Place<'_>, level: usize, form: Form) -> Result<Expr, Fault>
+fn read_alone(alloc: Global, place: &JsonPlace<'_>, level: usize, form: Form) -> Result<Expr, Fault>
     ensures { Reads term_of result (form_at (path_of place.now) level (Some form) no_items) }
 {
     match form {
@@ -141,7 +141,7 @@ fn read_alone(alloc: Global, place: &Place<'_>, level: usize, form: Form) -> Res
 #[cycle(reading)]
 fn read_one(
     alloc: Global,
-    place: &Place<'_>,
+    place: &JsonPlace<'_>,
     level: usize,
     form: Form,
     x: &Value,
@@ -167,7 +167,7 @@ fn read_one(
 #[cycle(reading)]
 fn read_two(
     alloc: Global,
-    place: &Place<'_>,
+    place: &JsonPlace<'_>,
     level: usize,
     form: Form,
     x: &Value,
@@ -190,7 +190,7 @@ fn read_two(
 #[cycle(reading)]
 fn read_three(
     alloc: Global,
-    place: &Place<'_>,
+    place: &JsonPlace<'_>,
     level: usize,
     form: Form,
     x: &Value,
@@ -223,7 +223,7 @@ fn read_three(
 #[cycle(reading)]
 fn read_both(
     alloc: Global,
-    place: &Place<'_>,
+    place: &JsonPlace<'_>,
     level: usize,
     x: &Value,
     y: &Value,
@@ -241,7 +241,7 @@ fn read_both(
 #[cycle(reading)]
 fn read_operand(
     alloc: Global,
-    place: &Place<'_>,
+    place: &JsonPlace<'_>,
     level: usize,
     at: usize,
     value: &Value,
@@ -250,6 +250,6 @@ fn read_operand(
     ensures { Reads (λ x. term_of x.value) result
         (term_at (in_item (path_of place.now) at) (level + 1) (view value.now)) }
 {
-    let expr = read_expr(alloc, &Place::Item(place, at), level + 1, value)?;
+    let expr = read_expr(alloc, &JsonPlace::Item(place, at), level + 1, value)?;
     Ok(Box::new(alloc, expr)?)
 }

@@ -15,7 +15,7 @@ ghost use Rattle.cat_read.specs.Places.{path_of};
 ghost use Rattle.cat_read.specs.Faults.{Reads};
 
 use crate::faults::Fault;
-use crate::places::{Place, fault_at};
+use crate::places::{JsonPlace, fault_at};
 use crate::statements::{code, indexes, read_exprs, table_number};
 use crate::terms::{index, read_expr};
 use aria_base::Table;
@@ -31,14 +31,14 @@ pub struct Walk<'a> {
     /// The catalogue's tables.
     pub tables: &'a [Table],
     /// The place of the body.
-    pub body: &'a Place<'a>,
+    pub body: &'a JsonPlace<'a>,
     ghost few: { length tables.now ≤ MOST_TABLES },
 }
 
 /// The table and the key of a row.
 fn read_row(
     walk: &Walk<'_>,
-    place: &Place<'_>,
+    place: &JsonPlace<'_>,
     table: &Value,
     key: &Value,
 ) -> Result<(u16, Exprs), Fault>
@@ -55,7 +55,7 @@ fn read_row(
 /// The table, the key and the registers of a row that is read.
 fn read_registers(
     walk: &Walk<'_>,
-    place: &Place<'_>,
+    place: &JsonPlace<'_>,
     table: &Value,
     key: &Value,
     registers: &Value,
@@ -74,7 +74,7 @@ fn read_registers(
 /// `let`: a register and an expression.
 fn read_let(
     walk: &Walk<'_>,
-    place: &Place<'_>,
+    place: &JsonPlace<'_>,
     register: &Value,
     value: &Value,
 ) -> Result<Stmt, Fault>
@@ -85,14 +85,14 @@ fn read_let(
     let Some(register) = index(register) else {
         return Err(fault_at(walk.alloc, place));
     };
-    let value = read_expr(walk.alloc, &Place::Item(place, 2), 1, value)?;
+    let value = read_expr(walk.alloc, &JsonPlace::Item(place, 2), 1, value)?;
     Ok(Stmt::Let(register, value))
 }
 
 /// `get`: a table, a key and registers.
 fn read_get(
     walk: &Walk<'_>,
-    place: &Place<'_>,
+    place: &JsonPlace<'_>,
     table: &Value,
     key: &Value,
     registers: &Value,
@@ -108,7 +108,7 @@ fn read_get(
 /// `need`: a table, a key, registers and the code of a failure.
 fn read_need(
     walk: &Walk<'_>,
-    place: &Place<'_>,
+    place: &JsonPlace<'_>,
     table: &Value,
     key: &Value,
     registers: &Value,
@@ -128,7 +128,7 @@ fn read_need(
 /// `find`: a table, a key, registers and one more that tells whether there was a row.
 fn read_find(
     walk: &Walk<'_>,
-    place: &Place<'_>,
+    place: &JsonPlace<'_>,
     table: &Value,
     key: &Value,
     registers: &Value,
@@ -148,7 +148,7 @@ fn read_find(
 /// `put`: a table, a key and columns.
 fn read_put(
     walk: &Walk<'_>,
-    place: &Place<'_>,
+    place: &JsonPlace<'_>,
     table: &Value,
     key: &Value,
     columns: &Value,
@@ -163,7 +163,12 @@ fn read_put(
 }
 
 /// `del`: a table and a key.
-fn read_del(walk: &Walk<'_>, place: &Place<'_>, table: &Value, key: &Value) -> Result<Stmt, Fault>
+fn read_del(
+    walk: &Walk<'_>,
+    place: &JsonPlace<'_>,
+    table: &Value,
+    key: &Value,
+) -> Result<Stmt, Fault>
     ensures { (seen : ℕ) → Reads (λ s. (step_of s, seen)) result
         (verb_at walk.now.tables.now (path_of walk.now.body.now) (path_of place.now) seen (Some verb.Del)
         (item (view table.now) (item (view key.now) no_items))) }
@@ -173,17 +178,17 @@ fn read_del(walk: &Walk<'_>, place: &Place<'_>, table: &Value, key: &Value) -> R
 }
 
 /// `give`: an expression.
-fn read_give(walk: &Walk<'_>, place: &Place<'_>, value: &Value) -> Result<Stmt, Fault>
+fn read_give(walk: &Walk<'_>, place: &JsonPlace<'_>, value: &Value) -> Result<Stmt, Fault>
     ensures { (seen : ℕ) → Reads (λ s. (step_of s, seen)) result
         (verb_at walk.now.tables.now (path_of walk.now.body.now) (path_of place.now) seen (Some verb.Give)
         (item (view value.now) no_items)) }
 {
-    let value = read_expr(walk.alloc, &Place::Item(place, 1), 1, value)?;
+    let value = read_expr(walk.alloc, &JsonPlace::Item(place, 1), 1, value)?;
     Ok(Stmt::Give(value))
 }
 
 /// `fail`: the code of the failure.
-fn read_fail(walk: &Walk<'_>, place: &Place<'_>, failure: &Value) -> Result<Stmt, Fault>
+fn read_fail(walk: &Walk<'_>, place: &JsonPlace<'_>, failure: &Value) -> Result<Stmt, Fault>
     ensures { (seen : ℕ) → Reads (λ s. (step_of s, seen)) result
         (verb_at walk.now.tables.now (path_of walk.now.body.now) (path_of place.now) seen (Some verb.Fail)
         (item (view failure.now) no_items)) }
@@ -197,7 +202,7 @@ fn read_fail(walk: &Walk<'_>, place: &Place<'_>, failure: &Value) -> Result<Stmt
 /// A statement without blocks, of this verb.
 fn read_flat(
     walk: &Walk<'_>,
-    place: &Place<'_>,
+    place: &JsonPlace<'_>,
     verb: Verb,
     operands: &[Value],
 ) -> Result<Stmt, Fault>
@@ -217,7 +222,7 @@ fn read_flat(
 }
 
 /// The statement of this verb with one operand.
-fn read_one(walk: &Walk<'_>, place: &Place<'_>, verb: Verb, x: &Value) -> Result<Stmt, Fault>
+fn read_one(walk: &Walk<'_>, place: &JsonPlace<'_>, verb: Verb, x: &Value) -> Result<Stmt, Fault>
     ensures { (seen : ℕ) → Reads (λ s. (step_of s, seen)) result
         (verb_at walk.now.tables.now (path_of walk.now.body.now) (path_of place.now) seen (Some verb)
         (item (view x.now) no_items)) }
@@ -232,7 +237,7 @@ fn read_one(walk: &Walk<'_>, place: &Place<'_>, verb: Verb, x: &Value) -> Result
 /// The statement of this verb with two operands.
 fn read_two(
     walk: &Walk<'_>,
-    place: &Place<'_>,
+    place: &JsonPlace<'_>,
     verb: Verb,
     x: &Value,
     y: &Value,
@@ -252,7 +257,7 @@ fn read_two(
 /// The statement of this verb with three operands.
 fn read_three(
     walk: &Walk<'_>,
-    place: &Place<'_>,
+    place: &JsonPlace<'_>,
     verb: Verb,
     x: &Value,
     y: &Value,
@@ -273,7 +278,7 @@ fn read_three(
 /// The statement of this verb with four operands.
 fn read_four(
     walk: &Walk<'_>,
-    place: &Place<'_>,
+    place: &JsonPlace<'_>,
     verb: Verb,
     w: &Value,
     x: &Value,
@@ -303,7 +308,7 @@ fn verb_of(name: &Value) -> Option<Verb>
 #[cycle(walking)]
 fn read_stmt(
     walk: &Walk<'_>,
-    place: &Place<'_>,
+    place: &JsonPlace<'_>,
     seen: usize,
     value: &Value,
 ) -> Result<(Stmt, usize), Fault>
@@ -321,7 +326,7 @@ fn read_stmt(
 #[cycle(walking)]
 fn read_statement(
     walk: &Walk<'_>,
-    place: &Place<'_>,
+    place: &JsonPlace<'_>,
     seen: usize,
     items: &Vec<Value>,
 ) -> Result<(Stmt, usize), Fault>
@@ -342,7 +347,7 @@ fn read_statement(
 #[cycle(walking)]
 fn read_verb(
     walk: &Walk<'_>,
-    place: &Place<'_>,
+    place: &JsonPlace<'_>,
     seen: usize,
     verb: Verb,
     operands: &[Value],
@@ -365,7 +370,7 @@ fn read_verb(
 #[cycle(walking)]
 fn read_if(
     walk: &Walk<'_>,
-    place: &Place<'_>,
+    place: &JsonPlace<'_>,
     seen: usize,
     operands: &[Value],
 ) -> Result<(Stmt, usize), Fault>
@@ -384,11 +389,11 @@ fn read_if(
 
 /// The test of an `if`. It is in a box, since the proof of who reads the blocks behind it lets a box go
 /// in one step, and an expression by its cases.
-fn read_test(walk: &Walk<'_>, place: &Place<'_>, test: &Value) -> Result<Box<Expr>, Fault>
+fn read_test(walk: &Walk<'_>, place: &JsonPlace<'_>, test: &Value) -> Result<Box<Expr>, Fault>
     ensures { Reads (λ e. term_of e.value) result
         (term_at (in_item (path_of place.now) 1) 1 (view test.now)) }
 {
-    let expr = read_expr(walk.alloc, &Place::Item(place, 1), 1, test)?;
+    let expr = read_expr(walk.alloc, &JsonPlace::Item(place, 1), 1, test)?;
     Ok(Box::new(walk.alloc, expr)?)
 }
 
@@ -396,7 +401,7 @@ fn read_test(walk: &Walk<'_>, place: &Place<'_>, test: &Value) -> Result<Box<Exp
 #[cycle(walking)]
 fn read_each(
     walk: &Walk<'_>,
-    place: &Place<'_>,
+    place: &JsonPlace<'_>,
     seen: usize,
     operands: &[Value],
 ) -> Result<(Stmt, usize), Fault>
@@ -419,7 +424,7 @@ fn read_each(
 #[cycle(walking)]
 fn read_block(
     walk: &Walk<'_>,
-    place: &Place<'_>,
+    place: &JsonPlace<'_>,
     at: usize,
     seen: usize,
     value: &Value,
@@ -429,7 +434,7 @@ fn read_block(
         (view value.now)) }
 {
     match value {
-        Value::Array(items) => read_steps(walk, &Place::Item(&*place, at), seen, items),
+        Value::Array(items) => read_steps(walk, &JsonPlace::Item(&*place, at), seen, items),
         _ => Err(fault_at(walk.alloc, place)),
     }
 }
@@ -438,7 +443,7 @@ fn read_block(
 #[cycle(walking)]
 fn read_steps(
     walk: &Walk<'_>,
-    place: &Place<'_>,
+    place: &JsonPlace<'_>,
     seen: usize,
     items: &Vec<Value>,
 ) -> Result<(Block, usize), Fault>
@@ -452,7 +457,7 @@ fn read_steps(
         if seen >= MOST_STATEMENTS {
             return Err(fault_at(walk.alloc, walk.body));
         }
-        let (stmt, after) = read_stmt(walk, &Place::Item(&*place, at), seen + 1, item)?;
+        let (stmt, after) = read_stmt(walk, &JsonPlace::Item(&*place, at), seen + 1, item)?;
         stmts.push(stmt)?;
         seen = after;
     }
@@ -463,7 +468,7 @@ fn read_steps(
 pub fn read_body(
     alloc: Global,
     tables: &[Table],
-    place: &Place<'_>,
+    place: &JsonPlace<'_>,
     value: &Value,
 ) -> Result<Block, Fault>
     requires { length tables.now ≤ MOST_TABLES }

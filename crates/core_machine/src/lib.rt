@@ -19,17 +19,17 @@
 
 mod cores;
 mod decisions;
+mod event_runs;
 pub mod events;
 mod found;
 mod kinds;
 pub mod laws;
 mod phases;
 mod refusals;
-mod runs;
 mod steps;
 mod words;
 
 pub use cores::Core;
+pub use event_runs::run;
 pub use events::Event;
 pub use refusals::CoreRefused;
-pub use runs::run;

@@ -6,7 +6,7 @@ ghost use Rattle.install_phase.specs.Deals.{Adds, IsDeal};
 ghost use Rattle.install_phase.specs.Installs.{written};
 
 use crate::jobs::Write;
-use crate::shares::Task;
+use crate::shares::PartWork;
 use aria_base::{Changes, Key, Memory, Row};
 use batch_rules::verdicts::Verdict;
 use std::alloc::Global;
@@ -69,7 +69,7 @@ pub(crate) struct Dealing<'a> {
     pub(crate) verdicts: &'a [Verdict],
 }
 
-impl<'a> Task for Dealing<'a> {
+impl<'a> PartWork for Dealing<'a> {
     ghost use Rattle.std.specs.Prelude.{◌+◌, drop};
     ghost use Rattle.install_phase.specs.Deals.{IsDeal};
     ghost use Rattle.install_phase.specs.Installs.{written};

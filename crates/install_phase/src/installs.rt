@@ -6,7 +6,7 @@ ghost use Rattle.install_phase.specs.Installs.{after_finishing, after_changes};
 use crate::deals::Dealing;
 use crate::hands::hand_out;
 use crate::jobs::Job;
-use crate::shares::{Task, share_out};
+use crate::shares::{PartWork, share_out};
 use aria_base::{Changes, Memory, Pace};
 use batch_rules::verdicts::Verdict;
 use proc_exec::Outcome;
@@ -39,7 +39,7 @@ struct Taking {
     alloc: Global,
 }
 
-impl Task for Taking {
+impl PartWork for Taking {
     ghost use Rattle.std.specs.Prelude.{◌≡◌, map};
 
     type Item = Outcome;
@@ -96,7 +96,7 @@ struct Making<'a, P> {
     pace: &'a P,
 }
 
-impl<'a, P: Pace> Task for Making<'a, P> {
+impl<'a, P: Pace> PartWork for Making<'a, P> {
     ghost use Rattle.std.specs.Prelude.{◌≡◌, map};
     ghost use Rattle.install_phase.specs.Jobs.{finished};
 

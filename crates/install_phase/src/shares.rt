@@ -9,7 +9,7 @@ use std::thread::{Threads, join};
 use tbl_rows::SHARDS;
 
 /// What is made of the parts of a list.
-pub(crate) trait Task {
+pub(crate) trait PartWork {
     type Item: Drop + Send;
 
     type Made: Drop + Send;
@@ -25,7 +25,7 @@ pub(crate) trait Task {
 /// What the workers make of the list, in its order. It is cut into as many parts of neighbours as there
 /// are workers, but no more than there are items or shards. A worker whose thread cannot be started does
 /// its part on the thread that was to start it; for one worker none is started.
-pub(crate) fn share_out<T: Task + Sync, R: Threads + Sync>(
+pub(crate) fn share_out<T: PartWork + Sync, R: Threads + Sync>(
     rt: &R,
     alloc: Global,
     task: &T,
@@ -40,7 +40,7 @@ pub(crate) fn share_out<T: Task + Sync, R: Threads + Sync>(
 }
 
 /// What this worker and `others` more make of the list.
-fn spread<T: Task + Sync, R: Threads + Sync>(
+fn spread<T: PartWork + Sync, R: Threads + Sync>(
     rt: &R,
     alloc: Global,
     task: &T,
@@ -76,7 +76,7 @@ fn spread<T: Task + Sync, R: Threads + Sync>(
 }
 
 /// What one worker makes of all of it.
-fn alone<T: Task>(
+fn alone<T: PartWork>(
     alloc: Global,
     task: &T,
     items: Vec<T::Item>,

@@ -14,22 +14,22 @@ use Rattle.proc_lang.specs.declared.limits.TheConstants.{MOST_ACCESSES}
 use Rattle.proc_lang.specs.Meaning.{Frame, Next, Run}
 use Rattle.proc_exec.specs.declared.outcomes.Ran.{Ran}
 use Rattle.proc_exec.specs.declared.outcomes.Ran.TheVariants as ran
-use Rattle.proc_exec.specs.declared.stops.Fault.{Fault}
-use Rattle.proc_exec.specs.declared.stops.Fault.TheVariants as fault
-use Rattle.proc_exec.specs.declared.stops.Stop.{Stop}
-use Rattle.proc_exec.specs.declared.stops.Stop.TheVariants as stop
+use Rattle.proc_exec.specs.declared.early_ends.EvalFault.{EvalFault}
+use Rattle.proc_exec.specs.declared.early_ends.EvalFault.TheVariants as fault
+use Rattle.proc_exec.specs.declared.early_ends.RunStop.{RunStop}
+use Rattle.proc_exec.specs.declared.early_ends.RunStop.TheVariants as stop
 
 abbrev pub Window : Type 0
 Window = Seen key_cmp Cells
 
 -- one access more, or the trap where it would be one too many
-abbrev pub Counts : {A : Type 0} → Result A Fault → Frame → Frame → Type 0
+abbrev pub Counts : {A : Type 0} → Result A EvalFault → Frame → Frame → Type 0
 Counts (Ok x) old new = (nat_lt old.made MOST_ACCESSES ≡ true) × (new ≡ record { regs = old.regs; gives = old.gives; made = old.made + 1 })
 Counts (Err fault.Memory) old new = ⊥
 Counts (Err (fault.Trap trap)) old new = (trap ≡ Many) × (nat_lt old.made MOST_ACCESSES ≡ false)
 
 -- a step without access: what is next goes on from the new frame, or the run ends by the trap
-abbrev pub Goes : {A : Type 0} → Result A Fault → Next → Frame → Run → Type 0
+abbrev pub Goes : {A : Type 0} → Result A EvalFault → Next → Frame → Run → Type 0
 Goes (Ok x) next frame run = run ≡ next frame
 Goes (Err fault.Memory) next frame run = Unit {0}
 Goes (Err (fault.Trap trap)) next frame run = run ≡ Ends (end.Trap trap)
@@ -40,7 +40,7 @@ stopped end seen = record { end = Finishes end; seen = seen }
 
 -- The run played from here on is what is next, played from the new frame on the new window; or it has come to its end, or to its
 -- first access that is not allowed.
-abbrev pub Follows : {A : Type 0} → Result A Stop → Option (Touchable Key) → Next → Frame → Window → Played key_cmp Cells End → Type 0
+abbrev pub Follows : {A : Type 0} → Result A RunStop → Option (Touchable Key) → Next → Frame → Window → Played key_cmp Cells End → Type 0
 Follows (Ok x) limits next frame seen played = played ≡ play limits (next frame) seen
 Follows (Err stop.Memory) limits next frame seen played = Unit {0}
 Follows (Err (stop.Back code)) limits next frame seen played = played ≡ stopped (end.Back code) seen
@@ -48,11 +48,11 @@ Follows (Err (stop.Trap trap)) limits next frame seen played = played ≡ stoppe
 Follows (Err (stop.Moved key)) limits next frame seen played = played ≡ record { end = Strays key; seen = seen }
 
 -- A part of a run, as what comes before what is next: played from the old frame on the old window, it is followed so.
-abbrev pub Performs : {A : Type 0} → Result A Stop → Option (Touchable Key) → (Next → Next) → Frame → Frame → Window → Window → Type 0
+abbrev pub Performs : {A : Type 0} → Result A RunStop → Option (Touchable Key) → (Next → Next) → Frame → Frame → Window → Window → Type 0
 Performs result limits part old new seen seen' = (next : Next) → Follows result limits next new seen' (play limits (part next old) seen)
 
 -- one read of the key: the row, the frame and the window after it, or why it is not made
-abbrev pub Fetched : Result (Option Cells) Stop → Option (Touchable Key) → Key → Frame → Frame → Window → Window → Type 0
+abbrev pub Fetched : Result (Option Cells) RunStop → Option (Touchable Key) → Key → Frame → Frame → Window → Window → Type 0
 Fetched (Ok row) limits key old new seen seen' = (nat_lt old.made MOST_ACCESSES ≡ true)
     × (allows_read key_cmp limits key ≡ true) × (row ≡ fin.get seen.map key)
     × (new ≡ record { regs = old.regs; gives = old.gives; made = old.made + 1 }) × (seen' ≡ after_read seen key)

@@ -5,10 +5,10 @@ ghost use Rattle.proc_lang.specs.Meaning.{writes};
 ghost use Rattle.proc_exec.specs.Scopes.{step_in};
 ghost use Rattle.proc_exec.specs.Steppings.{Performs, Fetched};
 
+use crate::early_ends::RunStop;
 use crate::frames::Running;
 use crate::limits::Limits;
 use crate::scopes::Setting;
-use crate::stops::Stop;
 use aria_base::{Key, Row};
 use proc_lang::{Access, Exprs, Regs, Trap};
 
@@ -20,12 +20,12 @@ pub fn get<L: Limits, A: Access>(
     registers: &Regs,
     state: &mut Running,
     access: &mut A,
-) -> Result<(), Stop>
+) -> Result<(), RunStop>
     ensures { Performs result (L.declared setting.now.limits.now) (step_in setting.now.scope (step.Read step.Traps table key.now registers.now)) state.old state.new (A.seen access.old) (A.seen access.new) }
 {
     let key = state.key(&setting.scope, table, key)?;
     let Some(row) = fetch(setting.limits, key, state, access)? else {
-        return Err(Stop::Trap(Trap::Absent));
+        return Err(RunStop::Trap(Trap::Absent));
     };
     state.set_row(registers, row);
     Ok(())
@@ -40,12 +40,12 @@ pub fn need<L: Limits, A: Access>(
     code: u16,
     state: &mut Running,
     access: &mut A,
-) -> Result<(), Stop>
+) -> Result<(), RunStop>
     ensures { Performs result (L.declared setting.now.limits.now) (step_in setting.now.scope (step.Read (step.Fails code) table key.now registers.now)) state.old state.new (A.seen access.old) (A.seen access.new) }
 {
     let key = state.key(&setting.scope, table, key)?;
     let Some(row) = fetch(setting.limits, key, state, access)? else {
-        return Err(Stop::Back(code));
+        return Err(RunStop::Back(code));
     };
     state.set_row(registers, row);
     Ok(())
@@ -60,7 +60,7 @@ pub fn find<L: Limits, A: Access>(
     flag: u32,
     state: &mut Running,
     access: &mut A,
-) -> Result<(), Stop>
+) -> Result<(), RunStop>
     ensures { Performs result (L.declared setting.now.limits.now) (step_in setting.now.scope (step.Read (step.Blanks flag) table key.now registers.now)) state.old state.new (A.seen access.old) (A.seen access.new) }
 {
     let key = state.key(&setting.scope, table, key)?;
@@ -79,7 +79,7 @@ pub fn put<L: Limits, A: Access>(
     columns: &Exprs,
     state: &mut Running,
     access: &mut A,
-) -> Result<(), Stop>
+) -> Result<(), RunStop>
     ensures { Performs result (L.declared setting.now.limits.now) (step_in setting.now.scope (step.Put table key.now columns.now)) state.old state.new (A.seen access.old) (A.seen access.new) }
 {
     let key = state.key(&setting.scope, table, key)?;
@@ -94,7 +94,7 @@ pub fn delete<L: Limits, A: Access>(
     key: &Exprs,
     state: &mut Running,
     access: &mut A,
-) -> Result<(), Stop>
+) -> Result<(), RunStop>
     ensures { Performs result (L.declared setting.now.limits.now) (step_in setting.now.scope (step.Del table key.now)) state.old state.new (A.seen access.old) (A.seen access.new) }
 {
     let key = state.key(&setting.scope, table, key)?;
@@ -107,12 +107,12 @@ fn fetch<L: Limits, A: Access>(
     key: Key,
     state: &mut Running,
     access: &mut A,
-) -> Result<Option<Row>, Stop>
+) -> Result<Option<Row>, RunStop>
     ensures { Fetched result (L.declared limits.now) key state.old state.new (A.seen access.old) (A.seen access.new) }
 {
     state.count()?;
     if !limits.allows_read(&key) {
-        return Err(Stop::Moved(key));
+        return Err(RunStop::Moved(key));
     }
     Ok(access.read(&key)?)
 }
@@ -124,12 +124,12 @@ fn store<L: Limits, A: Access>(
     row: Option<Row>,
     state: &mut Running,
     access: &mut A,
-) -> Result<(), Stop>
+) -> Result<(), RunStop>
     ensures { Performs result (L.declared limits.now) (writes (Ok key) (Ok row)) state.old state.new (A.seen access.old) (A.seen access.new) }
 {
     state.count()?;
     if !limits.allows_write(&key) {
-        return Err(Stop::Moved(key));
+        return Err(RunStop::Moved(key));
     }
     access.write(key, row)?;
     Ok(())

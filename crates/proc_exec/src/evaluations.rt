@@ -5,18 +5,18 @@ ghost use Rattle.proc_lang.specs.Values.{both};
 ghost use Rattle.proc_exec.specs.Faults.{Computes};
 ghost use Rattle.proc_exec.specs.Scopes.{value_in, values_in};
 
-use crate::numbers::product_divided_by;
+use crate::arithmetic::product_divided_by;
+use crate::early_ends::EvalFault;
 use crate::operands::{direct_number, named, number_at};
 use crate::operators::{by_binary, by_unary};
-use crate::scopes::Scope;
-use crate::stops::Fault;
+use crate::scopes::RunScope;
 use crate::texts::front_of;
 use aria_base::{Duplicate, Items, Value};
 use proc_lang::{Expr, Exprs, Shape};
 
 /// The value of the expression, for this request, this tuple of an `Each` and these registers.
 #[cycle(evaluating)]
-pub fn eval(scope: &Scope, registers: &Vec<Value>, expr: &Expr) -> Result<Value, Fault>
+pub fn eval(scope: &RunScope, registers: &Vec<Value>, expr: &Expr) -> Result<Value, EvalFault>
     ensures { Computes result (value_in scope.now registers.now.items (term_of expr.now)) }
 {
     match direct_number(scope, registers, expr) {
@@ -29,7 +29,7 @@ pub fn eval(scope: &Scope, registers: &Vec<Value>, expr: &Expr) -> Result<Value,
 /// the locals of all its arms.
 #[cycle(evaluating)]
 #[inline(never)]
-fn eval_shape(scope: &Scope, registers: &Vec<Value>, expr: &Expr) -> Result<Value, Fault>
+fn eval_shape(scope: &RunScope, registers: &Vec<Value>, expr: &Expr) -> Result<Value, EvalFault>
     ensures { Computes result (value_in scope.now registers.now.items (term_of expr.now)) }
 {
     match expr.shape() {
@@ -60,11 +60,11 @@ fn eval_shape(scope: &Scope, registers: &Vec<Value>, expr: &Expr) -> Result<Valu
 /// The values of two expressions, the first one first.
 #[cycle(evaluating)]
 fn eval_both(
-    scope: &Scope,
+    scope: &RunScope,
     registers: &Vec<Value>,
     first: &Expr,
     second: &Expr,
-) -> Result<(Value, Value), Fault>
+) -> Result<(Value, Value), EvalFault>
     ensures { Computes result (both (value_in scope.now registers.now.items (term_of first.now)) (value_in scope.now registers.now.items (term_of second.now))) }
 {
     let value = match number_at(scope, registers, first) {
@@ -78,7 +78,11 @@ fn eval_both(
 }
 
 /// The values of a list of expressions, from the left.
-pub fn eval_all(scope: &Scope, registers: &Vec<Value>, exprs: &Exprs) -> Result<Items<Value>, Fault>
+pub fn eval_all(
+    scope: &RunScope,
+    registers: &Vec<Value>,
+    exprs: &Exprs,
+) -> Result<Items<Value>, EvalFault>
     ensures count { IfOk result (λ values. length values ≡ length exprs.now) }
     ensures values { Computes result (values_in scope.now registers.now.items exprs.now) }
 {

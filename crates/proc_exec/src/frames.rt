@@ -10,9 +10,9 @@ ghost use Rattle.proc_exec.specs.Faults.{Computes};
 ghost use Rattle.proc_exec.specs.Scopes.{value_in, values_in, step_in};
 ghost use Rattle.proc_exec.specs.Steppings.{Counts, Goes};
 
+use crate::early_ends::EvalFault;
 use crate::evaluations::{eval, eval_all};
-use crate::scopes::Scope;
-use crate::stops::Fault;
+use crate::scopes::RunScope;
 use crate::texts::kept;
 use aria_base::{Key, Kind, Kinded, Kinds, MOST_COLUMNS, Memory, Part, Parts, Row, Value};
 use proc_lang::{Expr, Exprs, Gives, MOST_ACCESSES, MOST_GIVEN, Regs, Trap};
@@ -52,14 +52,14 @@ impl Running {
     }
 
     /// The value of an expression.
-    pub fn value(&self, scope: &Scope, expr: &Expr) -> Result<Value, Fault>
+    pub fn value(&self, scope: &RunScope, expr: &Expr) -> Result<Value, EvalFault>
         ensures { Computes result (value_in scope.now self.now.regs (term_of expr.now)) }
     {
         eval(scope, &self.registers, expr)
     }
 
     /// The key in this table with the values of these expressions.
-    pub fn key(&self, scope: &Scope, table: u16, exprs: &Exprs) -> Result<Key, Fault>
+    pub fn key(&self, scope: &RunScope, table: u16, exprs: &Exprs) -> Result<Key, EvalFault>
         ensures { Computes result (key_from scope.now.request.now scope.now.item.now self.now.regs table exprs.now) }
     {
         let parts = self.parts(scope, exprs)?;
@@ -67,7 +67,7 @@ impl Running {
     }
 
     /// The parts of a key with the values of these expressions.
-    fn parts(&self, scope: &Scope, exprs: &Exprs) -> Result<Parts, Fault>
+    fn parts(&self, scope: &RunScope, exprs: &Exprs) -> Result<Parts, EvalFault>
         ensures { Computes result (got (values_in scope.now self.now.regs exprs.now) (λ vs. Ok (parts_of vs))) }
     {
         match exprs.as_slice() {
@@ -100,7 +100,7 @@ impl Running {
     }
 
     /// The row with the values of these expressions.
-    pub fn row(&self, scope: &Scope, exprs: &Exprs) -> Result<Row, Fault>
+    pub fn row(&self, scope: &RunScope, exprs: &Exprs) -> Result<Row, EvalFault>
         ensures { Computes result (row_from scope.now.request.now scope.now.item.now self.now.regs exprs.now) }
     {
         let mut values = eval_all(scope, &self.registers, exprs)?.into_vec();
@@ -109,7 +109,7 @@ impl Running {
     }
 
     /// Sets a register to the value of an expression.
-    pub fn assign(&mut self, scope: &Scope, register: u32, expr: &Expr) -> Result<(), Fault>
+    pub fn assign(&mut self, scope: &RunScope, register: u32, expr: &Expr) -> Result<(), EvalFault>
         ensures { (next : Next) → Goes result next self.new (step_in scope.now (step.Let register (term_of expr.now)) next self.old) }
     {
         let value = self.value(scope, expr)?;
@@ -174,23 +174,23 @@ impl Running {
     }
 
     /// Counts an access that is to be made; traps where it would be one too many.
-    pub fn count(&mut self) -> Result<(), Fault>
+    pub fn count(&mut self) -> Result<(), EvalFault>
         ensures { Counts result self.old self.new }
     {
         if MOST_ACCESSES <= self.made {
-            return Err(Fault::Trap(Trap::Many));
+            return Err(EvalFault::Trap(Trap::Many));
         }
         self.made += 1;
         Ok(())
     }
 
     /// Adds the value of an expression to the reply; traps where it would be one too many.
-    pub fn give(&mut self, scope: &Scope, expr: &Expr) -> Result<(), Fault>
+    pub fn give(&mut self, scope: &RunScope, expr: &Expr) -> Result<(), EvalFault>
         ensures { (next : Next) → Goes result next self.new (step_in scope.now (step.Give (term_of expr.now)) next self.old) }
     {
         let value = self.value(scope, expr)?;
         if MOST_GIVEN <= self.given.len() {
-            return Err(Fault::Trap(Trap::Many));
+            return Err(EvalFault::Trap(Trap::Many));
         }
         self.given.push(value)?;
         Ok(())

@@ -7,7 +7,7 @@ ghost use Rattle.proc_exec.specs.Steppings.{ComesTo};
 
 use crate::limits::{Limits, Unlimited};
 use crate::outcomes::{Declared, Ran};
-use crate::runs::run_proc;
+use crate::statements::run_proc;
 use aria_base::{Memory, Request};
 use proc_lang::{Access, Catalog, End, Gives};
 use std::alloc::Global;

@@ -7,7 +7,7 @@
 //! ```text
 //! interpretations     a request of a catalogue
 //!        |
-//!      runs           a procedure's blocks and statements, over a frame (frames) in a scope (scopes)
+//!   statements        a procedure's blocks and statements, over a frame (frames) in a scope (scopes)
 //!      |   \
 //! accesses  evaluations ─ operands         what expressions name, read where it stands
 //!      |             \─── operators        what is made of it: numbers, texts
@@ -16,24 +16,24 @@
 //!   Access            the window
 //! ```
 //!
-//! `stops` says why a run goes no further, and `outcomes` what whole runs come to.
+//! `early_ends` says why a run goes no further, and `outcomes` what whole runs come to.
 //!
 //! In `specs/`: `Endings` says what a run through a window comes to, `Outcomes` what one on a snapshot
 //! does, and `Lates` what the late fold of a batch is over the types here.
 #![tactic(auto)]
 
 mod accesses;
+mod arithmetic;
+mod early_ends;
 mod evaluations;
 mod frames;
 mod interpretations;
 mod limits;
-mod numbers;
 mod operands;
 mod operators;
 mod outcomes;
-mod runs;
 mod scopes;
-mod stops;
+mod statements;
 mod texts;
 
 pub use interpretations::{interpret, interpret_within};

@@ -3,11 +3,11 @@ ghost use Rattle.std.specs.Prelude.{◌≡◌, IfOk};
 ghost use Rattle.proc_lang.specs.Meaning.{by_unary, by_binary};
 ghost use Rattle.proc_exec.specs.Faults.{Computes};
 
-use crate::numbers::{
+use crate::arithmetic::{
     all_hold, at_most, difference, divided_by, holds, int, less, one_holds, product, remainder_by,
     sum, truth_value,
 };
-use crate::stops::Fault;
+use crate::early_ends::EvalFault;
 use crate::texts::{join, same, show};
 use aria_base::{Memory, Value};
 use proc_lang::{BinaryOp, UnaryOp};
@@ -28,7 +28,7 @@ pub fn by_binary(
     alloc: Global,
     operator: BinaryOp,
     operands: &(Value, Value),
-) -> Result<Value, Fault>
+) -> Result<Value, EvalFault>
     ensures { Computes result (by_binary operator operands.now) }
 {
     match operator {

@@ -8,7 +8,7 @@ use std::alloc::Global;
 /// Where an expression is evaluated: what it may name besides registers, and where the memory of its
 /// value comes from.
 #[derive(Clone, Copy)]
-pub struct Scope<'a> {
+pub struct RunScope<'a> {
     /// Where memory comes from.
     pub alloc: Global,
     /// The request that is run.
@@ -21,12 +21,12 @@ pub struct Scope<'a> {
 #[derive_where(Clone, Copy)]
 pub struct Setting<'a, L> {
     /// Where its expressions are evaluated.
-    pub scope: Scope<'a>,
+    pub scope: RunScope<'a>,
     /// What its accesses may touch.
     pub limits: &'a L,
 }
 
-impl<'a> Scope<'a> {
+impl<'a> RunScope<'a> {
     /// The value of an argument, 0 where it is a list or absent.
     pub fn argument(&self, at: u32) -> Result<Value, Memory>
         ensures { IfOk result (λ v. v ≡ value_of_arg (slice_get self.now.request.now.call.args at)) }

@@ -7,7 +7,7 @@ ghost use Rattle.aria_base.specs.declared.limits.TheConstants.{LONGEST_TEXT};
 ghost use Rattle.proc_lang.specs.Values.{text_of, same_value, joined, front};
 ghost use Rattle.proc_exec.specs.Faults.{Computes};
 
-use crate::stops::Fault;
+use crate::early_ends::EvalFault;
 use aria_base::{LONGEST_TEXT, Memory, Txt, TxtRefused, Value};
 use proc_lang::Trap;
 use std::alloc::Global;
@@ -64,13 +64,13 @@ fn first_bytes(alloc: Global, first: &[u8], second: &[u8], most: usize) -> Resul
 
 /// The two joined; traps where that is no text.
 #[tactic(auto, using(crate::proofs::TextFacts::joined_whole))]
-pub fn join(alloc: Global, pair: &(Value, Value)) -> Result<Value, Fault>
+pub fn join(alloc: Global, pair: &(Value, Value)) -> Result<Value, EvalFault>
     ensures { Computes result (joined (text_of pair.now.0) (text_of pair.now.1)) }
 {
     let first = text(&pair.0);
     let second = text(&pair.1);
     if LONGEST_TEXT < first.len() + second.len() {
-        return Err(Fault::Trap(Trap::Long));
+        return Err(EvalFault::Trap(Trap::Long));
     }
     Ok(Value::Text(first_bytes(alloc, first, second, LONGEST_TEXT)?))
 }

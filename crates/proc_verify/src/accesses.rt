@@ -10,13 +10,13 @@ use crate::assignments::{set_all, set_one};
 use crate::causes::{Typed, wanted};
 use crate::expressions::{kinds_after, same_kind};
 use crate::registers::SetRegisters;
-use crate::scopes::Scope;
+use crate::scopes::CheckScope;
 use aria_base::{Duplicate, Kind, Kinds, Memory, Table};
 use proc_lang::{COLUMNS, Exprs, KEY_LENGTH, KIND, Regs, UNKNOWN_TABLE};
 use std::alloc::Global;
 
 /// The table, which has keys of so many parts.
-fn keyed<'a>(scope: &Scope<'a>, table: u16, parts: usize) -> Typed<&'a Table>
+fn keyed<'a>(scope: &CheckScope<'a>, table: u16, parts: usize) -> Typed<&'a Table>
     ensures { got result (λ found. Ok found.now) ≡ keyed (seen scope.now) table parts }
 {
     let schema = scope.schema;
@@ -28,7 +28,7 @@ fn keyed<'a>(scope: &Scope<'a>, table: u16, parts: usize) -> Typed<&'a Table>
 }
 
 /// The same, which has so many columns too.
-fn shaped<'a>(scope: &Scope<'a>, table: u16, parts: usize, columns: usize) -> Typed<&'a Table>
+fn shaped<'a>(scope: &CheckScope<'a>, table: u16, parts: usize, columns: usize) -> Typed<&'a Table>
     ensures { got result (λ found. Ok found.now) ≡ shaped (seen scope.now) table parts columns }
 {
     let found = keyed(scope, table, parts)?;
@@ -72,7 +72,7 @@ fn row_kinds(alloc: Global, table: &Table) -> Result<Kinds, Memory>
 /// The kinds of a key, and then of columns.
 fn kinds_of_row(
     alloc: Global,
-    scope: &Scope,
+    scope: &CheckScope,
     set: &SetRegisters,
     key: &Exprs,
     columns: &Exprs,
@@ -88,7 +88,7 @@ fn kinds_of_row(
 /// The kinds of a key.
 fn kinds_of(
     alloc: Global,
-    scope: &Scope,
+    scope: &CheckScope,
     set: &SetRegisters,
     key: &Exprs,
 ) -> Result<Typed<Kinds>, Memory>
@@ -99,7 +99,7 @@ fn kinds_of(
 
 /// A row of this table into registers, by a key of these kinds.
 fn read_into(
-    scope: &Scope,
+    scope: &CheckScope,
     table: &Table,
     kinds: Typed<Kinds>,
     registers: &Regs,
@@ -114,7 +114,7 @@ fn read_into(
 /// Which registers are set behind a statement that reads a row into registers.
 pub fn reads(
     alloc: Global,
-    scope: &Scope,
+    scope: &CheckScope,
     table: u16,
     key: &Exprs,
     registers: &Regs,
@@ -135,7 +135,7 @@ pub fn reads(
 /// The same, where a last register becomes 1 or 0.
 pub fn finds(
     alloc: Global,
-    scope: &Scope,
+    scope: &CheckScope,
     table: u16,
     key: &Exprs,
     registers: &Regs,
@@ -153,7 +153,7 @@ pub fn finds(
 /// Which registers are set behind a statement that writes a row: those before it.
 pub fn writes(
     alloc: Global,
-    scope: &Scope,
+    scope: &CheckScope,
     table: u16,
     key: &Exprs,
     columns: &Exprs,
@@ -175,7 +175,7 @@ pub fn writes(
 /// Which registers are set behind a statement that deletes a row: those before it.
 pub fn deletes(
     alloc: Global,
-    scope: &Scope,
+    scope: &CheckScope,
     table: u16,
     key: &Exprs,
     set: SetRegisters,

@@ -6,13 +6,13 @@ ghost use Rattle.proc_verify.specs.Scopes.{seen};
 use crate::causes::{Typed, wanted};
 use crate::expressions::same_kind;
 use crate::registers::SetRegisters;
-use crate::scopes::Scope;
+use crate::scopes::CheckScope;
 use aria_base::{Kind, Kinds};
 use proc_lang::{KIND, Regs};
 
 /// Sets a register to a value of this kind.
 pub fn set_one(
-    scope: &Scope,
+    scope: &CheckScope,
     register: u32,
     kind: Kind,
     mut set: SetRegisters,
@@ -28,7 +28,7 @@ pub fn set_one(
 /// Sets registers to values of these kinds, from the left, as far as there are both.
 #[tactic(auto, using(crate::proofs::Pairs::set_all_none, std::proofs::lemmas::Grind::common_steps))]
 pub fn set_all(
-    scope: &Scope,
+    scope: &CheckScope,
     registers: &Regs,
     kinds: &Kinds,
     set: SetRegisters,

@@ -8,7 +8,7 @@ ghost use Rattle.proc_verify.specs.Scopes.{seen};
 
 use crate::causes::{Typed, wanted};
 use crate::registers::SetRegisters;
-use crate::scopes::Scope;
+use crate::scopes::CheckScope;
 use aria_base::{Kind, Kinds, Memory};
 use proc_lang::{BinaryOp, Expr, Exprs, KIND, REGISTER, Shape, Source, UnaryOp};
 
@@ -23,7 +23,7 @@ pub fn same_kind(kind: Kind, other: Kind) -> bool
 }
 
 /// The kind of a register that is read.
-fn register_kind(scope: &Scope, set: &SetRegisters, register: u32) -> Typed<Kind>
+fn register_kind(scope: &CheckScope, set: &SetRegisters, register: u32) -> Typed<Kind>
     ensures { result ≡ register_kind (seen scope.now) set.now register }
 {
     wanted(REGISTER, set.contains(register))?;
@@ -67,7 +67,7 @@ fn by_equals(operands: (Kind, Kind)) -> Typed<Kind>
 }
 
 /// The kind of what is named by a number.
-fn named_kind(scope: &Scope, set: &SetRegisters, source: Source, number: u32) -> Typed<Kind>
+fn named_kind(scope: &CheckScope, set: &SetRegisters, source: Source, number: u32) -> Typed<Kind>
     ensures { result ≡ named_kind (seen scope.now) set.now source number }
 {
     match source {
@@ -105,7 +105,7 @@ fn binary_kind(operator: BinaryOp, operands: (Kind, Kind)) -> Typed<Kind>
 /// The kind of the expression's value. A node's own register, argument or item is looked at first,
 /// then its operands from the left, then their kinds.
 #[cycle(finding)]
-pub fn kind_of(scope: &Scope, set: &SetRegisters, expr: &Expr) -> Typed<Kind>
+pub fn kind_of(scope: &CheckScope, set: &SetRegisters, expr: &Expr) -> Typed<Kind>
     ensures { result ≡ kind_of (seen scope.now) set.now (term_of expr.now) }
 {
     match expr.shape() {
@@ -124,7 +124,7 @@ pub fn kind_of(scope: &Scope, set: &SetRegisters, expr: &Expr) -> Typed<Kind>
 
 /// The kinds of two expressions, the first one first.
 #[cycle(finding)]
-fn two_kinds(scope: &Scope, set: &SetRegisters, a: &Expr, b: &Expr) -> Typed<(Kind, Kind)>
+fn two_kinds(scope: &CheckScope, set: &SetRegisters, a: &Expr, b: &Expr) -> Typed<(Kind, Kind)>
     ensures { result ≡ both (kind_of (seen scope.now) set.now (term_of a.now)) (kind_of (seen scope.now) set.now (term_of b.now)) }
 {
     let kind = kind_of(scope, set, a)?;
@@ -134,7 +134,7 @@ fn two_kinds(scope: &Scope, set: &SetRegisters, a: &Expr, b: &Expr) -> Typed<(Ki
 /// The kinds of expressions, from the left, behind those that are done. Want of memory is no cause,
 /// so it stands outside of what is found.
 pub fn kinds_after(
-    scope: &Scope,
+    scope: &CheckScope,
     set: &SetRegisters,
     done: Kinds,
     exprs: &Exprs,

@@ -9,11 +9,11 @@ mod assignments;
 mod causes;
 mod expressions;
 mod procedures;
+mod progress;
 mod refusals;
 mod registers;
 mod scopes;
 mod statements;
-mod stops;
 
 pub use proc_lang::Wrong;
 pub use procedures::verify;

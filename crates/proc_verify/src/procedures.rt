@@ -5,17 +5,17 @@ ghost use Rattle.proc_lang.specs.Typing.{IsWellTyped, typed_proc};
 ghost use Rattle.proc_verify.specs.Refusals.{NamesFirst};
 ghost use Rattle.proc_verify.specs.Stops.{Reaches};
 
+use crate::progress::{CheckStop, Reached};
 use crate::refusals::VerifyRefused;
 use crate::registers::SetRegisters;
-use crate::scopes::Scope;
+use crate::scopes::CheckScope;
 use crate::statements::typed_steps;
-use crate::stops::{Reached, Stop};
 use aria_base::Schema;
 use proc_lang::{Checked, MOST_STATEMENTS, Proc, Wrong};
 use std::alloc::Global;
 
 /// The statements of the body, from the first one.
-fn typed_proc(alloc: Global, proc: &Proc, schema: &Schema) -> Result<Reached, Stop>
+fn typed_proc(alloc: Global, proc: &Proc, schema: &Schema) -> Result<Reached, CheckStop>
     requires { steps_count proc.now.body ≤ MOST_STATEMENTS }
     ensures { Reaches result (typed_proc schema.now proc.now) }
 {
@@ -23,7 +23,7 @@ fn typed_proc(alloc: Global, proc: &Proc, schema: &Schema) -> Result<Reached, St
         next: 0,
         set: SetRegisters::none(alloc, &proc.regs)?,
     };
-    typed_steps(alloc, &Scope::of(schema, proc), &proc.body, start)
+    typed_steps(alloc, &CheckScope::of(schema, proc), &proc.body, start)
 }
 
 /// The procedure, sealed, where it is well typed under these tables. It has at most 1,000 statements.
@@ -43,8 +43,8 @@ pub fn verify(
 {
     match typed_proc(alloc, &proc, schema) {
         Ok(_) => Ok(Checked::seal(proc, schema)),
-        Err(Stop::Memory) => Err(VerifyRefused::Memory),
-        Err(Stop::Flaw { place, cause }) => Err(VerifyRefused::Wrong(Wrong {
+        Err(CheckStop::Memory) => Err(VerifyRefused::Memory),
+        Err(CheckStop::Flaw { place, cause }) => Err(VerifyRefused::Wrong(Wrong {
             proc: number,
             place,
             cause,

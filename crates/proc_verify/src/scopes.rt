@@ -9,7 +9,7 @@ use proc_lang::{ARGUMENT, ArgKind, MOST_BLOCKS, Proc, REGISTER};
 
 /// The tables and the procedure around a statement, and the blocks that it lies in.
 #[derive(Clone, Copy)]
-pub struct Scope<'a> {
+pub struct CheckScope<'a> {
     /// The tables.
     pub schema: &'a Schema,
     /// The procedure.
@@ -20,12 +20,12 @@ pub struct Scope<'a> {
     pub blocks: usize,
 }
 
-impl<'a> Scope<'a> {
+impl<'a> CheckScope<'a> {
     /// The scope of the procedure's body.
-    pub fn of(schema: &'a Schema, proc: &'a Proc) -> Scope<'a>
+    pub fn of(schema: &'a Schema, proc: &'a Proc) -> CheckScope<'a>
         ensures { seen result ≡ scope_of schema.now proc.now }
     {
-        Scope {
+        CheckScope {
             schema,
             proc,
             tuple: None,
@@ -34,11 +34,11 @@ impl<'a> Scope<'a> {
     }
 
     /// That of a block inside.
-    pub fn inside(&self) -> Scope<'a>
+    pub fn inside(&self) -> CheckScope<'a>
         requires { self.now.blocks < MOST_BLOCKS }
         ensures { seen result ≡ inside (seen self.now) }
     {
-        Scope {
+        CheckScope {
             schema: self.schema,
             proc: self.proc,
             tuple: self.tuple,
@@ -47,11 +47,11 @@ impl<'a> Scope<'a> {
     }
 
     /// That of a block inside, which goes over tuples of so many numbers.
-    pub fn inside_each(&self, width: u8) -> Scope<'a>
+    pub fn inside_each(&self, width: u8) -> CheckScope<'a>
         requires { self.now.blocks < MOST_BLOCKS }
         ensures { seen result ≡ inside_each (seen self.now) width }
     {
-        Scope {
+        CheckScope {
             schema: self.schema,
             proc: self.proc,
             tuple: Some(width),

@@ -13,16 +13,16 @@ use crate::accesses::{deletes, finds, reads, writes};
 use crate::assignments::set_one;
 use crate::causes::{Typed, wanted};
 use crate::expressions::{kind_of, same_kind};
+use crate::progress::{CheckStop, Reached};
 use crate::registers::SetRegisters;
-use crate::scopes::Scope;
-use crate::stops::{Reached, Stop};
+use crate::scopes::CheckScope;
 use aria_base::Kind;
 use proc_lang::{Block, Expr, KIND, MOST_BLOCKS, MOST_STATEMENTS, NESTING, Stmt};
 use std::alloc::Global;
 
 /// Behind the statement with this number, which has no blocks: the registers that are then set, or
 /// the cause for which it fails.
-fn passed(next: u32, typed: Typed<SetRegisters>) -> Result<Reached, Stop>
+fn passed(next: u32, typed: Typed<SetRegisters>) -> Result<Reached, CheckStop>
     requires { next < MOST_STATEMENTS }
     ensures typed { Reaches result (passed (record { next = next; set = [] }) typed) }
     ensures count { IfOk result (λ reached. reached.next ≡ next + 1) }
@@ -32,12 +32,12 @@ fn passed(next: u32, typed: Typed<SetRegisters>) -> Result<Reached, Stop>
             next: next + 1,
             set,
         }),
-        Err(cause) => Err(Stop::Flaw { place: next, cause }),
+        Err(cause) => Err(CheckStop::Flaw { place: next, cause }),
     }
 }
 
 /// A value into a register.
-fn lets(scope: &Scope, register: u32, value: &Expr, set: SetRegisters) -> Typed<SetRegisters>
+fn lets(scope: &CheckScope, register: u32, value: &Expr, set: SetRegisters) -> Typed<SetRegisters>
     ensures { result ≡ got (kind_of (seen scope.now) set (term_of value.now)) (λ k. set_one (seen scope.now) register k set) }
 {
     let kind = kind_of(scope, &set, value)?;
@@ -45,7 +45,7 @@ fn lets(scope: &Scope, register: u32, value: &Expr, set: SetRegisters) -> Typed<
 }
 
 /// A value into the reply.
-fn gives(scope: &Scope, value: &Expr, set: SetRegisters) -> Typed<SetRegisters>
+fn gives(scope: &CheckScope, value: &Expr, set: SetRegisters) -> Typed<SetRegisters>
     ensures { result ≡ got (kind_of (seen scope.now) set (term_of value.now)) (λ _. Ok set) }
 {
     kind_of(scope, &set, value)?;
@@ -53,7 +53,7 @@ fn gives(scope: &Scope, value: &Expr, set: SetRegisters) -> Typed<SetRegisters>
 }
 
 /// The test of an `if`.
-fn tests(scope: &Scope, set: &SetRegisters, test: &Expr) -> Typed<()>
+fn tests(scope: &CheckScope, set: &SetRegisters, test: &Expr) -> Typed<()>
     ensures typed { result ≡ tests (seen scope.now) set.now (term_of test.now) }
     ensures room { IfOk result (λ _. scope.now.blocks < MOST_BLOCKS) }
 {
@@ -65,7 +65,7 @@ fn tests(scope: &Scope, set: &SetRegisters, test: &Expr) -> Typed<()>
 }
 
 /// How many numbers the tuples of an `each` have.
-fn goes_over(scope: &Scope, argument: u32) -> Typed<u8>
+fn goes_over(scope: &CheckScope, argument: u32) -> Typed<u8>
     ensures typed { result ≡ goes_over (seen scope.now) argument }
     ensures room { IfOk result (λ _. scope.now.blocks < MOST_BLOCKS) }
 {
@@ -77,7 +77,12 @@ fn goes_over(scope: &Scope, argument: u32) -> Typed<u8>
 
 /// One statement, with the statements of its blocks.
 #[cycle(typing)]
-fn typed_step(alloc: Global, scope: &Scope, stmt: &Stmt, reached: Reached) -> Result<Reached, Stop>
+fn typed_step(
+    alloc: Global,
+    scope: &CheckScope,
+    stmt: &Stmt,
+    reached: Reached,
+) -> Result<Reached, CheckStop>
     requires { reached.next + step_count (step_of stmt.now) ≤ MOST_STATEMENTS }
     ensures typed { Reaches result (typed_step (seen scope.now) (step_of stmt.now) (standing reached)) }
     ensures count { IfOk result (λ after. after.next ≡ reached.next + step_count (step_of stmt.now)) }
@@ -112,19 +117,19 @@ fn typed_step(alloc: Global, scope: &Scope, stmt: &Stmt, reached: Reached) -> Re
 #[cycle(typing)]
 fn typed_if(
     alloc: Global,
-    scope: &Scope,
+    scope: &CheckScope,
     test: &Expr,
     first: &Block,
     second: &Block,
     reached: Reached,
-) -> Result<Reached, Stop>
+) -> Result<Reached, CheckStop>
     requires { reached.next + (1 + (steps_count first.now + steps_count second.now)) ≤ MOST_STATEMENTS }
     ensures typed { Reaches result (typed_step (seen scope.now) (step.If (term_of test.now) first.now second.now) (standing reached)) }
     ensures count { IfOk result (λ after. after.next ≡ reached.next + (1 + (steps_count first.now + steps_count second.now))) }
 {
     let Reached { next, set } = reached;
     if let Err(cause) = tests(scope, &set, test) {
-        return Err(Stop::Flaw { place: next, cause });
+        return Err(CheckStop::Flaw { place: next, cause });
     }
     let inside = scope.inside();
     let start = Reached {
@@ -147,11 +152,11 @@ fn typed_if(
 #[cycle(typing)]
 fn typed_each(
     alloc: Global,
-    scope: &Scope,
+    scope: &CheckScope,
     argument: u32,
     body: &Block,
     reached: Reached,
-) -> Result<Reached, Stop>
+) -> Result<Reached, CheckStop>
     requires { reached.next + (1 + steps_count body.now) ≤ MOST_STATEMENTS }
     ensures typed { Reaches result (typed_step (seen scope.now) (step.Each argument body.now) (standing reached)) }
     ensures count { IfOk result (λ after. after.next ≡ reached.next + (1 + steps_count body.now)) }
@@ -169,7 +174,7 @@ fn typed_each(
                 set,
             })
         }
-        Err(cause) => Err(Stop::Flaw { place: next, cause }),
+        Err(cause) => Err(CheckStop::Flaw { place: next, cause }),
     }
 }
 
@@ -177,10 +182,10 @@ fn typed_each(
 #[cycle(typing)]
 pub fn typed_steps(
     alloc: Global,
-    scope: &Scope,
+    scope: &CheckScope,
     block: &Block,
     reached: Reached,
-) -> Result<Reached, Stop>
+) -> Result<Reached, CheckStop>
     requires { reached.next + steps_count block.now ≤ MOST_STATEMENTS }
     ensures typed { Reaches result (typed_steps (seen scope.now) block.now (standing reached)) }
     ensures count { IfOk result (λ after. after.next ≡ reached.next + steps_count block.now) }

@@ -10,8 +10,8 @@
 //! ```
 #![tactic(auto)]
 
+mod at_once;
 mod jobs;
 mod replicas;
-mod runs;
 
 pub use replicas::{Engines, Replicas};

@@ -3,8 +3,8 @@ ghost use Rattle.std.specs.Prelude.{◌≡◌, ◌≤◌, ◌∷◌, length, dro
 ghost use Rattle.std.specs.List.{All};
 ghost use Rattle.replica_run.specs.Replicas.{MayRun, AreAfter, IsSerialFor, IsProgressFor, answer_of, unmarked};
 
+use crate::at_once::run_all;
 use crate::jobs::take_apart;
-use crate::runs::run_all;
 use aria_base::{Call, Items, Memory, Pace};
 use batch_core::Answer;
 use batch_engine::Engine;

@@ -19,15 +19,15 @@ mod drains;
 mod ends;
 mod laws;
 mod loops;
+mod once_command;
 mod refusals;
 mod resumes;
-mod runs;
 mod scripts;
 mod texts;
 mod works;
 
 pub use laws::{each_is_serial, each_replay_is_serial, each_run_is_serial, one_output};
 pub use loops::{LONGEST_LINE, MOST_BYTES};
+pub use once_command::{is_each, once};
 pub use refusals::{refuse_store, tell_damage};
 pub use resumes::run;
-pub use runs::{is_each, once};

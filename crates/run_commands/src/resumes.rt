@@ -16,8 +16,8 @@ ghost use Rattle.run_commands.specs.Keeps.{Keeps, LeavesLaid};
 ghost use Rattle.run_commands.specs.Passes.{PassesTurns, held_behind};
 ghost use Rattle.run_commands.specs.Resumes.{CompletesOver, HoldsOver, LeavesOver, out_from, over, told_from, turns_over};
 
+use crate::once_command::is_each;
 use crate::refusals::refuse_store;
-use crate::runs::is_each;
 use crate::scripts::Script;
 use crate::texts::run_text;
 use answer_text::append_at;

@@ -1,7 +1,7 @@
 -- A number of 64 bits with a sign, in its one spelling.
 use Rattle.std.specs.Prelude.{ℕ, ◌+◌, ◌-◌, ◌*◌, ◌^◌, ℤ, pos, neg_ℤ, int_le, int_lt, Bool, not, ◌&&◌, ◌||◌, ◌==◌, nat_le}
 use Rattle.std.specs.Prelude.{if◌then◌else◌, List, [], ◌∷◌, length, Option, Some, None, option_and_then}
-use Rattle.script_text.specs.declared.numbers.TheConstants.{MOST_DIGITS}
+use Rattle.script_text.specs.declared.digits.TheConstants.{MOST_DIGITS}
 use Rattle.std.specs.Char.{is_ascii_digit}
 
 -- ---- digits

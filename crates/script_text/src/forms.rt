@@ -8,9 +8,9 @@ ghost use Rattle.script_text.specs.Forms.{only, is_printed, with_row, row_of, tx
 ghost use Rattle.script_text.specs.Tokens.{all_of, value_of};
 
 use crate::cuts::first_token;
+use crate::digits::read_number;
 use crate::items::Item;
-use crate::numbers::read_number;
-use crate::readers::{Reads, read_tokens};
+use crate::readers::{FromToken, read_tokens};
 use crate::refusals::{Kind8, LinesRefused, Refusal};
 use aria_base::{
     Args, Bytes, FEWEST_PARTS, MOST_ARGS, MOST_COLUMNS, MOST_PARTS, Memory, Part, Parts, Row, Txt,

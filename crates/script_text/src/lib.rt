@@ -18,24 +18,24 @@
 #![tactic(auto)]
 
 mod cuts;
+mod digits;
 mod fits;
 mod forms;
 mod items;
 mod laws;
 mod lines;
-mod numbers;
 mod readers;
 mod refusals;
 mod writers;
 mod written;
 
 pub use cuts::cut_at;
+pub use digits::read_number;
 pub use fits::{MOST_PERCENT, fit_row, fit_settings, fit_tx, place_call, place_row};
 pub use forms::read_line;
 pub use items::Item;
 pub use laws::{lines_of_texts, rows_fit};
 pub use lines::Lines;
-pub use numbers::read_number;
 pub use refusals::{CatFault, Kind8, LinesRefused, Refusal};
 pub use writers::{Token, append_key, append_number, append_row, append_tokens};
 pub use written::{append_call, append_proc_name, write_call, write_row};

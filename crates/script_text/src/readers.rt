@@ -6,14 +6,14 @@ ghost use Rattle.script_text.specs.Numbers.{number_of};
 ghost use Rattle.script_text.specs.Tokens.{all_of, before_last, tuple_of, same_lengths, text_behind, list_behind, part_of, value_of, arg_of};
 
 use crate::cuts::{cut_at, first_token};
-use crate::numbers::read_number;
+use crate::digits::read_number;
 use aria_base::{
     Arg, LONGEST_TUPLE, Memory, Part, SHORTEST_TUPLE, Tuple, Tuples, Txt, TxtRefused, Value,
 };
 use std::alloc::Global;
 
 /// What bytes stand for.
-pub trait Reads: Drop {
+pub trait FromToken: Drop {
     ghost of: { List ℕ → Option Self };
 
     /// What these bytes stand for.
@@ -21,7 +21,7 @@ pub trait Reads: Drop {
         ensures { IfOk result (λ found. found ≡ of bytes.now) };
 }
 
-impl Reads for i64 {
+impl FromToken for i64 {
     ghost of = { number_of };
 
     fn read(_alloc: Global, bytes: &[u8]) -> Result<Option<i64>, Memory> {
@@ -29,7 +29,7 @@ impl Reads for i64 {
     }
 }
 
-impl Reads for Tuple {
+impl FromToken for Tuple {
     ghost of = { tuple_of };
 
     fn read(alloc: Global, bytes: &[u8]) -> Result<Option<Tuple>, Memory> {
@@ -43,7 +43,7 @@ impl Reads for Tuple {
     }
 }
 
-impl Reads for Part {
+impl FromToken for Part {
     ghost of = { part_of };
 
     fn read(alloc: Global, bytes: &[u8]) -> Result<Option<Part>, Memory> {
@@ -54,7 +54,7 @@ impl Reads for Part {
     }
 }
 
-impl Reads for Value {
+impl FromToken for Value {
     ghost of = { value_of };
 
     fn read(alloc: Global, bytes: &[u8]) -> Result<Option<Value>, Memory> {
@@ -65,7 +65,7 @@ impl Reads for Value {
     }
 }
 
-impl Reads for Arg {
+impl FromToken for Arg {
     ghost of = { arg_of };
 
     fn read(alloc: Global, bytes: &[u8]) -> Result<Option<Arg>, Memory> {
@@ -78,7 +78,7 @@ impl Reads for Arg {
 }
 
 /// What the tokens of a line stand for, where each stands for something.
-pub fn read_tokens<T: Reads>(alloc: Global, line: &[u8]) -> Result<Option<Vec<T>>, Memory>
+pub fn read_tokens<T: FromToken>(alloc: Global, line: &[u8]) -> Result<Option<Vec<T>>, Memory>
     ensures { IfOk result (λ found. option_map (λ all. all.items) found ≡ all_of T.of (tokens line.now)) }
 {
     let mut all = Vec::new(alloc);
@@ -94,7 +94,7 @@ pub fn read_tokens<T: Reads>(alloc: Global, line: &[u8]) -> Result<Option<Vec<T>
 }
 
 /// What stands between bytes like this one, where each stands for something.
-fn read_split<T: Reads>(alloc: Global, bytes: &[u8], byte: u8) -> Result<Option<Vec<T>>, Memory>
+fn read_split<T: FromToken>(alloc: Global, bytes: &[u8], byte: u8) -> Result<Option<Vec<T>>, Memory>
     ensures { IfOk result (λ found. option_map (λ all. all.items) found ≡ all_of T.of (slice_split (λ b. b == byte) bytes.now)) }
 {
     let mut all = Vec::new(alloc);

@@ -1,5 +1,5 @@
 // A source and a sink that fail.
-use crate::runs::{Case, ends};
+use crate::outcomes::{Case, ends};
 use std::test::Fail;
 
 /// Thirteen bytes: the second piece of seven ends them, and the third call finds the end.

@@ -1,5 +1,5 @@
 // What the command prints.
-use crate::runs::{Case, ends};
+use crate::outcomes::{Case, ends};
 use std::process::Abort;
 use std::test::Fail;
 

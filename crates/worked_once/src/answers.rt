@@ -1,5 +1,5 @@
 // Scripts that are answered to their end.
-use crate::runs::{Case, RING, RING_ANSWER, Row, all_end, ends, once_ends, repeated};
+use crate::outcomes::{Case, RING, RING_ANSWER, Row, all_end, ends, once_ends, repeated};
 use std::test::Fail;
 
 /// Scripts on the bank and on catalogues of their own: words, script, status and output.

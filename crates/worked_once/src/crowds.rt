@@ -1,5 +1,5 @@
 // Batches that are filled to the last place, and one place past it.
-use crate::runs::{once_ends, repeated};
+use crate::outcomes::{once_ends, repeated};
 use aria_base::Memory;
 use aria_top::{DONE, REFUSED};
 use std::alloc::Global;

@@ -1,5 +1,5 @@
 // A source and a sink that fail at each of their calls in turn.
-use crate::runs::{Case, RING, RING_ANSWER, RING_REPORTED, RING_TURNED, TURNED_FOUND, ends};
+use crate::outcomes::{Case, RING, RING_ANSWER, RING_REPORTED, RING_TURNED, TURNED_FOUND, ends};
 use aria_top::{DONE, FAILS, READ_FAULT, WRITE_FAULT};
 use std::test::Fail;
 

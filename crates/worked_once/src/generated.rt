@@ -1,6 +1,6 @@
 // Workloads as scripts, through the top call: `gen` writes them, `once` runs them, and `check` takes what it
 // printed as a report on them.
-use crate::runs::{Case, ends, run};
+use crate::outcomes::{Case, ends, run};
 use aria_base::Free;
 use aria_top::{DONE, WRITE_FAULT};
 use std::process::Abort;

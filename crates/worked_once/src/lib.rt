@@ -3,7 +3,7 @@
 //! `answers`, `refusals` and `crowds` have scripts with what the program prints and how it ends, worked out
 //! by hand. `faults` has a source and a sink that fail at each of their calls in turn, and `paces` workers
 //! that meet and steps that are counted. `generated` has scripts of `gen`, which `once` runs and whose
-//! output `check` takes as a report; `orders` has audits, reports and summaries of `bench`. `runs` runs a
+//! output `check` takes as a report; `orders` has audits, reports and summaries of `bench`. `outcomes` runs a
 //! case over bytes in memory.
 //!
 //! ```text
@@ -22,8 +22,8 @@ mod generated;
 #[cfg(test)]
 mod orders;
 #[cfg(test)]
+mod outcomes;
+#[cfg(test)]
 mod paces;
 #[cfg(test)]
 mod refusals;
-#[cfg(test)]
-mod runs;

@@ -1,5 +1,5 @@
 // The audit of order entry, the check of reports, and summaries of workloads, through the top call.
-use crate::runs::{Case, RING_REPORTED, RING_TURNED, Row, TURNED_FOUND, all_end, run};
+use crate::outcomes::{Case, RING_REPORTED, RING_TURNED, Row, TURNED_FOUND, all_end, run};
 use aria_base::Free;
 use aria_top::{DONE, FAILS};
 use std::process::Abort;

@@ -1,5 +1,5 @@
 // That workers are at work at once, and how often they are told of a step.
-use crate::runs::{Case, RING, run};
+use crate::outcomes::{Case, RING, run};
 use aria_base::{Memory, Place};
 use aria_top::DONE;
 use std::alloc::Global;

@@ -1,5 +1,5 @@
 // Scripts and words that are refused.
-use crate::runs::{Row, all_end};
+use crate::outcomes::{Row, all_end};
 use std::test::Fail;
 
 /// Scripts that are refused at a line, behind what was answered before it.

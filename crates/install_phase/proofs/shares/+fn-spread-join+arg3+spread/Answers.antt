@@ -6,7 +6,7 @@ use Rattle.install_phase.proofs.shares.+fn-spread-join+arg3+spread.Goals as goal
 
 pub returns : goal.returns
 returns g t c =
-    let makes = g.T.Task.makes c.args.task.now in
+    let makes = g.T.PartWork.makes c.args.task.now in
     let first : IfOk c.join-theirs.result.0 (λ made. makes c.len-first.result c.in_ok-part.part.items made) = search rules in
     let theirs = subst (λ r. IfOk r (λ made. makes c.len-first.result c.in_ok-part.part.items made)) c.in_ok-last.was first in
     let second : IfOk c.join-theirs.result.1 (λ r. HaveMade makes 0 c.split_off.new.self.items r.items) = search rules in
