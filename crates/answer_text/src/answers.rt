@@ -19,7 +19,7 @@ pub fn print_answer(alloc: Global, catalog: &Catalog, answer: &Answer) -> Result
     Ok(out)
 }
 
-/// Appends these lines. After want of memory a part of them may stand in `out`.
+/// Appends these lines. Where there was no memory, a part of them may stand in `out`.
 pub fn append_answer(out: &mut Vec<u8>, catalog: &Catalog, answer: &Answer) -> Result<(), Memory>
     ensures { OnOk result (out.new.items ≡ out.old.items ++ answer_text catalog.now.tables answer.now) }
 {

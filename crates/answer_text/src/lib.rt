@@ -1,6 +1,6 @@
-//! The printed lines of the database: what a batch answers, how the state is listed, and how input
-//! is refused. Each call gives exactly the bytes that the definitions of `specs/` say, every line
-//! with its line feed, or want of memory.
+//! The printed lines of the database: what a batch answers, how the state is listed, and how input is
+//! refused. Each call gives exactly the bytes that the definitions of `specs/` say, every line with its line
+//! feed, or says that there was no memory.
 //!
 //! ```text
 //! batch 1               the batch with this number

@@ -27,8 +27,8 @@ pub fn refused_line(refused: Refused) -> &'static [u8]
     }
 }
 
-/// Appends the line that says that the store is damaged: in this file, from 0 to 3, at this byte. After
-/// want of memory a part of the line may stand in `out`, here and in each call below.
+/// Appends the line that says that the store is damaged: in this file, from 0 to 3, at this byte. Where
+/// there was no memory, a part of the line may stand in `out`, here and in each call below.
 pub fn append_damaged(out: &mut Vec<u8>, file: u8, at: u64) -> Result<(), Memory>
     ensures { OnOk result (out.new.items ≡ out.old.items ++ damaged_text file at) }
 {
@@ -61,8 +61,8 @@ pub fn append_kept(out: &mut Vec<u8>, number: u64) -> Result<(), Memory>
     Ok(())
 }
 
-/// Appends a line that is a word, with the space behind it, and a number. After want of memory a part of
-/// it may stand in `out`.
+/// Appends a line that is a word, with the space behind it, and a number. Where there was no memory, a part
+/// of it may stand in `out`.
 pub fn append_counted(out: &mut Vec<u8>, word: &[u8], number: u64) -> Result<(), Memory>
     ensures { OnOk result (out.new.items ≡ out.old.items ++ counted word.now number) }
 {

@@ -16,7 +16,7 @@ pub fn print_refusal(alloc: Global, refusal: &Refusal) -> Result<Vec<u8>, Memory
     Ok(out)
 }
 
-/// Appends that line. After want of memory a part of it may stand in `out`.
+/// Appends that line. Where there was no memory, a part of it may stand in `out`.
 pub fn append_refusal(out: &mut Vec<u8>, refusal: &Refusal) -> Result<(), Memory>
     ensures { OnOk result (out.new.items ≡ out.old.items ++ refusal_text refusal.now) }
 {

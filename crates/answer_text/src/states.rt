@@ -26,7 +26,7 @@ pub fn print_state(
     Ok(out)
 }
 
-/// Appends that listing. After want of memory a part of it may stand in `out`.
+/// Appends that listing. Where there was no memory, a part of it may stand in `out`.
 pub fn append_state(
     out: &mut Vec<u8>,
     catalog: &Catalog,
@@ -42,8 +42,8 @@ pub fn append_state(
     Ok(())
 }
 
-/// Appends the lines of these rows, in this order, each with its line feed. After want of memory a part
-/// of them may stand in `out`.
+/// Appends the lines of these rows, in this order, each with its line feed. Where there was no memory, a
+/// part of them may stand in `out`.
 pub fn append_rows(out: &mut Vec<u8>, tables: &Schema, rows: &[(&Key, &Row)]) -> Result<(), Memory>
     ensures { OnOk result (out.new.items ≡ out.old.items ++ flat_map (row_text tables.now) (map deref_pair rows.now)) }
 {

@@ -17,7 +17,7 @@ part_cmp (part.Int x) (part.Text y) = Less
 part_cmp (part.Text x) (part.Int y) = Greater
 part_cmp (part.Text x) (part.Text y) = slice_cmp nat_cmp x y
 
--- by table, then by the parts from the left; a front of a list comes before it
+-- by table, then by the parts from the left; a prefix of a list comes before it
 abbrev pub key_cmp : Key → Key → Ordering
 key_cmp a b = ordering_then (nat_cmp a.table b.table) (slice_cmp part_cmp a.parts b.parts)
 

@@ -5,7 +5,7 @@ use Rattle.aria_base.specs.declared.limits.TheConstants.{LONGEST_TEXT}
 use Rattle.aria_base.specs.declared.texts.TxtRefused.{TxtRefused}
 use Rattle.aria_base.specs.declared.texts.TxtRefused.TheVariants.{Memory, TooLong, BadByte}
 
--- the cause of each refusal; want of memory has none
+-- the cause of each refusal; out of memory has none
 abbrev pub IsNoText : List ℕ → TxtRefused → Type 0
 IsNoText bytes Memory = Unit {0}
 IsNoText bytes (TooLong len) = (len ≡ length bytes) × (LONGEST_TEXT < length bytes)

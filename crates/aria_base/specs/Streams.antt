@@ -8,10 +8,10 @@ Takes old new result buffer = MatchResult result
     (λ n. (n ≤ length buffer) × Consumes old new (take n buffer) × (n ≡ 0 → IsAtEnd new))
     (λ _. Keeps old new)
 
--- known bytes grow by the front of these
+-- known bytes grow by a prefix of these
 abbrev pub AppendsFront : Option (List ℕ) → Option (List ℕ) → List ℕ → Type 0
 AppendsFront old new bytes = (n : ℕ) × Appends old new (take n bytes)
 
--- a call that appends all the bytes, or a front of them
+-- a call that appends all the bytes, or a prefix of them
 abbrev pub Gives : {E : Type 0} {T : Type 0} → Option (List ℕ) → Option (List ℕ) → Result T E → List ℕ → Type 0
 Gives old new result bytes = MatchResult result (λ _. Appends old new bytes) (λ _. AppendsFront old new bytes)

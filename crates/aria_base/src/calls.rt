@@ -1,3 +1,4 @@
+// Calls of procedures with their arguments, and the requests that they become.
 ghost use Rattle.std.specs.Prelude.{◌≡◌, IfOk};
 
 use crate::copies::Duplicate;
@@ -73,7 +74,7 @@ impl Duplicate for Request {
     }
 }
 
-/// A call equal to this one, or want of memory.
+/// A call equal to this one, or that there was no memory.
 pub fn copy_call(alloc: Global, call: &Call) -> Result<Call, Memory>
     ensures { IfOk result (λ copy. copy ≡ call.now) }
 {

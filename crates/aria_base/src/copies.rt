@@ -1,3 +1,4 @@
+// Copies of values, which need memory.
 ghost use Rattle.std.specs.Prelude.{◌≡◌, IfOk};
 
 use crate::memory::Memory;
@@ -5,7 +6,7 @@ use std::alloc::Global;
 
 /// A value that can be copied where there is memory for the copy.
 pub trait Duplicate: Drop {
-    /// A value equal to this one, or want of memory.
+    /// A value equal to this one, or that there was no memory.
     fn duplicate(&self, alloc: Global) -> Result<Self, Memory>
         ensures { IfOk result (λ copy. copy ≡ self.now) };
 }

@@ -1,3 +1,4 @@
+// Keys and the parts that they are made of, and how keys are ordered.
 ghost use Rattle.std.specs.Prelude.{◌≡◌, IfOk};
 ghost use Rattle.std.specs.List.{list_any};
 ghost use Rattle.std.specs.Ordering.{eq_by_cmp};
@@ -14,8 +15,8 @@ use std::alloc::Global;
 use std::cmp::Ordering;
 use std::hash::Hash;
 
-/// A part of a key. Numbers come before texts; numbers are ordered by size, texts by their bytes
-/// from the left, where a front of a text comes before it.
+/// A part of a key. Numbers come before texts; numbers are ordered by size, texts by their bytes from the
+/// left, where a prefix of a text comes before it.
 #[derive(Debug, Drop, PartialEq, Eq, PartialOrd, Ord, Hash)]
 pub enum Part {
     /// A whole number.
@@ -24,8 +25,8 @@ pub enum Part {
     Text(Txt),
 }
 
-/// A key: a table's number and the parts. Keys are ordered by table, then by their parts from the
-/// left; a key whose parts are the front of another's comes before it.
+/// A key: a table's number and the parts. Keys are ordered by table, then by their parts from the left; a
+/// key whose parts are a prefix of another's comes before it.
 #[derive(Debug, Drop, PartialEq, Eq, PartialOrd, Ord, Hash)]
 pub struct Key {
     /// The table's place in the schema, from 0.
@@ -69,7 +70,7 @@ impl Duplicate for Key {
     }
 }
 
-/// A key equal to this one, or want of memory.
+/// A key equal to this one, or that there was no memory.
 pub fn copy_key(alloc: Global, key: &Key) -> Result<Key, Memory>
     ensures { IfOk result (λ copy. copy ≡ key.now) }
 {

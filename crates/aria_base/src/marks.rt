@@ -1,3 +1,5 @@
+// One mark on a reservation word, as clauses speak of it.
+
 /// One mark on a reservation word: a request of a batch reads or writes a key.
 #[derive(Clone, Copy, Debug, PartialEq, Eq)]
 pub struct Mark {

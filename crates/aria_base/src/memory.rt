@@ -1,3 +1,4 @@
+// The error of a call that allocates.
 ghost use Rattle.std.specs.Prelude.{◌≡◌, Some, codes};
 ghost use Rattle.aria_base.specs.declared.memory.Memory.{Memory};
 
@@ -5,8 +6,8 @@ use std::alloc::{AllocError, AllocFailed};
 use std::error::Error;
 use std::fmt;
 
-/// Want of memory: an allocation was refused. The one free answer of this workspace: any call that
-/// allocates may give it, and it says nothing else.
+/// Out of memory: an allocation was refused. The one free answer of this workspace: any call that allocates
+/// may give it, and it says nothing else.
 #[derive(Clone, Copy, Debug, PartialEq, Eq)]
 pub struct Memory;
 

@@ -1,3 +1,5 @@
+// A hook before each step of a worker, by which tests hold workers back.
+
 /// The kinds of steps that a worker makes.
 #[derive(Clone, Copy, Debug, PartialEq, Eq)]
 pub enum Place {

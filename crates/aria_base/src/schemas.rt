@@ -1,3 +1,4 @@
+// The tables of a database, and whether a key and a row fit them.
 ghost use Rattle.std.specs.Prelude.{◌≡◌, ◌↔◌, IsTrue, map, List};
 ghost use Rattle.aria_base.specs.Schemas.{Fits};
 

@@ -1,3 +1,4 @@
+// What a source and a sink are: where input comes from, and where output goes.
 ghost use Rattle.std.specs.Prelude.{◌≡◌, ◌<◌, ◌≤◌, ℕ, List, Option, OnErr, length};
 ghost use Rattle.aria_base.specs.Faults.{Rose};
 ghost use Rattle.aria_base.specs.Streams.{Takes, Gives};
@@ -33,7 +34,7 @@ pub trait Sink {
     /// Its count of faults.
     ghost faults: { Self → ℕ };
 
-    /// Puts the bytes behind those that it was given. On `Failed` it may have taken a front of them, and
+    /// Puts the bytes behind those that it was given. On `Failed` it may have taken a prefix of them, and
     /// the count of faults rose or stands at its last value.
     fn give(&mut self, bytes: &[u8]) -> Result<(), Failed>
         ensures bytes { Gives (given self.old) (given self.new) result bytes.now }

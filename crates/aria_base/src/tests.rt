@@ -1,6 +1,5 @@
 // What no clause shows: that each call succeeds where there is memory, and that the clauses say
 // what was meant. The expected values were worked by hand.
-
 use crate::{
     Arg, Args, Bytes, Call, Changes, Draws, Duplicate, FEWEST_PARTS, Failed, FileSink, FileSource,
     Free, Items, Key, Keys, Kind, Kinded, Kinds, LONGEST_TEXT, MOST_COLUMNS, MOST_PARTS, MemSink,

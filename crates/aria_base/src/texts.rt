@@ -1,3 +1,4 @@
+// Texts of at most 500 bytes, and which bytes are the name of a table or a procedure.
 ghost use Rattle.std.specs.Prelude.{◌≡◌, ℕ, List, IfOk, IfErr, position, not, true, IsNone, All, Some, nat_eq};
 ghost use Rattle.std.specs.Option.{option_copied};
 ghost use Rattle.std.proofs.Common.{rules, refl};

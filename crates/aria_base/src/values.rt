@@ -1,3 +1,4 @@
+// Values, their kinds, and rows.
 ghost use Rattle.std.specs.Prelude.{◌≡◌, IfOk};
 ghost use Rattle.aria_base.specs.Kinds.{value_kind};
 ghost use Rattle.aria_base.specs.declared.values.Kind.{Kind};
@@ -69,7 +70,7 @@ impl Duplicate for Value {
     }
 }
 
-/// A row equal to this one, or want of memory.
+/// A row equal to this one, or that there was no memory.
 pub fn copy_row(alloc: Global, row: &Row) -> Result<Row, Memory>
     ensures { IfOk result (λ copy. copy ≡ row.now) }
 {

@@ -29,12 +29,12 @@ fn run<R: Env + AllocGlobal + Files + Input + Print + Threads + Sync>(rt: &R) ->
     match words(rt) {
         Ok(words) => run_words(rt, &words),
         Err(error) if error.kind() == ErrorKind::OutOfMemory => NO_MEMORY,
-        // An argument that is no text is no word of a command.
+        // No command has an argument that is no text.
         Err(_) => run_words(rt, &[]),
     }
 }
 
-/// Runs the command that the words are, and answers its status.
+/// Runs the command that the arguments are, and answers its status.
 fn run_words<R: AllocGlobal + Files + Input + Print + Threads + Sync>(
     rt: &R,
     words: &[String],

@@ -42,8 +42,7 @@ BatchesCause c log payloads refused.NoStore = ⊥
 BatchesCause c log payloads refused.Exists = ⊥
 BatchesCause c log payloads (refused.Closed faults) = ⊥
 
--- A call that writes: want of memory before the first device call, a fault of the disk, or one in an earlier call, whose count
--- is told.
+-- A call that writes: out of memory before the first device call, a fault of the disk, or one in an earlier call, whose count is told.
 abbrev pub WriteCause : {D : Type 0} → (D → History) → D → D → Kept → Kept → StoreRefused → Type 0
 WriteCause history old new was is refused.Memory = (new ≡ old) × (is ≡ was) × (was.files.closed ≡ None)
 WriteCause history old new was is refused.DiskFault = Rose (history old).faults (history new).faults

@@ -1,4 +1,4 @@
--- What words print, by what they ask for.
+-- What arguments print, by what they ask for.
 use Rattle.std.proofs.Common.{◌≡◌, ◌≢◌, ◌⊎◌, inl, inr, ◌∙◌, sym, subst, ap, ℕ, List, [], Option, Some, None, Bool, true, false, arith}
 use Rattle.std.proofs.KnownBytes.{Appends-nil}
 use Rattle.std.specs.Option.{IfSome}
@@ -53,7 +53,7 @@ module _ (asked : Option Task) (task : Task) (is : asked ≡ Some task) where
   pub is_asked : asked ≡ None → ⊥
   is_asked none = absurd (let both : Some task ≡ None = sym is ∙ none in cc)
 
--- ---- words that are no command
+-- ---- arguments that are no command
 
 pub out_refused : (asked : Option Task) (left : Option (List ℕ)) (images : ℕ → List ℕ) (found : Reopened) (P : Out → Type 0) → asked ≡ None → P refused_usage → IfSome (out_by asked left images found) P
 out_refused asked left images found P is h = subst (λ (a : Option Task). IfSome (out_by a left images found) P) (sym is) h
@@ -70,7 +70,7 @@ opens_none asked is h = absurd (let both : false ≡ true = sym (ap opens is) �
 
 -- ---- nothing was done
 
--- where nothing was written, a front of every output was
+-- where nothing was written, a prefix of every output was
 pub nothing_yet : (out : Option Out) (now : Option (List ℕ)) → IfSome out (λ o. AppendsFront now now o.bytes)
 nothing_yet None now = tt
 nothing_yet (Some o) now = front_none now o.bytes
@@ -95,7 +95,7 @@ each_text : (left : Option (List ℕ)) (P : List ℕ → Type 0) → ((text : Li
 each_text None P h = tt
 each_text (Some text) P h = h text
 
--- there was no memory to read the words
+-- there was no memory to read the arguments
 pub leaves_untouched : (asked : Option Task) (images : ℕ → List ℕ) (found : Reopened) (left : Option (List ℕ)) (disk : History) (now : Option (List ℕ)) → LeavesDisk asked images found left disk disk now now 7
 leaves_untouched None images found left disk now = tt
 leaves_untouched (Some (task.Once settings)) images found left disk now = tt

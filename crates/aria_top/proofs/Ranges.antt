@@ -1,4 +1,4 @@
--- The settings that words give are within their ranges.
+-- The settings that arguments give are within their ranges.
 use Rattle.std.proofs.Common.{◌≡◌, ◌∙◌, sym, ap, subst, refl, ℕ, ◌≤◌, Bool, true, false, cond, ◌&&◌, nat_le, List, [], ◌∷◌, Option, Some, None, arith}
 use Rattle.std.proofs.lemmas.Bool.{leb-true}
 use Rattle.std.specs.Prelude.{find, option_and_then, option_map, codes, bytes_eq, drop}
@@ -186,7 +186,7 @@ module _ (name : List ℕ) (l : Line) where
 sound : (l : Line) (c : Command) → command_of l ≡ Some c → IsSound c
 sound l c e = of_some (command_of l) c IsSound e (all l.cmd.name l)
 
--- ---- the task of words
+-- ---- the task of arguments
 
 of_line : WordsAreWithin → (l : Line) (c : Command) → command_of l ≡ Some c → IsSound c → IfSome (task_by c) tasks.IsInRange
 of_line law l (command.Once settings) is h = h
@@ -208,6 +208,6 @@ by_line : WordsAreWithin → (o : Option Line) → IfSome (option_and_then task_
 by_line law None = tt
 by_line law (Some l) = by_command law l (command_of l) refl
 
--- the settings that words ask for
+-- the settings that arguments ask for
 pub in_bounds : WordsAreWithin → (words : List (List ℕ)) (found : Option Task) → found ≡ task_in words → IfSome found tasks.IsInRange
 in_bounds law words found is = subst (λ (f : Option Task). IfSome f tasks.IsInRange) (sym is) (by_line law (line_of commands words))

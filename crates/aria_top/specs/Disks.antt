@@ -36,13 +36,16 @@ pub record InitLeaves (settings : Init) (taken : Bool) (left : Option (List ℕ)
 
 -- What a stop leaves of a script over a store at any moment, and now; and what the disk holds of a script that was read to its end or to
 -- a refused line.
-pub record RunLeaves (settings : Run) (found : Reopened) (left : Option (List ℕ)) (was is : History) (old new : Option (List ℕ)) (status : ℕ) : Type 0 where
+pub record RunLeaves (settings : Run) (found : Reopened) (left : Option (List ℕ)) (was is : History) (old new : Option (List ℕ))
+    (status : ℕ) : Type 0 where
   pub leaves : IfSome left (λ text. LeavesOver settings found text was is old new)
   pub holds : (status ≡ DONE) ⊎ (status ≡ REFUSED) → IfSome left (λ text. HoldsOver settings found text is)
 
 -- a task that does not use the disk has a clause of its own
-abbrev pub LeavesDisk : Option Task → (ℕ → List ℕ) → Reopened → Option (List ℕ) → History → History → Option (List ℕ) → Option (List ℕ) → ℕ → Type 0
+abbrev pub LeavesDisk : Option Task → (ℕ → List ℕ) → Reopened → Option (List ℕ) → History → History
+    → Option (List ℕ) → Option (List ℕ) → ℕ → Type 0
 LeavesDisk (Some (task.Init settings)) images found left was is old new status = InitLeaves settings (is_taken images) left was is status
-LeavesDisk (Some (task.Run settings)) images found left was is old new status = RunLeaves settings (opened images found) left was is old new status
+LeavesDisk (Some (task.Run settings)) images found left was is old new status =
+    RunLeaves settings (opened images found) left was is old new status
 LeavesDisk (Some (task.Replay settings)) images found left was is old new status = LeavesAll was is (MayLeave was was.now)
 LeavesDisk other images found left was is old new status = Unit {0}

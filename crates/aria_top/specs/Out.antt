@@ -63,7 +63,8 @@ abbrev pub out_for : List (List ℕ) → Option (List ℕ) → (ℕ → List ℕ
 out_for words left images found = out_by (task_in words) left images found
 
 -- what was written is all that the bytes that were taken tell, and no line of them was refused
-abbrev pub IsToldFor : Option Task → (ℕ → List ℕ) → Reopened → Option (List ℕ) → Option (List ℕ) → Option (List ℕ) → Option (List ℕ) → Type 0
+abbrev pub IsToldFor : Option Task → (ℕ → List ℕ) → Reopened → Option (List ℕ) → Option (List ℕ)
+    → Option (List ℕ) → Option (List ℕ) → Type 0
 IsToldFor (Some (task.Once settings)) images found left rest old new = IsToldOf (told_of settings) left rest old new
 IsToldFor (Some (task.Init settings)) images found left rest old new = IsToldOf init_told left rest old new
 IsToldFor (Some (task.Run settings)) images found left rest old new = IsToldOver settings (opened images found) left rest old new

@@ -1,4 +1,4 @@
--- What words ask for.
+-- What arguments ask for.
 use Rattle.std.specs.Prelude.{◌≤◌, Bool, true, false, ℕ, List, Option, Some, None, option_and_then}
 use Rattle.command_words.specs.Lines.{line_of}
 use Rattle.command_words.specs.Settings.{command_of}
@@ -11,7 +11,7 @@ use Rattle.workloads.specs.Laws.{IsAsked}
 use Rattle.aria_top.specs.declared.tasks.Task.{Task}
 use Rattle.aria_top.specs.declared.tasks.Task.TheVariants as task
 
--- the task of a command that the program has; every other command is refused as words that are none
+-- the task of a command that the program has; every other command is refused as arguments that are none
 abbrev pub task_by : Command → Option Task
 task_by (command.Once settings) = Some (task.Once settings)
 task_by (command.Init settings) = Some (task.Init settings)
@@ -23,7 +23,7 @@ task_by command.Audit = Some task.Audit
 task_by command.Check = Some task.Check
 task_by other = None
 
--- the command that words are, where they are one
+-- the command that arguments are, where they are one
 abbrev pub command_in : List (List ℕ) → Option Command
 command_in words = option_and_then command_of (line_of commands words)
 

@@ -1,4 +1,4 @@
-// What the words of a command line ask for.
+// What the arguments of a command line ask for.
 ghost use Rattle.std.specs.Prelude.{◌≡◌, map, string_bytes, IfOk, IfSome};
 ghost use Rattle.aria_top.specs.Tasks.{task_by, task_in, IsInRange};
 ghost use Rattle.workloads.specs.Laws.{WordsAreWithin};
@@ -21,7 +21,7 @@ pub enum Task {
     Check,
 }
 
-/// What the words ask for, where they are the line of a command that the program has. Its settings are
+/// What the arguments ask for, where they are the line of a command that the program has. Its settings are
 /// within their ranges.
 pub fn read_task(alloc: Global, words: &[String]) -> Result<Option<Task>, Memory>
     ensures asked { IfOk result (λ found. found ≡ task_in (map string_bytes words.now)) }

@@ -27,13 +27,13 @@ use script_course::{
 use std::alloc::Global;
 use std::thread::Threads;
 
-/// Runs the command that the words are, without the program's name, from the input's bytes to the output's,
-/// and answers its status: `DONE`; `REFUSED` for a line of the input; `USAGE` for the words; `READ_FAULT`,
-/// `WRITE_FAULT` and `DISK_FAULT` where the source, the sink or the disk failed; `STORE_REFUSED` where there
-/// is no store, one in the way or a damaged one; `NO_MEMORY`; `FAILS` where an audit or a report does not
-/// hold. Commands that the program does not have yet are refused as words that are none.
-/// Those on a store have it on the disk, and all others leave the disk alone. No answer depends on the pace,
-/// the workers and the replicas.
+/// Runs the command that the arguments are, without the program's name, from the input's bytes to the
+/// output's, and answers its status: `DONE`; `REFUSED` for a line of the input; `USAGE` for the arguments;
+/// `READ_FAULT`, `WRITE_FAULT` and `DISK_FAULT` where the source, the sink or the disk failed;
+/// `STORE_REFUSED` where there is no store, one in the way or a damaged one; `NO_MEMORY`; `FAILS` where an
+/// audit or a report does not hold. Commands that the program does not have yet are refused as arguments
+/// that are none. Those on a store have it on the disk, and all others leave the disk alone. No answer
+/// depends on the pace, the workers and the replicas.
 pub fn aria<S: Source, K: Sink, D: Disk, P: Pace + Sync, R: Threads + Sync>(
     rt: &R,
     alloc: Global,
@@ -44,7 +44,7 @@ pub fn aria<S: Source, K: Sink, D: Disk, P: Pace + Sync, R: Threads + Sync>(
     pace: &P,
 ) -> u8
     // Where the answer is 0, 1, 2, 6 or 8, it is the defined one, and all of the output is written; else a
-    // front of it.
+    // prefix of it.
     ensures answered { (images : ℕ → List ℕ) (found : Reopened) → Sees (task_in (map string_bytes words.now)) (D.history disk.old) images found → IsAnswered result → IfSome (out_for (map string_bytes words.now) (S.left input.old) images found)
         (λ o. (result ≡ o.status) × Appends (K.given out.old) (K.given out.new) o.bytes) }
     ensures front { (images : ℕ → List ℕ) (found : Reopened) → Sees (task_in (map string_bytes words.now)) (D.history disk.old) images found → IfSome (out_for (map string_bytes words.now) (S.left input.old) images found)
@@ -96,7 +96,7 @@ pub fn aria<S: Source, K: Sink, D: Disk, P: Pace + Sync, R: Threads + Sync>(
     }
 }
 
-/// Does what the words ask for, and answers its status.
+/// Does what the arguments ask for, and answers its status.
 fn run_task<S: Source, K: Sink, D: Disk, P: Pace + Sync, R: Threads + Sync>(
     rt: &R,
     alloc: Global,
@@ -137,7 +137,7 @@ fn run_task<S: Source, K: Sink, D: Disk, P: Pace + Sync, R: Threads + Sync>(
     }
 }
 
-/// Refuses the words.
+/// Refuses the arguments.
 fn refuse_usage<K: Sink>(out: &mut K) -> u8
     ensures answered { result ≡ USAGE → Appends (K.given out.old) (K.given out.new) (refused_text Usage) }
     ensures front { AppendsFront (K.given out.old) (K.given out.new) (refused_text Usage) }

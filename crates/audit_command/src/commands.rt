@@ -15,7 +15,7 @@ use std::alloc::Global;
 
 /// Reads the head that the source gives to its end, and then prints whether the audit of its rows holds, or
 /// where it first does not. Where the source tells its bytes, what is printed is the output that they have,
-/// and the status is its status; where it was cut off, a front of it was printed, and where the source
+/// and the status is its status; where it was cut off, a prefix of it was printed, and where the source
 /// failed, nothing. An input without a catalogue has no rows, and holds.
 pub fn audit<S: Source, K: Sink>(alloc: Global, input: &mut S, out: &mut K) -> Result<u8, Stop>
     ensures completes { Completes told_of out_of (S.left input.old) (S.left input.new) (K.given out.old) (K.given out.new) result }

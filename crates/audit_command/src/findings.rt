@@ -54,8 +54,8 @@ fn print_failure(
     Ok(text)
 }
 
-/// Appends the line that says where the audit fails. After want of memory a part of it may stand in `out`,
-/// here and in the next two calls.
+/// Appends the line that says where the audit fails. Where there was no memory, a part of it may stand in
+/// `out`, here and in the next two calls.
 fn append_place(out: &mut Vec<u8>, condition: u8, w: i64, d: i64) -> Result<(), Memory>
     ensures { OnOk result (out.new.items ≡ out.old.items ++ fails_text condition w d) }
 {

@@ -1,5 +1,4 @@
-//! What a batch answers.
-
+// What a batch answers.
 use aria_base::{Items, Key};
 use proc_lang::End;
 

@@ -1,6 +1,5 @@
-//! The laws of batches one after the other. Each is the contract of a function that does nothing: a caller has the law after the
-//! call. They hold for whatever the requests do: `tree` is any function from requests to trees of accesses.
-
+// The laws of batches one after the other, whatever the requests do: `tree` may be any function. Each is the
+// contract of a function that does nothing: a caller has the law after the call.
 ghost use Rattle.std.specs.Prelude.{◌≡◌, ◌<◌, ◌≤◌, List, [], length};
 ghost use Rattle.std.specs.List.{All};
 ghost use Rattle.aria_base.specs.Orders.{Cells, Database};

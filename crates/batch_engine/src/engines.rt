@@ -73,9 +73,9 @@ impl Engine {
         }
     }
 
-    /// Runs the next batch: the requests that wait and these calls, which get the next request numbers,
-    /// by the rule and the fallback of the settings and by so many workers. No answer depends on the
-    /// workers. After want of memory the database is gone.
+    /// Runs the next batch: the requests that wait and these calls, which get the next request numbers, by
+    /// the rule and the fallback of the settings and by so many workers. No answer depends on the workers.
+    /// Where there was no memory, the database is gone.
     pub fn run_batch<P: Pace + Sync, R: Threads + Sync>(
         self,
         rt: &R,

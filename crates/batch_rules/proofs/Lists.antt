@@ -39,7 +39,7 @@ filter-map f p q (x ∷ xs) a =
       | false ↦ rest
     ] ∙ ap (λ b. cond b (f x ∷ filter q (map f xs)) (filter q (map f xs))) (All-head (λ x. p x ≡ q (f x)) x xs a)
 
--- the front of a list
+-- the prefix of a list
 pub All-left : {X : Type 0} (P : X → Type 0) (xs ys : List X) → All P (xs ++ ys) → All P xs
 All-left P [] ys a = All-nil P
 All-left P (x ∷ xs) ys a = All-cons P x xs (All-head P x (xs ++ ys) a) (All-left P xs ys (All-tail P x (xs ++ ys) a))

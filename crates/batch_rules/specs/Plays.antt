@@ -41,7 +41,8 @@ module _ {K V A : Type 0} {R : K → K → Ordering} where
   abbrev pub play : Option (Declared K) → Tree K V A → Seen R V → Played R V A
   play limits (Ends a) seen = record { end = Finishes a; seen = seen }
   play limits (Reads k next) seen =
-      if allows_read R limits k then play limits (next (fin.get seen.map k)) (after_read seen k) else record { end = Strays k; seen = seen }
+      if allows_read R limits k then play limits (next (fin.get seen.map k)) (after_read seen k)
+      else record { end = Strays k; seen = seen }
   play limits (Writes k row next) seen = if allows_write R limits k then play limits next (after_write seen k row)
       else record { end = Strays k; seen = seen }
 

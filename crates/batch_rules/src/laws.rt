@@ -1,7 +1,5 @@
-//! The laws of a batch. Each is the contract of a function that does nothing: a caller has the law after the call.
-//!
-//! They hold for all types of keys, in a total order that ties only equal ones, and of rows, of requests and of ends.
-
+// The laws of a batch, for all types of requests, ends, rows and keys, in an order that ties only equal
+// ones. Each is the contract of a function that does nothing: a caller has the law after the call.
 ghost use Rattle.std.specs.Prelude.{ℕ, List, [], ◌∷◌, Bool};
 ghost use Rattle.std.specs.Cmp.{IsTotalOrder};
 ghost use Rattle.std.specs.FinMap.{FinMap, IsAntisymmetric};

@@ -1,4 +1,4 @@
-//! What the commit phase decides of a request.
+// What the commit phase decides of a request.
 
 /// The rule by which requests finish. A request *depends* on an earlier one of the batch where both write a key (WAW), where it reads
 /// what the earlier one writes (RAW), or where it writes what the earlier one reads (WAR).

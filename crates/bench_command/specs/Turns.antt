@@ -23,7 +23,8 @@ pub record Stands (under : Plan) (turn : Turn) : Type 0 where
 pub record IsBehind (before : Turn) (calls : List Call) (after : Turn) : Type 0 where
   pub state : state_of after.live ≡ step (run_of (plan_of before.live)) (state_of before.live) (handed_at (state_of before.live) calls)
   pub tally : after.tally
-      ≡ with_lines before.tally (answer (run_of (plan_of before.live)) (state_of before.live) (handed_at (state_of before.live) calls)).lines
+      ≡ with_lines before.tally
+      (answer (run_of (plan_of before.live)) (state_of before.live) (handed_at (state_of before.live) calls)).lines
   pub plan : plan_of after.live ≡ plan_of before.live
   pub config : after.live.config ≡ before.live.config
 

@@ -24,9 +24,9 @@ use std::alloc::Global;
 use std::thread::Threads;
 use workloads::Generator;
 
-/// Runs the workload in memory and gives its summary to the sink, and answers the status 0. Of a workload
-/// of accesses to single rows this is the whole output. Where memory is wanting nothing was given; where
-/// the sink fails a front of the summary was, and its count of faults rose.
+/// Runs the workload in memory and gives its summary to the sink, and answers the status 0. Of a workload of
+/// accesses to single rows this is the whole output. Where there was no memory, nothing was given; where the
+/// sink fails a prefix of the summary was, and its count of faults rose.
 pub fn give_summary<K: Sink, P: Pace + Sync, R: Threads + Sync>(
     rt: &R,
     alloc: Global,

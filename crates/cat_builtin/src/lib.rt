@@ -43,7 +43,7 @@ pub fn builtin(alloc: Global, name: &[u8]) -> Result<Option<Catalog>, Memory>
     Ok(None)
 }
 
-/// The catalogue that the text tells. No refusal can come but want of memory.
+/// The catalogue that the text tells. The only refusal that can come is out of memory.
 fn told(alloc: Global, text: &str) -> Result<Catalog, Memory>
     requires { (plan : Plan) × IsTold text.now plan }
     ensures { (plan : Plan) → IsTold text.now plan → IfOk result (λ catalog. catalog ≡ plan) }

@@ -1,4 +1,4 @@
--- What a catalogue's JSON says, or where it first has not the stated form: from the outside in, and from the front.
+-- What a catalogue's JSON says, or where it first does not have the stated form: from the outside in, and from the front.
 use Rattle.std.specs.Prelude.{ℕ, ◌+◌, ◌==◌, ◌&&◌, not, List, [], ◌∷◌, ◌++◌, map, if◌then◌else◌, Option, Some, None, option_and_then}
 use Rattle.std.specs.declared.result.Result.TheVariants.{Ok}
 use Rattle.std.specs.List.{list_any}
@@ -137,6 +137,6 @@ plan_at path d = do
   procs ← procs_at tables (in_member path Procs) ms.1
   Ok (record { tables = tables; procs = procs })
 
--- what the data says, or the first place in the walk that has not the stated form
+-- what the data says, or the first place in the walk that does not have the stated form
 abbrev pub plan_of : Data → Shaped Plan
 plan_of d = plan_at [] d

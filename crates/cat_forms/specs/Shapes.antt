@@ -1,4 +1,4 @@
--- What is read of a catalogue's JSON: what stands there, or the first place in the walk that has not the stated form.
+-- What is read of a catalogue's JSON: what stands there, or the first place in the walk that does not have the stated form.
 use Rattle.std.specs.Prelude.{ℕ, ◌&&◌, Bool, nat_le, List, length, if◌then◌else◌, Option, Some, None, option_and_then, Result}
 use Rattle.std.specs.declared.result.Result.TheVariants.{Ok, Err}
 use Rattle.std.specs.List.{list_all}

@@ -1,9 +1,9 @@
 //! Catalogues as JSON: the definitions, and the names of things, for those who read and who write.
 //!
-//! A text tells a catalogue where it is JSON of the stated form, by a walk that gives the catalogue or
-//! the first place that has not the form; and each catalogue has one JSON that is written of it. The
-//! code here is names alone: what each form of expression, statement, kind and member is called, and,
-//! for all but members, what has a given name.
+//! A text tells a catalogue where it is JSON of the stated form, by a walk that gives the catalogue or the
+//! first place that does not have the form; and each catalogue has one JSON that is written of it. The code
+//! here is names alone: what each form of expression, statement, kind and member is called, and, for all but
+//! members, what has a given name.
 //!
 //! The walk looks at each object itself first and then at its members in their order, at arrays from
 //! the front; a statement's or expression's form comes before its operands; a name that is taken is a

@@ -12,8 +12,8 @@
 //!            cat_forms (what a text says, what is written, names)
 //! ```
 //!
-//! There is no code of its own here, only the tests of all three: a crate with tests is proved twice,
-//! and those are dear.
+//! There is no code of its own here, only the tests of all three: a crate with tests is proved twice, and
+//! those are slow to prove.
 #![tactic(auto)]
 
 #[cfg(test)]

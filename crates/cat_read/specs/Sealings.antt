@@ -6,7 +6,7 @@ use Rattle.cat_read.specs.declared.refusals.CatRefused.{CatRefused}
 use Rattle.cat_read.specs.declared.refusals.CatRefused.TheVariants as refused
 use Rattle.cat_read.specs.Texts.{wrong_from}
 
--- it names the first that is not well typed; want of memory says nothing, and nothing else is found
+-- it names the first that is not well typed; out of memory says nothing, and nothing else is found
 abbrev pub NamesFirstWrong : List Table → List Proc → CatRefused → Type 0
 NamesFirstWrong tables procs refused.Memory = Unit {0}
 NamesFirstWrong tables procs refused.NotJson = ⊥

@@ -30,7 +30,7 @@ first_wrong plan = wrong_from plan.tables 0 plan.procs
 
 -- ---- refusals
 
--- what a refusal says of the text; want of memory says nothing
+-- what a refusal says of the text; out of memory says nothing
 abbrev pub Refuses : List ℕ → CatRefused → Type 0
 Refuses text refused.Memory = Unit {0}
 Refuses text refused.NotJson = IsUtf8 text → read text ≡ None

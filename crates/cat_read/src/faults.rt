@@ -11,7 +11,7 @@ use std::alloc::{AllocError, AllocFailed};
 pub enum Fault {
     /// There was no memory.
     Memory,
-    /// This place is the first in the walk that has not the stated form.
+    /// This place is the first in the walk that does not have the stated form.
     Shape(Path),
 }
 

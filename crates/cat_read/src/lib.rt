@@ -1,9 +1,8 @@
 //! Catalogues read from JSON.
 //!
-//! [`read_catalog`] gives the catalogue that a text says, exactly where the text is JSON of the stated
-//! form and each procedure is well typed. Else it names what is wrong: no JSON, the first place in the
-//! walk that has not the form, or the first procedure that typing refuses; want of memory alone leaves
-//! that open.
+//! [`read_catalog`] gives the catalogue that a text says, exactly where the text is JSON of the stated form
+//! and each procedure is well typed. Else it names what is wrong: no JSON, the first place in the walk that
+//! does not have the form, or the first procedure that typing refuses; only out of memory leaves that open.
 //!
 //! ```text
 //! readers (read_catalog) --- refusals

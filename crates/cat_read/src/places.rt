@@ -49,7 +49,7 @@ fn parts(alloc: Global, place: &JsonPlace<'_>) -> Result<Vec<PathPart>, Memory>
     }
 }
 
-/// The fault of this place, or want of memory for its path.
+/// The fault of this place, or that there was no memory for its path.
 pub fn fault_at(alloc: Global, place: &JsonPlace<'_>) -> Fault
     ensures { IsFaultAt (path_of place.now) result }
 {

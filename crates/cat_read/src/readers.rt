@@ -15,12 +15,12 @@ use proc_verify::verify;
 use serde_json::Value;
 use std::alloc::Global;
 
-/// The catalogue that the text says. `NotJson` comes exactly where the text is no JSON; bytes that
-/// are no UTF-8 are none. A text that is JSON and has not the form of a catalogue gives `Shape` with
-/// the place that a reader from the outside in, and from the front, would point at: an object whose
-/// members are not the right ones before anything in it, and of two places the one that comes earlier.
-/// Typing is asked last, and `Wrong` names the first procedure that it refuses. Memory is taken for the
-/// whole JSON, and for the catalogue.
+/// The catalogue that the text says. `NotJson` comes exactly where the text is no JSON; bytes that are no
+/// UTF-8 are none. A text that is JSON and does not have the form of a catalogue gives `Shape` with the
+/// place that a reader from the outside in, and from the front, would point at: an object whose members are
+/// not the right ones before anything in it, and of two places the one that comes earlier. Typing is asked
+/// last, and `Wrong` names the first procedure that it refuses. Memory is taken for the whole JSON, and for
+/// the catalogue.
 pub fn read_catalog(alloc: Global, text: &[u8]) -> Result<Catalog, CatRefused>
     ensures catalog { IfOk result (Tells text.now) }
     ensures refused { IfErr result (Refuses text.now) }

@@ -17,7 +17,7 @@ pub enum CatRefused {
     Memory,
     /// The text is no JSON.
     NotJson,
-    /// It is JSON, and this place is the first in the walk that has not the stated form.
+    /// It is JSON, and this place is the first in the walk that does not have the stated form.
     Shape(Path),
     /// It has the stated form, and this is the first procedure that is not well typed, with the
     /// statement that fails first and its cause.

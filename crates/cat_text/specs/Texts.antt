@@ -23,7 +23,7 @@ abbrev pub typed_by : Plan → Option Wrong → Result Plan Kind8
 typed_by plan None = Ok plan
 typed_by plan (Some wrong) = Err (Catalog (fault.Wrong wrong))
 
--- by what the data says, or the first place that has not the form
+-- by what the data says, or the first place that does not have the form
 abbrev pub shaped_by : Shaped Plan → Result Plan Kind8
 shaped_by (Ok plan) = typed_by plan (first_wrong plan)
 shaped_by (Err path) = Err (Catalog (fault.Shape path))

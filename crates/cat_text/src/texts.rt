@@ -9,7 +9,7 @@ use script_text::{CatFault, Kind8, LinesRefused, Refusal};
 use std::alloc::Global;
 
 /// The catalogue that the text says. The refusal has this line number and the kind `Catalog`: `NotJson`
-/// exactly where the text is no JSON, else `Shape` with the first place that has not the form of a
+/// exactly where the text is no JSON, else `Shape` with the first place that does not have the form of a
 /// catalogue, else `Wrong` with the first procedure that is not well typed.
 #[tactic(auto, using(crate::proofs::Said::tells, crate::proofs::Said::refuses))]
 pub fn catalog_of(alloc: Global, text: &[u8], line: u64) -> Result<Catalog, LinesRefused>

@@ -1,8 +1,8 @@
 //! Catalogues written as JSON.
 //!
 //! [`write_catalog`] gives the compact text of a catalogue, byte for byte that of the definition in
-//! `cat_forms`. That text reads as the catalogue that was written, by the definition of what a text
-//! says; want of memory alone leaves both open.
+//! `cat_forms`. That text reads as the catalogue that was written, by the definition of what a text says;
+//! only out of memory leaves both open.
 //!
 //! ```text
 //! writers (write_catalog)

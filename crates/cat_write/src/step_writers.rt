@@ -51,7 +51,7 @@ fn write_regs(alloc: Global, registers: &Regs) -> Result<Value, Memory>
     Ok(Value::Array(values))
 }
 
-/// A row that is read, as the front of a statement of this verb.
+/// A row that is read, as the prefix of a statement of this verb.
 fn write_read(
     alloc: Global,
     tables: &[Table],

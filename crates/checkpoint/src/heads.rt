@@ -1,4 +1,4 @@
-// The front of a slot: its fields as bytes, and what may be wrong with them.
+// The head of a slot: its fields as bytes, and what may be wrong with them.
 ghost use Rattle.std.specs.Prelude.{◌≡◌, ◌≤◌};
 ghost use Rattle.checkpoint.specs.Heads.{fields_of, head_in, head_bytes};
 ghost use Rattle.checkpoint.specs.Damage.{faults, first_fault, wrong_generation};
@@ -16,7 +16,7 @@ const MAGIC: u32 = 0x4149_5241;
 /// The greatest fallback.
 const MOST_FALLBACK: u8 = 101;
 
-/// What stands at the front of a checkpoint.
+/// What stands at the beginning of a checkpoint.
 #[derive(Clone, Copy, Debug, PartialEq, Eq)]
 pub struct Head {
     pub format: u8,
@@ -27,7 +27,7 @@ pub struct Head {
     pub requests: u64,
 }
 
-/// What the bytes at the front say, whether it can be or not.
+/// What the bytes at the beginning say, whether it can be or not.
 #[derive(Clone, Copy)]
 pub struct Fields {
     pub magic: u32,

@@ -1,3 +1,4 @@
+// A slot byte by byte, its calls with stops and faults between them, and what is told of a damaged one.
 ghost use Rattle.std.specs.Prelude.{◌<◌};
 
 use crate::{Head, blank, head_of, lay, read_slot, show, shut};

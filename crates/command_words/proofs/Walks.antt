@@ -16,7 +16,7 @@ use Rattle.clap.proofs.WalkLemmas.{find-map, list_any-map, walk_stopped}
 use Rattle.command_words.specs.Lines.{Opt, Cmd, Given, Read, Line, split, split_body, has_dash, is_given, opt_named, add, with_part, with_opt, with_split, with_word, options_of, with_options, with_cmd, line_of, is_flag_of, text_by, text_in}
 use Rattle.command_words.specs.Shapes.{rule_for, shape_for, top_for, app_for}
 
--- ---- lists and words
+-- ---- lists and arguments
 
 pub find_passes : {X : Type 0} (p : X → Bool) (xs : List X) (x : X) → find p xs ≡ Some x → p x ≡ true
 find_passes p [] x e = cc
@@ -26,7 +26,7 @@ find_passes p (y ∷ ys) x e = go (p y) refl e (find_passes p ys x)
     go true t e more = ap p (sym (ap (λ o. unwrap_or o y) e)) ∙ t
     go false t e more = more e
 
--- clap's long words are the line's
+-- clap's long arguments are the line's
 pub long_is_split : (word : Text) → long_of word ≡ split word
 long_is_split [] = refl
 long_is_split (a ∷ []) = go (a == 45)
@@ -48,7 +48,7 @@ long_is_split (a ∷ b ∷ bs) = go (a == 45)
     go true = more (b == 45)
     go false = refl
 
--- a word of the line is not `--`
+-- an argument of the line is not `--`
 pub not_dashes : (word : Text) (p : Text × Option Text) → split word ≡ Some p → bytes_eq word (45 ∷ 45 ∷ []) ≡ false
 not_dashes [] p e = refl
 not_dashes (a ∷ []) p e = go (a == 45)

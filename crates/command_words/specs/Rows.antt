@@ -49,7 +49,7 @@ abbrev pub IsRead : Line → ArgMatches → Type 0
 IsRead l m = (option_map (λ p. p.0) (subcommand_rows_of m) ≡ Some l.cmd.name)
     × ((name : Text) → option_map (λ p. first_of name p.1) (subcommand_rows_of m) ≡ Some (text_in l name))
 
--- clap's matches where the words are a line, and none elsewhere
+-- clap's matches where the arguments are a line, and none elsewhere
 abbrev pub IsReadOf : Option Line → Option ArgMatches → Type 0
 IsReadOf None None = Unit {0}
 IsReadOf None (Some m) = ⊥

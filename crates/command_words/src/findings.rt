@@ -1,4 +1,4 @@
-// The words as `clap` reads them, where they are of the line form.
+// The arguments as `clap` reads them, where they are of the line form.
 ghost use Rattle.std.specs.Prelude.{◌≡◌, ◌<◌, length, map, option_map, string_bytes, IfErr, IfOk, Some};
 ghost use Rattle.clap.specs.Words.{kind_of};
 ghost use Rattle.command_words.specs.Lines.{Line, line_of, text_in};
@@ -32,7 +32,7 @@ fn memory_of(_error: Error) -> Memory
     Memory
 }
 
-/// What `clap` makes of the words; none where they are not of the line form.
+/// What `clap` makes of the arguments; none where they are not of the line form.
 pub(crate) fn matches<'a>(
     alloc: Global,
     rows: &[CommandRow<'a>],

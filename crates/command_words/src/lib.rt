@@ -1,14 +1,14 @@
-//! The words of a command line, as the settings of the command that they ask for.
+//! The arguments of a command line, as the settings of the command that they ask for.
 //!
 //! A *line* is a command's name, then its options in any order, each at most once, as `--name value`,
-//! `--name=value` or a flag alone. [`read_settings`] gives the settings of a line whose values are in
-//! range, the usual ones where it gives none, and nothing for all other words; it fails only for want
-//! of memory. The words are read by `clap`, which takes more than lines: so the form is tested first.
+//! `--name=value` or a flag alone. [`read_settings`] gives the settings of a line whose values are in range,
+//! the usual ones where it gives none, and nothing for all other arguments; it fails only where there is no
+//! memory. The arguments are read by `clap`, which takes more than lines: so the form is tested first.
 //!
 //! ```text
-//! words ──> lines (the form) ──> findings (clap's matches) ──> readers ──> settings (Command)
-//!             │                      │                           │
-//!       rows, tables ─────────> shapes (clap's command)     options, values
+//! arguments ──> lines (the form) ──> findings (clap's matches) ──> readers ──> settings (Command)
+//!                 │                      │                           │
+//!           rows, tables ─────────> shapes (clap's command)     options, values
 //! ```
 //!
 //! In `specs/`: `Lines` says what a line is, `Tables` which commands there are, `Options` the range of

@@ -133,7 +133,7 @@ impl<'a> Reading<'a> {
     }
 }
 
-/// The options that the words are; none where they are not of the form.
+/// The options that the arguments are; none where they are not of the form.
 fn options<'a>(
     alloc: Global,
     table: &[OptionRow<'a>],
@@ -180,7 +180,7 @@ fn line_after<'a>(
     }
 }
 
-/// The line that the words are; none where they are not of the form.
+/// The line that the arguments are; none where they are not of the form.
 pub fn line<'a>(
     alloc: Global,
     rows: &[CommandRow<'a>],

@@ -1,4 +1,4 @@
-// The options of all commands: their values, and the one that counts where the words give none.
+// The options of all commands: their values, and the one that counts where the arguments give none.
 use crate::settings::{Listing, Load};
 use aria_base::MOST_REQUESTS;
 use batch_rules::verdicts::Rule;

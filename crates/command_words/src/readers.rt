@@ -24,7 +24,7 @@ const MOST_CALLS: u32 = 1_000_000;
 
 const ALL_ACCESSES: u32 = 100;
 
-/// What the words ask for, where they are a line of these commands with values in range; else none.
+/// What the arguments ask for, where they are a line of these commands with values in range; else none.
 pub fn read_settings(
     alloc: Global,
     rows: &[CommandRow<'_>],

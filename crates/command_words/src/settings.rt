@@ -124,7 +124,7 @@ pub struct Nodes {
     pub drain: bool,
 }
 
-/// What the words ask for.
+/// What the arguments ask for.
 #[derive(Clone, Copy, Debug, PartialEq, Eq)]
 pub enum Command {
     Once(Once),

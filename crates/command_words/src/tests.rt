@@ -1,3 +1,4 @@
+// Command lines of every command, what is usual in each, and lines that are refused.
 use crate::{
     Accesses, Amount, Bench, Command, Init, Listing, Load, Mix, Nodes, Once, Replay, Run, Stock,
     Workload, commands, read_settings,
@@ -91,7 +92,7 @@ const NODES: Nodes = Nodes {
     drain: false,
 };
 
-// Lines that are refused. Their words are what stands between spaces.
+// Lines that are refused. Their arguments are what stands between spaces.
 const REFUSED: [&str; 58] = [
     "",
     " once",

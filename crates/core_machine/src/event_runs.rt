@@ -72,8 +72,8 @@ impl Core {
     }
 }
 
-/// Takes the events one after the other. `NotDue` names the first of them that is not due when it
-/// comes, and the machine is gone then, as after want of memory.
+/// Takes the events one after the other. `NotDue` names the first of them that is not due when it comes, and
+/// the machine is gone then, as where there was no memory.
 pub fn run(alloc: Global, core: Core, events: &[Event]) -> Result<Core, CoreRefused>
     ensures taken { IfOk result (λ taken. (b : Course) (es : List E) → HasTaken b es core → HasTaken b (es ++ events.now) taken) }
     ensures refused { IfErr result (λ refused. (b : Course) (es : List E) → HasTaken b es core → IsRefusal b es events.now refused) }

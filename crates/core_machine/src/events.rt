@@ -1,5 +1,4 @@
-//! What may come to the machine.
-
+// What may come to the machine.
 ghost use Rattle.std.specs.Prelude.{◌≡◌};
 ghost use Rattle.core_machine.specs.Events.{phase_of};
 

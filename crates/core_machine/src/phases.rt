@@ -1,3 +1,4 @@
+// The phases of the machine, one after the other.
 ghost use Rattle.std.specs.Prelude.{◌≡◌, min, ◌+◌};
 ghost use Rattle.core_machine.specs.Phases.{ended};
 

@@ -1,3 +1,4 @@
+// The settings by which batches run.
 use batch_rules::verdicts::Rule;
 
 /// How batches run.

@@ -1,3 +1,4 @@
+// The verdict of one request, by keys and by reservation words.
 ghost use Rattle.std.specs.Prelude.{◌≡◌, ◌≤◌, ◌<◌, ◌+◌, ◌-◌, ◌*◌, ◌^◌, length, take, All, IfSome, None};
 ghost use Rattle.std.specs.List.{slice_get};
 ghost use Rattle.std.specs.Ordering.{nat_cmp};

@@ -1,6 +1,5 @@
-//! What the verdicts over numbered lists and their words have to do with those over keys. Each law is the contract of a function that
-//! does nothing: a caller has the law after the call.
-
+// What the verdicts over numbered lists and their words have to do with those over keys. Each law is the
+// contract of a function that does nothing: a caller has the law after the call.
 ghost use Rattle.std.specs.Prelude.{ℕ, List};
 ghost use Rattle.std.specs.declared.cmp.Ordering.{Ordering};
 ghost use Rattle.aria_base.specs.Reserved.{StandFor};

@@ -1,3 +1,4 @@
+// The key lists of a batch's requests as lists of numbers.
 ghost use Rattle.std.specs.Prelude.{◌≡◌, ◌≤◌, ◌<◌, length, vec_len, map, All};
 ghost use Rattle.aria_base.specs.declared.limits.TheConstants.{MOST_REQUESTS};
 ghost use Rattle.dep_rules.specs.Sheets.{AllBelow, IsSheet, reads_at, writes_at, IsTid};

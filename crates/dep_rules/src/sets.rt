@@ -1,3 +1,4 @@
+// The two lists of keys that a request touched.
 use aria_base::{Duplicate, Keys, Memory};
 use std::alloc::Global;
 

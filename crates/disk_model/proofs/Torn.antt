@@ -48,7 +48,7 @@ free at len loose place before out =
     let no : nat_le at place ≡ false = grind (arith, nat_tests) in
     ap (λ (b : Bool). b && nat_lt place (at + len) || covers loose place) no ∙ out
 
--- an image from before with the same front
+-- an image from before with the same prefix
 pub torn_front : (f : File) (at len : ℕ) (image : List ℕ) → IsImage f f.seen → at ≤ length f.seen → IsImage (loosened at len f) image → (before : List ℕ) × IsImage f before × (take at before ≡ take at image)
 torn_front f at len image reads within torn = (take at image ++ drop at f.synced, mixed, front)
   where

@@ -1,3 +1,4 @@
+// The disk in memory: calls that fail, bytes that run out, and what a stop leaves.
 ghost use Rattle.std.specs.Prelude.{◌<◌};
 
 use crate::{Disk, MemDisk, write_synced};

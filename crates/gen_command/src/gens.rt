@@ -15,8 +15,8 @@ use script_course::{DONE, Stop};
 use std::alloc::Global;
 use workloads::Generator;
 
-/// Gives the script of the settings to the sink, and answers the status 0. Where memory is wanting or the
-/// sink fails, a front of the script was given, and the sink is named only where its count of faults rose.
+/// Gives the script of the settings to the sink, and answers the status 0. Where there was no memory or the
+/// sink fails, a prefix of the script was given, and the sink is named only where its count of faults rose.
 pub fn generate<K: Sink>(alloc: Global, settings: &Workload, out: &mut K) -> Result<u8, Stop>
     requires { IsWithin (generator_of settings.now) }
     ensures finishes { Finishes (record { bytes = script_of settings.now; status = DONE }) (K.given out.old) (K.given out.new) result }

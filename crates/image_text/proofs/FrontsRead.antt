@@ -1,4 +1,4 @@
--- The front of a body is read exactly.
+-- The catalogue that a body begins with is read exactly.
 use Rattle.std.proofs.Common.{◌≡◌, ℕ, zero, suc, ◌+◌, ◌-◌, ◌<◌, ◌≤◌, ◌≢◌, List, [], ◌∷◌, ◌++◌, length, map, take, drop, Option, Some, None, Bool, true, false, cond, refl, ap, subst, sym, ◌∙◌, arith, length-take}
 use Rattle.std.specs.Prelude.{All, option_map, option_and_then, ◌==◌, ◌&&◌, not, bytes_eq, slice_index, Ok}
 use Rattle.std.specs.List.{list_all, concat}
@@ -175,7 +175,7 @@ joined_again (p ∷ ps) text rest all h =
     ap (joined_from text false) line ∙ piece_joined text p (lines_text (map piece_line ps) ++ rest) (All-head (Lacks 10) p ps all)
     ∙ joined_again ps (text ++ p) rest (All-tail (Lacks 10) p ps all) h ∙ ap Some (append_assoc text p (concat ps))
 
--- ---- the front
+-- ---- the catalogue
 
 pub front_again : (plan : Plan) (rest : List ℕ) → IsCatalog plan → Tells (catalog_text plan) plan → IsNoPiece rest → front_of (front_text plan ++ rest) ≡ Some (plan, rest)
 front_again plan rest is told h =

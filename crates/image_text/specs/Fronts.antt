@@ -1,4 +1,4 @@
--- The catalogue at a body's front: the line `catalog text`, and the catalogue's text in pieces.
+-- The catalogue that a body begins with: the line `catalog text`, and the catalogue's text in pieces.
 use Rattle.std.specs.Prelude.{◌≡◌, ℕ, ◌+◌, ◌≢◌, Bool, true, false, ◌==◌, if◌then◌else◌, List, [], ◌∷◌, ◌++◌, length, map, take}
 use Rattle.std.specs.Prelude.{drop, slice_index, Option, Some, None, option_map, option_and_then, codes, bytes_eq}
 use Rattle.proc_lang.specs.Catalogs.{Plan}
@@ -41,7 +41,7 @@ front_text plan = title ++ pieces_text (catalog_text plan)
 abbrev pub behind : List ℕ → List ℕ → Option (List ℕ)
 behind front bytes = if bytes_eq (take (length front) bytes) front then Some (drop (length front) bytes) else None
 
--- the pieces at the front, joined behind `text`; `inside` a piece or not
+-- the pieces at the beginning, joined behind `text`; `inside` a piece or not
 abbrev pub joined_from : List ℕ → Bool → List ℕ → Option (List ℕ)
 joined_from text true [] = None
 joined_from text false [] = Some text

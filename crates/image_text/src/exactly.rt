@@ -67,7 +67,8 @@ pub fn exact_call(
     Ok(Some(call))
 }
 
-/// Appends the line of a call, without a line feed. After want of memory a part of it may stand in `out`.
+/// Appends the line of a call, without a line feed. Where there was no memory, a part of it may stand in
+/// `out`.
 pub fn append_line(out: &mut Vec<u8>, catalog: &Catalog, call: &Call) -> Result<(), Memory>
     ensures text { OnOk result (out.new.items ≡ out.old.items ++ line_of_call catalog.now call.now) }
     ensures args { OnOk result (IsArgs call.now.args) }

@@ -1,4 +1,4 @@
-// The catalogue at a body's front.
+// The catalogue that a body begins with.
 ghost use Rattle.std.specs.Prelude.{◌≡◌, ◌<◌, ◌≤◌, ◌++◌, [], ◌∷◌, length, IfOk, OnOk, option_map};
 ghost use Rattle.proc_lang.specs.Catalogs.{IsCatalog};
 ghost use Rattle.cat_forms.specs.Texts.{Tells};
@@ -23,7 +23,8 @@ const TITLE: [u8; 13] = *b"catalog text\n";
 /// What a piece begins with.
 const COLON: [u8; 1] = *b":";
 
-/// Appends the catalogue as a body begins with it. After want of memory a part of it may stand in `out`.
+/// Appends the catalogue as a body begins with it. Where there was no memory, a part of it may stand in
+/// `out`.
 pub fn append_front(out: &mut Vec<u8>, catalog: &Catalog) -> Result<(), Memory>
     ensures text { OnOk result (out.new.items ≡ out.old.items ++ front_text catalog.now) }
     ensures told { OnOk result (Tells (catalog_text catalog.now) catalog.now) }
@@ -79,7 +80,7 @@ fn append_piece(out: &mut Vec<u8>, piece: &[u8]) -> Result<(), Memory>
     Ok(())
 }
 
-/// The catalogue at the front, and what stands behind it.
+/// The catalogue at the beginning, and what stands behind it.
 pub fn read_front(alloc: Global, bytes: &[u8]) -> Result<Option<(Catalog, &[u8])>, Memory>
     ensures front { IfOk result (λ found. option_map (λ front. (front.0, front.1.now)) found ≡ front_of bytes.now) }
     ensures catalog { IfOk result (λ found. IfSome found (λ front. IsCatalog front.0)) }
@@ -97,7 +98,7 @@ pub fn read_front(alloc: Global, bytes: &[u8]) -> Result<Option<(Catalog, &[u8])
     with_catalog(alloc, bytes, catalog)
 }
 
-/// The catalogue, where its text is written again as it stands at the front.
+/// The catalogue, where its text is written again as it stands at the beginning.
 fn with_catalog(
     alloc: Global,
     bytes: &[u8],
@@ -133,7 +134,7 @@ fn behind<'a>(front: &[u8], bytes: &'a [u8]) -> Option<&'a [u8]>
     bytes.strip_prefix(front)
 }
 
-/// The pieces at the front, joined.
+/// The pieces at the beginning, joined.
 #[tactic(auto, using(crate::proofs::FrontsRead::no_colon, crate::proofs::FrontsRead::shorter))]
 fn joined(alloc: Global, bytes: &[u8]) -> Result<Option<Vec<u8>>, Memory>
     ensures { IfOk result (λ found. option_map (λ text. text.items) found ≡ joined bytes.now) }

@@ -10,7 +10,7 @@ use aria_base::{Memory, Request};
 use proc_lang::Catalog;
 use script_text::{append_number, append_proc_name, append_tokens, cut_at, read_number};
 
-/// Appends the line of a request, without a line feed. After want of memory a part of it may stand in
+/// Appends the line of a request, without a line feed. Where there was no memory, a part of it may stand in
 /// `out`.
 pub fn append_held(out: &mut Vec<u8>, catalog: &Catalog, request: &Request) -> Result<(), Memory>
     ensures text { OnOk result (out.new.items ≡ out.old.items ++ line_of_held catalog.now request.now) }

@@ -1,5 +1,5 @@
-//! A body says one thing. The law is the contract of a function that does nothing: a caller has it after the call.
-
+// A body says one thing. The law is the contract of a function that does nothing: a caller has it after the
+// call.
 ghost use Rattle.std.specs.Prelude.{◌≡◌, ℕ, List};
 ghost use Rattle.image_text.specs.Bodies.{Values, IsBody};
 

@@ -62,7 +62,7 @@ open_gate a b c d payload behind size more =
 pub openly : (bytes payload : List ℕ) → Opened bytes payload → next_of bytes ≡ Open payload
 openly bytes payload o = ap (λ (l : List ℕ). next_of l) o.split ∙ open_gate o.a o.b o.c o.d payload o.behind o.size o.more
 
--- another list with the same front, which has a gate behind the record too
+-- another list with the same prefix, which has a gate behind the record too
 pub same_next : (bytes other payload : List ℕ) (n : ℕ) → next_of bytes ≡ Open payload → take n other ≡ take n bytes → 5 + length payload ≤ n → n < length other → next_of other ≡ Open payload
 same_next bytes other payload n e same past within =
     let o = opened bytes payload e in

@@ -1,4 +1,4 @@
--- A log is read the same way up to a gate from all bytes with the same front.
+-- A log is read the same way up to a gate from all bytes with the same prefix.
 use Rattle.std.proofs.Common.{◌≡◌, ◌≢◌, ℕ, zero, suc, ◌+◌, ◌<◌, ◌≤◌, List, [], ◌∷◌, length, take, drop, get_or, refl, sym, ◌∙◌, subst, ap, arith, length-drop}
 use Rattle.std.proofs.lemmas.List.{drop-drop, drop-take, drop_more, length_push}
 use Rattle.input_log.specs.declared.logs.Payload.{Payload}
@@ -40,7 +40,7 @@ pub log_broken : (before : List Payload) (at : ℕ) (bytes : List ℕ) → next_
 log_broken before at [] e = refl
 log_broken before at (b ∷ bytes) e = ap (λ (x : Next). by_next x before at (λ p. read_log (length bytes) (with_payload before at p) (at + 5 + length p) (drop (5 + length p) (b ∷ bytes)))) e
 
--- The first closed gate stands so far ahead, and any bytes with this front and one more lead there.
+-- The first closed gate stands so far ahead, and any bytes with this prefix and one more lead there.
 pub record Reaches (before : List Payload) (at : ℕ) (bytes : List ℕ) (payloads : List Payload) (end : ℕ) : Type 0 where
   pub ahead : ℕ
   pub place : end ≡ at + ahead
@@ -108,8 +108,7 @@ few_records (suc fuel) before at bytes payloads end e =
     go (Open payload) left on = omega (arith, on payload left, length_push before (record { at = at; bytes = payload }))
     go Broken left on = absurd (cc left)
 
--- what a log that ends says of its bytes: the gate at its end is there and closed, and whatever has the same front reads so
--- up to it
+-- what a log that ends says of its bytes: the gate at its end is there and closed, and whatever has the same prefix reads so up to it
 pub record Front (bytes : List ℕ) (payloads : List Payload) (end : ℕ) : Type 0 where
   pub within : end < length bytes
   pub shut : get_or bytes end 0 ≢ 1

@@ -1,3 +1,4 @@
+// A log in one file of a disk: records are added at its end, and read from its beginning.
 ghost use Rattle.std.specs.Prelude.{◌≡◌, ◌⊎◌, ◌*◌, ◌+◌, ◌<◌, ◌≤◌, ◌^◌, ◌++◌, [], ◌∷◌, List, length, take, drop, IfOk, IfErr, OnOk, OnErr, IfSome, option_map};
 ghost use Rattle.aria_base.specs.Faults.{one_more};
 ghost use Rattle.disk_model.specs.Files.{untouched, put, loosened};

@@ -1,3 +1,4 @@
+// A log byte by byte, its calls with stops and faults between them, and what is told of a damaged one.
 ghost use Rattle.std.specs.Prelude.{◌≡◌, ◌<◌, ◌≤◌, length, IfOk};
 ghost use Rattle.disk_model.specs.Histories.{current, IsStable};
 ghost use Rattle.disk_model.specs.Recorded.{history_of};

@@ -34,7 +34,7 @@ module _ {Item Made : Type 0} (makes : ℕ → List Item → Made → Type 0) wh
       ap (λ zs. zs ++ flat_map ys all) (each first part made m) ∙ ap (λ zs. map f part ++ zs) (made_flat f ys each (first + length part) rest all more)
       ∙ sym (map-append f part rest) ∙ ap (map f) (sym e)
 
-  -- the list was cut at a place, and all but the last part is made of the front
+  -- the list was cut at a place, and all but the last part is made of the prefix
   pub made_cut : (n at : ℕ) (items front back : List Item) (all : List Made) (last : Made) (more : List Made) → front ≡ take at items → back ≡ drop at items → n ≡ length front
       → Have 0 front all → makes n back last → more ≡ all ++ last ∷ [] → Have 0 items more
   made_cut n at items front back all last more f b here made m e =

@@ -11,7 +11,8 @@ abbrev pub written_code : Coded Written
 written_code = coded_list (coded× (key.the_row).coded (coded_option cells_code))
 
 abbrev pub due_code : Coded Due
-due_code = code_by (Piece × Written) (coded× piece_code written_code) (λ due. (due.piece, due.writes)) (λ p. record { piece = p.0; writes = p.1 }) (λ _. refl)
+due_code = code_by (Piece × Written) (coded× piece_code written_code) (λ due. (due.piece, due.writes))
+    (λ p. record { piece = p.0; writes = p.1 }) (λ _. refl)
 
 abbrev pub deal_code : Coded (List Written)
 deal_code = coded_list written_code

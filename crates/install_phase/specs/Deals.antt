@@ -26,4 +26,5 @@ pub record AreOwn (lists : List Written) : Type 0 where
 -- these writes, dealt some after the others
 abbrev pub AreDeals : Written → List (List Written) → Type 0
 AreDeals writes [] = writes ≡ []
-AreDeals writes (deal ∷ deals) = (some : Written) × (others : Written) × (writes ≡ some ++ others) × IsDeal some deal × AreDeals others deals
+AreDeals writes (deal ∷ deals) =
+    (some : Written) × (others : Written) × (writes ≡ some ++ others) × IsDeal some deal × AreDeals others deals

@@ -5,4 +5,5 @@ use Rattle.std.specs.Prelude.{◌≡◌, ◌++◌, ◌+◌, ℕ, List, [], ◌�
 abbrev pub HaveMade : {Item Made : Type 0} → (ℕ → List Item → Made → Type 0) → ℕ → List Item → List Made → Type 0
 HaveMade makes first items [] = items ≡ []
 HaveMade {Item} makes first items (made ∷ all) =
-    (part : List Item) × (rest : List Item) × (items ≡ part ++ rest) × makes first part made × HaveMade makes (first + length part) rest all
+    (part : List Item) × (rest : List Item) × (items ≡ part ++ rest) × makes first part made
+    × HaveMade makes (first + length part) rest all

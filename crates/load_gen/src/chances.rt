@@ -1,5 +1,5 @@
-//! Numbers and chances that are drawn from the words of a generator. None takes memory, and each takes
-//! one word.
+// Numbers and chances that are drawn from the words of a generator. None takes memory, and each takes one
+// word.
 ghost use Rattle.std.specs.Prelude.{◌≡◌, ◌≤◌, ◌<◌, ◌+◌, ◌^◌};
 ghost use Rattle.load_gen.specs.Draws as drawn;
 

@@ -1,4 +1,4 @@
-//! The database that a workload begins with.
+// The database that a workload begins with.
 ghost use Rattle.std.specs.Prelude.{◌≡◌, ◌≤◌, ◌<◌, ◌^◌, IfOk, replicate, length};
 ghost use Rattle.std.specs.FinMap as fin;
 ghost use Rattle.aria_base.specs.Orders.{key_cmp};

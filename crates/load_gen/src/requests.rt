@@ -1,4 +1,4 @@
-//! The requests of a workload.
+// The requests of a workload.
 ghost use Rattle.std.specs.Prelude.{◌≡◌, ◌≤◌, ◌<◌, pos, IfOk, OnOk, All, true};
 ghost use Rattle.aria_base.specs.declared.limits.TheConstants.{GREATEST_NUMBER};
 ghost use Rattle.proc_lang.specs.Catalogs.{takes};
@@ -11,8 +11,8 @@ use crate::settings::Ycsb;
 use aria_base::{Arg, Args, Call, Draws, Memory, Tuple, Tuples};
 use std::alloc::Global;
 
-/// The calls of a batch of this size, which come next in the words. The batch's number, at most 2^62, has
-/// no part in them. Behind them `draws` stands at the word that they did not use; after want of memory it
+/// The calls of a batch of this size, which come next in the words. The batch's number, at most 2^62, has no
+/// part in them. Behind them `draws` stands at the word that they did not use; where there was no memory, it
 /// stands some words further than before.
 pub fn batch(
     alloc: Global,

@@ -1,4 +1,4 @@
-//! What a workload is made by.
+// What a workload is made by.
 
 /// The settings of a workload of accesses to single rows.
 #[derive(Clone, Copy, Debug, PartialEq, Eq)]

@@ -1,5 +1,5 @@
-//! Requests and rows of small workloads. The words are those of the published generator, and what is
-//! drawn from them was worked out beside the code.
+// Requests and rows of small workloads. The words are those of the published generator, and what is drawn
+// from them was worked out beside the code.
 ghost use Rattle.std.specs.Prelude.{◌≤◌, length};
 ghost use Rattle.load_gen.specs.Ycsb.{IsWithin};
 

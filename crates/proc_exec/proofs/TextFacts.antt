@@ -1,4 +1,4 @@
--- What is a text: fronts of two texts joined, and printed numbers.
+-- What is a text: prefixes of two texts joined, and printed numbers.
 use Rattle.std.proofs.Common.{◌≡◌, ℕ, ◌<◌, ◌≤◌, ◌+◌, List, ◌∷◌, ◌++◌, length, length-append, take, true, refl, arith, not, Some}
 use Rattle.std.specs.Prelude.{zero, suc, slice_index_or}
 use Rattle.std.specs.declared.result.Result.TheVariants.{Ok}

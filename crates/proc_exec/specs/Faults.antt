@@ -7,7 +7,7 @@ use Rattle.proc_exec.specs.declared.early_ends.EvalFault.TheVariants as fault
 use Rattle.proc_exec.specs.declared.early_ends.RunStop.{RunStop}
 use Rattle.proc_exec.specs.declared.early_ends.RunStop.TheVariants as stop
 
--- the value or the trap is the meaning's; want of memory says nothing
+-- the value or the trap is the meaning's; out of memory says nothing
 abbrev pub Computes : {A : Type 0} → Result A EvalFault → Got A → Type 0
 Computes (Ok x) meant = meant ≡ Ok x
 Computes (Err fault.Memory) meant = Unit {0}

@@ -1,4 +1,4 @@
--- What the steps of the interpreter say of the run that the meaning gives. Want of memory says nothing, here and below.
+-- What the steps of the interpreter say of the run that the meaning gives. Out of memory says nothing, here and below.
 use Rattle.std.specs.Prelude.{◌≡◌, ◌+◌, true, false, nat_lt, Option, Result}
 use Rattle.std.specs.declared.result.Result.TheVariants.{Ok, Err}
 use Rattle.std.specs.FinMap as fin

@@ -12,11 +12,11 @@ use aria_base::{Memory, Request};
 use proc_lang::{Access, Catalog, End, Gives};
 use std::alloc::Global;
 
-/// Runs a request through the window: its end, or want of memory. Where the catalogue has no procedure
-/// of the call's number, nothing is done, and the end is `Done`. No write is taken back here: all that
-/// the run wrote is in the window's map afterwards, also after a `Back` or a `Trap`. What the window
-/// notes of the run are its writes, and the reads of keys that it had not written by then. After want
-/// of memory nothing is said of the window.
+/// Runs a request through the window: its end, or that there was no memory. Where the catalogue has no
+/// procedure of the call's number, nothing is done, and the end is `Done`. No write is taken back here: all
+/// that the run wrote is in the window's map afterwards, also after a `Back` or a `Trap`. What the window
+/// notes of the run are its writes, and the reads of keys that it had not written by then. Where there was
+/// no memory, nothing is said of the window.
 pub fn interpret<A: Access>(
     alloc: Global,
     catalog: &Catalog,
@@ -31,8 +31,8 @@ pub fn interpret<A: Access>(
     }
 }
 
-/// The same within declared keys: the run stops before its first access that they do not allow, and
-/// names its key. Nothing is said of the window then, nor after want of memory.
+/// The same within declared keys: the run stops before its first access that they do not allow, and names
+/// its key. Nothing is said of the window then, nor where there was no memory.
 #[tactic(auto, using(crate::proofs::Ended::ends_within))]
 pub fn interpret_within<A: Access>(
     alloc: Global,

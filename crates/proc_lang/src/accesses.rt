@@ -6,10 +6,10 @@ ghost use Rattle.batch_rules.specs.Plays.{Seen, after_read, after_write};
 
 use aria_base::{Key, Memory, Row};
 
-/// A window on a database: a map from keys to rows, and a record of what a run did with it. The record
-/// is two lists, each in the order in which its keys came up. In one are the keys that were read while
-/// the run had not written there, in the other those that it wrote, each with what it was left with: a
-/// row, or none. After want of memory the window is as before.
+/// A window on a database: a map from keys to rows, and a record of what a run did with it. The record is
+/// two lists, each in the order in which its keys came up. In one are the keys that were read while the run
+/// had not written there, in the other those that it wrote, each with what it was left with: a row, or none.
+/// Where there was no memory, the window is as before.
 pub trait Access {
     /// The map, and the two lists.
     ghost seen: { Self → Seen key_cmp Cells };

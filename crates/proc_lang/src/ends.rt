@@ -1,3 +1,4 @@
+// How a run of a procedure ends, and what it gave.
 use crate::limits::MOST_GIVEN;
 use aria_base::{Duplicate, Few, Memory, Value};
 use std::alloc::Global;

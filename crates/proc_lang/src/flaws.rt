@@ -7,7 +7,7 @@ use std::fmt;
 /// The statement's table is not there.
 pub const UNKNOWN_TABLE: u8 = 1;
 
-/// The key has not as many parts as the table's keys.
+/// The key does not have as many parts as the table's keys.
 pub const KEY_LENGTH: u8 = 2;
 
 /// There are not as many columns, or registers for them, as the table has columns.

@@ -6,7 +6,7 @@ use Rattle.proc_lang.specs.Typing.{Flaw, Reached}
 use Rattle.proc_verify.specs.declared.refusals.VerifyRefused.{VerifyRefused}
 use Rattle.proc_verify.specs.declared.refusals.VerifyRefused.TheVariants.{Memory, Wrong}
 
--- It names the procedure by its number, and the flaw that typing finds. Want of memory says nothing.
+-- It names the procedure by its number, and the flaw that typing finds. Out of memory says nothing.
 abbrev pub NamesFirst : ℕ → Result Reached Flaw → VerifyRefused → Type 0
 NamesFirst number typed Memory = Unit {0}
 NamesFirst number typed (Wrong w) = (w.proc ≡ number) × (typed ≡ Err (record { place = w.place; cause = w.cause }))

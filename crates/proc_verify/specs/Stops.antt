@@ -9,7 +9,7 @@ use Rattle.proc_verify.specs.declared.progress.CheckStop.TheVariants as stop
 abbrev pub standing : Point → Reached
 standing p = record { next = p.next; set = p.set }
 
--- it comes as far, or stops at the same flaw; want of memory says nothing
+-- it comes as far, or stops at the same flaw; out of memory says nothing
 abbrev pub Reaches : Result Point CheckStop → Result Reached Flaw → Type 0
 Reaches (Ok p) typed = typed ≡ Ok (standing p)
 Reaches (Err stop.Memory) typed = Unit {0}

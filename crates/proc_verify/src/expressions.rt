@@ -131,8 +131,8 @@ fn two_kinds(scope: &CheckScope, set: &SetRegisters, a: &Expr, b: &Expr) -> Type
     Ok((kind, kind_of(scope, set, b)?))
 }
 
-/// The kinds of expressions, from the left, behind those that are done. Want of memory is no cause,
-/// so it stands outside of what is found.
+/// The kinds of expressions, from the left, behind those that are done. Out of memory is no cause, so it
+/// stands outside of what is found.
 pub fn kinds_after(
     scope: &CheckScope,
     set: &SetRegisters,

@@ -1,7 +1,7 @@
 //! Whether a procedure is well typed under the tables of a database, and the seal on one that is.
 //!
 //! [`verify`] seals a procedure exactly where it is well typed, and else names the first statement that
-//! fails and the first cause for which it does. Want of memory alone leaves the question open.
+//! fails and the first cause for which it does. Only out of memory leaves the question open.
 #![tactic(auto)]
 
 mod accesses;

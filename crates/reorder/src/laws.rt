@@ -1,5 +1,5 @@
-//! What the TIDs of an order name. Each law is the contract of a function that does nothing: a caller has the law after the call.
-
+// What the TIDs of an order name. Each law is the contract of a function that does nothing: a caller has the
+// law after the call.
 ghost use Rattle.std.specs.Prelude.{List};
 ghost use Rattle.batch_rules.specs.declared.verdicts.Verdict.{Verdict};
 ghost use Rattle.batch_rules.specs.Batches.{Entry};

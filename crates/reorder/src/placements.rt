@@ -1,3 +1,4 @@
+// In which order the requests of a batch count as run.
 ghost use Rattle.std.specs.Prelude.{◌≡◌, ◌≤◌, ◌<◌, ◌^◌, ◌++◌, length, map, IfOk, OnOk};
 ghost use Rattle.std.specs.List.{filter, enumerate_from};
 ghost use Rattle.aria_base.specs.declared.limits.TheConstants.{MOST_REQUESTS};
@@ -36,8 +37,8 @@ pub fn order(alloc: Global, verdicts: &[Verdict], ended: &[bool]) -> Result<Vec<
     Ok(tids)
 }
 
-/// Appends the TIDs of the requests that finish, and of which this holds: that they read what an
-/// earlier one writes, or that they do not. After want of memory some of them stand there.
+/// Appends the TIDs of the requests that finish, and of which this holds: that they read what an earlier one
+/// writes, or that they do not. Where there was no memory, some of them stand there.
 fn append_finishing(tids: &mut Vec<u32>, verdicts: &[Verdict], raw: bool) -> Result<(), Memory>
     requires { length verdicts.now < 2 ^ 32 }
     ensures { OnOk result (tids.new.items ≡ tids.old.items
@@ -53,7 +54,7 @@ fn append_finishing(tids: &mut Vec<u32>, verdicts: &[Verdict], raw: bool) -> Res
     Ok(())
 }
 
-/// Appends the TIDs of the requests that wait and have ended all the same. After want of memory some
+/// Appends the TIDs of the requests that wait and have ended all the same. Where there was no memory, some
 /// of them stand there.
 fn append_late(tids: &mut Vec<u32>, verdicts: &[Verdict], ended: &[bool]) -> Result<(), Memory>
     requires few { length verdicts.now < 2 ^ 32 }

@@ -70,7 +70,7 @@ fn copy_out(
     Ok(())
 }
 
-/// All results, where none is want of memory.
+/// All results, where none is out of memory.
 pub(crate) fn all_of<T: Drop>(
     alloc: Global,
     results: Vec<Result<T, Memory>>,

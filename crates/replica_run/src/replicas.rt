@@ -54,7 +54,7 @@ impl Replicas {
 
     /// Runs the next batch on every engine, all at once, each by so many workers. Each has then run the
     /// batch and marked it itself. The answer is that of each of them, its order is a serial run, and the
-    /// first request of the list finishes. After want of memory the engines are gone.
+    /// first request of the list finishes. Where there was no memory, the engines are gone.
     pub fn run_batch<P: Pace + Sync, R: Threads + Sync>(
         self,
         rt: &R,

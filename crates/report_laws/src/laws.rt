@@ -1,5 +1,4 @@
-//! The laws. Each is the contract of a function that does nothing: a caller has it after the call.
-
+// The laws. Each is the contract of a function that does nothing: a caller has it after the call.
 ghost use Rattle.std.specs.Prelude.{ℕ, ◌+◌, ◌<◌, ◌^◌, length};
 ghost use Rattle.aria_base.specs.Orders.{Database};
 ghost use Rattle.batch_core.specs.Serial.{IsNumbered};

@@ -11,7 +11,8 @@ use Rattle.run_commands.specs.Resumes.{PassesOver, resumed}
 
 -- ---- answers
 
--- the answers of these turns, each with the number of its batch: a turn that runs a batch prints its answer, and no other changes the count
+-- the answers of these turns, each with the number of its batch: a turn that runs a batch prints its answer, and no other changes the
+-- count
 abbrev pub answers_by : Doing → (Doing → List (ℕ × List ℕ)) → Course Doing → List (ℕ × List ℕ)
 answers_by d rest (Stops bytes) = []
 answers_by d rest (Goes bytes next) = if next.state.batches == d.state.batches then rest next else (next.state.batches, bytes) ∷ rest next
@@ -56,5 +57,7 @@ pub record EndsAlike (each : Bool) (plan : Plan) (text : List ℕ) (first second
 
 -- A text that is right to its end over a state ends alike after any number of runs that were stopped anywhere.
 abbrev pub EveryStopResumes : Type 0
-EveryStopResumes = (each : Bool) (plan : Plan) (text : List ℕ) (first : State) (printed : List ℕ) (last : Doing) → run_from each plan text first ≡ Goes printed last
+EveryStopResumes =
+    (each : Bool) (plan : Plan) (text : List ℕ) (first : State) (printed : List ℕ) (last : Doing)
+    → run_from each plan text first ≡ Goes printed last
     → (between : List State) (second : State) → AreStopped each plan text first between second → EndsAlike each plan text first second last

@@ -1,3 +1,4 @@
+// Two words for each key, on which any number of threads leave marks.
 ghost use Rattle.std.specs.Prelude.{◌≡◌, ◌+◌, ◌-◌, ◌*◌, ◌^◌, ◌<◌, ◌≤◌, [], ◌++◌, length, true, false, IfOk, OnOk, OnErr};
 ghost use Rattle.aria_base.specs.declared.limits.TheConstants.{MOST_REQUESTS, TAGS};
 ghost use Rattle.aria_base.specs.Reserved.{number_under, AreAbove};

@@ -76,7 +76,7 @@ told_behind told_of first left rest ga gm gc (Err stop.NoWrite) gives h = tt
 told_behind told_of first left rest ga gm gc (Err stop.NoDisk) gives h = tt
 told_behind told_of first left rest ga gm gc (Err stop.NoRead) gives h = (h.0, h.1, so_far_behind (told_of h.0) first ga gm gc gives h.2)
 
--- nothing but a front of the count was given
+-- nothing but a prefix of the count was given
 none_cut : (out : List ℕ → Out) (left ga gm : Option (List ℕ)) (why : Stop) → why ≢ stop.Refused → ((text : List ℕ) → AppendsFront ga gm (out text).bytes) → IfSome left (λ text. FinishesCut (out text) ga gm why)
 none_cut out None ga gm why other front = tt
 none_cut out (Some text) ga gm stop.Refused other front = absurd (other refl)
@@ -101,7 +101,7 @@ module _ (drain : Bool) (d : Doing) (left rest ga : Option (List ℕ)) where
   completes_behind gm gc result gives h =
       (all_behind (whole on_line (on_end drain) no_line d) (at_text d.state.batches) left ga gm gc result gives h.0, told_behind (told on_line no_line d) (at_text d.state.batches) left rest ga gm gc result gives h.1)
 
-  -- nothing but a front of the count was given
+  -- nothing but a prefix of the count was given
   pub completes_none : (gm : Option (List ℕ)) (why : Stop) → why ≢ stop.Refused → why ≢ stop.NoRead → AppendsFront ga gm (at_text d.state.batches) → Whole0 gm (Err why)
   completes_none gm why refused read front = (
     none_cut (out_from drain d) left ga gm why refused (λ text. front_longer ga gm (at_text d.state.batches) (whole on_line (on_end drain) no_line d text).bytes front),

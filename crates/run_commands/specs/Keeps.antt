@@ -31,7 +31,8 @@ pub record ReopensAsGiven (passes : State → List ℕ → Type 0) (plan : Plan)
   pub reopens : ReopensTo plan state images
 
 -- A stop at any moment leaves a state that passes; and a stop now one that passes with what was given.
-pub record Keeps (passes : State → List ℕ → Type 0) (plan : Plan) (old new : History) (given_old given_new : Option (List ℕ)) : Type 0 where
+pub record Keeps (passes : State → List ℕ → Type 0) (plan : Plan) (old new : History)
+    (given_old given_new : Option (List ℕ)) : Type 0 where
   pub images : LeavesAll old new (ReopensToPassed passes plan)
   pub exit : (images : ℕ → List ℕ) → MayLeave new new.now images → ReopensAsGiven passes plan given_old given_new images
 
@@ -55,7 +56,8 @@ pub record ReopensLaid (first checkpoint : ℕ) (plan : Plan) (state : State) (i
 
 -- every image that a stop now may leave is that
 abbrev pub LeavesLaid : ℕ → ℕ → History → Plan → State → Type 0
-LeavesLaid first checkpoint disk plan state = (images : ℕ → List ℕ) → MayLeave disk disk.now images → ReopensLaid first checkpoint plan state images
+LeavesLaid first checkpoint disk plan state =
+    (images : ℕ → List ℕ) → MayLeave disk disk.now images → ReopensLaid first checkpoint plan state images
 
 -- where a script has a store, that may take a batch, and each open call has a line that goes into its log
 pub record IsOpen (disk : History) (script : Running) : Type 0 where

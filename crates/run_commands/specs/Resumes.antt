@@ -80,7 +80,8 @@ IsToldOver settings (Found c later) left rest old new = IsToldOf (told_from (sta
 
 abbrev pub CompletesOver : Run → Reopened → Option (List ℕ) → Option (List ℕ) → Option (List ℕ) → Option (List ℕ) → Result ℕ Stop → Type 0
 CompletesOver settings NoStore left rest old new result = Finishes none_out old new result × (result ≢ Err stop.NoRead)
-CompletesOver settings (Damaged file at) left rest old new result = Finishes (damaged_out file at) old new result × (result ≢ Err stop.NoRead)
+CompletesOver settings (Damaged file at) left rest old new result =
+    Finishes (damaged_out file at) old new result × (result ≢ Err stop.NoRead)
 CompletesOver settings (Found c later) left rest old new result =
     Completes (told_from (start_over settings c later)) (out_from settings.drain (start_over settings c later)) left rest old new result
 
@@ -100,7 +101,8 @@ held_over_all drain d text = held_behind (turns_over drain d text) d d.state
 
 -- A stop at any moment leaves one of these states, or files that one before could have left. A stop now leaves one with what was
 -- given; only where nothing was given, it may also be files from before.
-pub record Outlives (passes : State → List ℕ → Type 0) (plan : Plan) (old new : History) (given_old given_new : Option (List ℕ)) : Type 0 where
+pub record Outlives (passes : State → List ℕ → Type 0) (plan : Plan) (old new : History)
+    (given_old given_new : Option (List ℕ)) : Type 0 where
   pub images : LeavesAll old new (λ images. MayLeave old old.now images ⊎ ReopensToPassed passes plan images)
   pub exit : (images : ℕ → List ℕ) → MayLeave new new.now images
       → ReopensAsGiven passes plan given_old given_new images ⊎ (MayLeave old old.now images × Appends given_old given_new [])
@@ -118,4 +120,5 @@ abbrev pub HoldsOver : Run → Reopened → List ℕ → History → Type 0
 HoldsOver settings NoStore text disk = Unit {0}
 HoldsOver settings (Damaged file at) text disk = Unit {0}
 HoldsOver settings (Found c later) text disk =
-    LeavesLaid (state_behind c later).batches settings.checkpoint disk c.plan (held_over_all settings.drain (start_over settings c later) text)
+    LeavesLaid (state_behind c later).batches settings.checkpoint disk c.plan
+    (held_over_all settings.drain (start_over settings c later) text)

@@ -1,8 +1,5 @@
-// The loop over the lines of a script whose batches are run while it is read.
-//
-// A trait's method cannot start threads through a type parameter, so this loop stands beside the one of
-// `script_course` for commands that run no batches. What it comes to is said in the same words, and rests on
-// the same laws.
+// The loop over a script's lines, whose batches run meanwhile. It stands beside that of `script_course` and
+// rests on its laws, since a trait's method cannot start threads through a type parameter.
 ghost use Rattle.std.specs.Prelude.{◌≡◌, ◌≤◌, ◌++◌, ℕ, [], length, map, None, Some, IfOk, IfErr, IfSome, IsErr, IsSomeAnd};
 ghost use Rattle.std.specs.List.{All};
 ghost use Rattle.std.specs.Io.KnownBytes.{IsAtEnd};
@@ -34,8 +31,9 @@ pub const LONGEST_LINE: u32 = 4_096;
 /// Reads the source to its end, and takes each line as soon as it is whole. The answer is the script behind
 /// the last line, the one at the end that no line feed completes included.
 ///
-/// What comes first decides: a refused line, a fault, or want of memory ends all, and nothing is printed
-/// behind it but the line of a refusal. Where the source fails, just the lines that were whole are answered.
+/// What comes first decides: a refused line, a fault, or being out of memory ends all, and nothing is
+/// printed behind it but the line of a refusal. Where the source fails, just the lines that were whole are
+/// answered.
 pub(crate) fn read_script<S: Source, K: Sink, D: Disk, P: Pace + Sync, R: Threads + Sync>(
     rt: &R,
     alloc: Global,
@@ -47,7 +45,7 @@ pub(crate) fn read_script<S: Source, K: Sink, D: Disk, P: Pace + Sync, R: Thread
 ) -> Result<Script, Stop>
     requires open { IsOpen (D.history disk.old) start }
 
-    // What was printed is what the text prints; where it was cut off, a front of it. Where the source
+    // What was printed is what the text prints; where it was cut off, a prefix of it. Where the source
     // failed, it is all that the bytes that were taken tell, and no line of them was refused.
     ensures comes { Comes (told on_line no_line start.doing) (told_whole on_line no_line start.doing) (S.left input.old) (S.left input.new) (K.given out.old) (K.given out.new) (doing_result result) }
     ensures end { IfOk result (λ _. IsAtEnd (S.left input.new)) }

@@ -18,7 +18,7 @@ use std::thread::Threads;
 
 /// Runs the script that the source gives, and answers each batch as soon as its end is read. Where the
 /// source tells its bytes, what is printed is the output that they have, and the status is its status; where
-/// it was cut off, a front of it was printed, and where the source failed, all that the bytes so far tell.
+/// it was cut off, a prefix of it was printed, and where the source failed, all that the bytes so far tell.
 /// Neither workers nor replicas have a say in it. The disk is not touched.
 #[tactic(auto, using(crate::proofs::Ran::open_without))]
 pub fn once<S: Source, K: Sink, D: Disk, P: Pace + Sync, R: Threads + Sync>(

@@ -14,9 +14,9 @@ use Rattle.script_course.specs.Served.{Serves, ServesCut, IsStopped, Leads}
 use Rattle.script_course.specs.declared.stops.Stop.{Stop}
 use Rattle.script_course.specs.declared.stops.Stop.TheVariants as stop
 
--- ---- fronts
+-- ---- prefixes
 
--- a front of a list is a front of a longer one
+-- a prefix of a list is a prefix of a longer one
 take_longer : (n : ℕ) (xs ys : List ℕ) → (m : ℕ) × (take m (xs ++ ys) ≡ take n xs)
 take_longer n xs ys =
     (length (take n xs), ap (λ l. take (length (take n xs)) (l ++ ys)) (sym (take-append-drop n xs)) ∙ ap (take (length (take n xs))) (append_assoc (take n xs) (drop n xs) ys) ∙ take-append_seam (take n xs) (drop n xs ++ ys))

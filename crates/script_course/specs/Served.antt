@@ -17,7 +17,7 @@ abbrev pub IsStopped : {R : Type 0} → Course R → Option (List ℕ) → Optio
 IsStopped (Goes bytes s) old new = ⊥
 IsStopped (Stops bytes) old new = Appends old new bytes
 
--- where it was cut off, a front of it was given; no line is cut off by the source
+-- where it was cut off, a prefix of it was given; no line is cut off by the source
 abbrev pub ServesCut : {R : Type 0} → Course R → Option (List ℕ) → Option (List ℕ) → Stop → Type 0
 ServesCut c old new stop.Refused = IsStopped c old new
 ServesCut c old new stop.NoMemory = AppendsFront old new (printed c)
@@ -35,7 +35,7 @@ Leads {R = R} rest now c old = (new : Option (List ℕ)) (result : Result R Stop
 
 -- ---- a whole text
 
--- as a course is served, and where the source failed too a front of it was given
+-- as a course is served, and where the source failed too a prefix of it was given
 abbrev pub ReachesCut : {R : Type 0} → Course R → Option (List ℕ) → Option (List ℕ) → Stop → Type 0
 ReachesCut c old new stop.Refused = IsStopped c old new
 ReachesCut c old new stop.NoMemory = AppendsFront old new (printed c)
@@ -83,7 +83,7 @@ Carries {R = R} rest_told rest_whole here now told whole left old = (rest new : 
 
 -- ---- a whole command
 
--- all of an output was given, and this is its status; where it was cut off, a front of it was given
+-- all of an output was given, and this is its status; where it was cut off, a prefix of it was given
 abbrev pub FinishesCut : Out → Option (List ℕ) → Option (List ℕ) → Stop → Type 0
 FinishesCut out old new stop.Refused = (out.status ≡ status_of stop.Refused) × Appends old new out.bytes
 FinishesCut out old new stop.NoMemory = AppendsFront old new out.bytes

@@ -28,9 +28,9 @@ pub trait Reads<D>: Drop {
     /// The disk's count of faults.
     ghost disk_faults: { D → ℕ };
 
-    /// Takes the next line, without its line feed, and prints what it asks for: all of it, or where it
-    /// stops for another cause than a refusal a front of it. What is left behind a stop at the next state is
-    /// left behind a stop at this one too. Only sink and disk are at fault, and only where its count rose.
+    /// Takes the next line, without its line feed, and prints what it asks for: all of it, or where it stops
+    /// for another cause than a refusal a prefix of it. What is left behind a stop at the next state is left
+    /// behind a stop at this one too. Only sink and disk are at fault, and only where its count rose.
     fn line<K: Sink>(
         self,
         alloc: Global,
@@ -47,6 +47,6 @@ pub trait Reads<D>: Drop {
         ensures disk { disk_faults disk.old ≤ disk_faults disk.new }
         ensures cause { IfErr result (λ stop. IsCause stop (Rose (K.faults out.old) (K.faults out.new)) (Rose (disk_faults disk.old) (disk_faults disk.new))) };
 
-    /// A stop between two lines leaves what holds there, also behind the line of a refusal or a front of it.
+    /// A stop between two lines leaves what holds there, also behind the line of a refusal or a prefix of it.
     ghost leaves: { (r : Self) (stop : Stop) (refusal : Refusal) (old new : Option (List ℕ)) (disk : D) → held r old disk → AppendsFront old new (refusal_text refusal) → left r stop new disk };
 }

@@ -21,8 +21,9 @@ pub const PIECE: usize = 65_536;
 /// what the command does, as soon as the line is whole. The answer is the state behind the last line, the
 /// one at the end that no line feed completes included.
 ///
-/// What comes first decides: a refused line, a fault, or want of memory ends all, and nothing is printed
-/// behind it but the line of a refusal. Where the source fails, just the lines that were whole are answered.
+/// What comes first decides: a refused line, a fault, or being out of memory ends all, and nothing is
+/// printed behind it but the line of a refusal. Where the source fails, just the lines that were whole are
+/// answered.
 pub fn read_through<S: Source, K: Sink, D, C: Reads<D>>(
     alloc: Global,
     limit: u64,
@@ -34,7 +35,7 @@ pub fn read_through<S: Source, K: Sink, D, C: Reads<D>>(
 ) -> Result<C, Stop>
     requires { C.held start (K.given out.old) disk.old }
 
-    // What was printed is what the text prints; where it was cut off, a front of it. Where the source
+    // What was printed is what the text prints; where it was cut off, a prefix of it. Where the source
     // failed, it is all that the bytes that were taken tell, and no line of them was refused.
     ensures comes { Comes (told C.on_line (blank limit longest) start) (told_whole C.on_line (blank limit longest) start)
         (S.left input.old) (S.left input.new) (K.given out.old) (K.given out.new) result }

@@ -51,7 +51,7 @@ pub enum CatFault {
     Long,
     /// It is no JSON.
     NotJson,
-    /// This place is the first that has not the form of a catalogue.
+    /// This place is the first that does not have the form of a catalogue.
     Shape(Path),
     /// This procedure is the first that is not well typed.
     Wrong(Wrong),

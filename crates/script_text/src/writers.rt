@@ -157,8 +157,8 @@ fn append_joined<T: Token>(out: &mut Vec<u8>, byte: u8, items: &[T]) -> Result<(
     append_behind(out, byte, rest)
 }
 
-/// Appends the tokens of these items, each behind a space. After want of memory a part of them may stand
-/// in `out`, here and in each call below.
+/// Appends the tokens of these items, each behind a space. Where there was no memory, a part of them may
+/// stand in `out`, here and in each call below.
 pub fn append_tokens<T: Token>(out: &mut Vec<u8>, items: &[T]) -> Result<(), Memory>
     ensures text { OnOk result (out.new.items ≡ out.old.items ++ spaced T.text items.now) }
     ensures all { OnOk result (All T.IsOne items.now) }

@@ -45,8 +45,8 @@ pub fn append_call(out: &mut Vec<u8>, procs: &[Checked], call: &Call) -> Result<
     append_tokens(out, call.args.as_slice())
 }
 
-/// Appends the name of the procedure with this number; of no procedure it is nothing. After want of
-/// memory a part of it may stand in `out`.
+/// Appends the name of the procedure with this number; of no procedure it is nothing. Where there was no
+/// memory, a part of it may stand in `out`.
 pub fn append_proc_name(out: &mut Vec<u8>, procs: &[Checked], number: u16) -> Result<(), Memory>
     ensures { OnOk result (out.new.items ≡ out.old.items ++ proc_name procs.now number) }
 {

@@ -5,7 +5,7 @@ use Rattle.serial_check.specs.declared.findings.Flaw.{Flaw}
 use Rattle.serial_check.specs.declared.halts.Halt.{Halt}
 use Rattle.serial_check.specs.declared.halts.Halt.TheVariants as halt
 
--- what goes on, or the flaw, is the meaning's; want of memory says nothing
+-- what goes on, or the flaw, is the meaning's; out of memory says nothing
 abbrev pub Decides : {A : Type 0} → Result A Halt → Result A Flaw → Type 0
 Decides (Ok x) meant = meant ≡ Ok x
 Decides (Err halt.Memory) meant = Unit {0}

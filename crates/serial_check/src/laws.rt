@@ -1,5 +1,5 @@
-//! What a report that holds tells. The law is the contract of a function that does nothing: a caller has it after the call.
-
+// What a report that holds tells. The law is the contract of a function that does nothing: a caller has it
+// after the call.
 ghost use Rattle.std.specs.Prelude.{◌≡◌, ℕ, List, false};
 ghost use Rattle.aria_base.specs.Orders.{Database};
 ghost use Rattle.aria_base.specs.declared.calls.Call.{Call};

@@ -8,7 +8,7 @@ use Rattle.serving.specs.declared.lives.Live.{Live}
 use Rattle.serving.specs.declared.batches.Given.{Given}
 use Rattle.serving.specs.declared.batches.Given.TheVariants as given
 
--- where it is told, all of the text was given and the database goes on; else a front of the text was given, and it is gone
+-- where it is told, all of the text was given and the database goes on; else a prefix of the text was given, and it is gone
 abbrev pub Tells : List ℕ → (Live → Type 0) → Option (List ℕ) → Option (List ℕ) → Option Live × Given → Type 0
 Tells text goes_on old new (Some live, given.Told) = Appends old new text × goes_on live
 Tells text goes_on old new (None, given.NoMemory) = AppendsFront old new text

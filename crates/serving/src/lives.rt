@@ -70,7 +70,7 @@ impl Live {
     }
 
     /// Runs the next batch, of what waits and these calls, on all replicas. The text is the answer and,
-    /// where each answer has one, the listing. After want of memory the database is gone.
+    /// where each answer has one, the listing. Where there was no memory, the database is gone.
     pub fn next<P: Pace + Sync, R: Threads + Sync>(
         self,
         rt: &R,

@@ -52,7 +52,7 @@ finishes_behind bytes out old mid new (Err stop.NoWrite) first h = front_behind 
 finishes_behind bytes out old mid new (Err stop.NoDisk) first h = front_behind old mid new bytes out.bytes first h
 finishes_behind bytes out old mid new (Err stop.NoRead) first h = front_behind old mid new bytes out.bytes first h
 
--- an output of which a front was given, whatever stopped it
+-- an output of which a prefix was given, whatever stopped it
 pub finishes_cut : (out : Out) (old new : Option (List ℕ)) (why : Stop) → IsCut why → AppendsFront old new out.bytes → Finishes out old new (Err why)
 finishes_cut out old new stop.Refused cut h = absurd cut
 finishes_cut out old new stop.NoRead cut h = absurd cut

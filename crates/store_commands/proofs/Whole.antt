@@ -86,7 +86,7 @@ module _ (settings : Init) (was : History) (first : Draft) (is_start : first ≡
   is_made is mid last h holds =
       made_by is (values_by last (closing last.place)) (said_of left last mid (from_start mid (Ok last) h).0) holds
 
--- nothing was read, for want of memory
+-- nothing was read: there was no memory
 pub inits_none : (settings : Init) (was : History) (left old : Option (List ℕ)) → Inits settings was was left left old old (Err stop.NoMemory)
 inits_none settings was left old =
     let l = looked was in

@@ -38,7 +38,8 @@ abbrev pub replayed : Plan → Bool → (ℕ → Out) → ℕ → State → List
 replayed plan each crowd place state [] = listed plan each state
 replayed plan each crowd place state (batch ∷ later) =
     if is_crowded state batch then crowd place
-    else out_behind (batch_text plan each state (handed_in batch)) (replayed plan each crowd (place + 1) (step (run_of plan) state (handed_in batch)) later)
+    else out_behind (batch_text plan each state (handed_in batch))
+    (replayed plan each crowd (place + 1) (step (run_of plan) state (handed_in batch)) later)
 
 -- ---- the command
 

@@ -39,9 +39,9 @@ pub fn init<S: Source, K: Sink, D: Disk>(
 ) -> Result<u8, Stop>
     requires { settings.now.fallback ≤ 101 }
 
-    // What is printed is the output of the text, by whether a gate was open; where it was cut off, a front
-    // of it was printed, and where the source failed, nothing. Where that output says that no store is
-    // made, every image meanwhile is one from before, whatever the answer is.
+    // What is printed is the output of the text, by whether a gate was open; where it was cut off, a prefix
+    // of it was printed, and where the source failed, nothing. Where that output says that no store is made,
+    // every image meanwhile is one from before, whatever the answer is.
     ensures inits { Inits settings.now (D.history disk.old) (D.history disk.new) (S.left input.old) (S.left input.new) (K.given out.old) (K.given out.new) result }
 
     // What the disk holds.

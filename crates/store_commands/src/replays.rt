@@ -48,7 +48,7 @@ pub fn replay<K: Sink, D: Disk, P: Pace + Sync, R: Threads + Sync>(
     requires workers { (1 ≤ settings.now.workers) × (settings.now.workers ≤ 64) }
     requires replicas { (1 ≤ settings.now.replicas) × (settings.now.replicas ≤ 8) }
 
-    // What is printed is the output of what the files read as; where it was cut off, a front of it. Neither
+    // What is printed is the output of what the files read as; where it was cut off, a prefix of it. Neither
     // workers nor replicas have a say in it.
     ensures output { (images : ℕ → List ℕ) (found : Reopened) → ReadsAs (D.history disk.old) images → Reopens images found → Finishes (out_of settings.now images found) (K.given out.old) (K.given out.new) result }
 

@@ -1,5 +1,6 @@
 -- What attaching finds of the slots.
-use Rattle.std.specs.Prelude.{◌≡◌, ◌⊎◌, ℕ, ◌-◌, ◌<◌, nat_lt, Bool, true, false, List, Option, None, Some, IfSome, option_map, if◌then◌else◌}
+use Rattle.std.specs.Prelude.{◌≡◌, ◌⊎◌, ℕ, ◌-◌, ◌<◌, nat_lt, Bool, true, false, if◌then◌else◌}
+use Rattle.std.specs.Prelude.{List, Option, None, Some, IfSome, option_map}
 use Rattle.aria_base.specs.Faults.{Rose}
 use Rattle.disk_model.specs.Files.{File}
 use Rattle.disk_model.specs.Histories.{History, current, EachImage, MayLeave}

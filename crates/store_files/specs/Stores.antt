@@ -44,7 +44,7 @@ pub record Rests (disk : History) (store : Stored) : Type 0 where
   pub holds : Holds disk (slot_in store) store.head body log
   pub ends : EachImage (current disk (2 + slot_in store)) (λ image. EndsAt image store.at store.batches)
 
--- A call that writes: want of memory before the first device call, a fault of the disk, or one in an earlier call.
+-- A call that writes: out of memory before the first device call, a fault of the disk, or one in an earlier call.
 abbrev pub StoreCause : {D : Type 0} → (D → History) → D → D → Stored → Stored → StoreRefused → Type 0
 StoreCause history old new was is Memory = (new ≡ old) × (is ≡ was) × (was.closed ≡ None)
 StoreCause history old new was is DiskFault = Rose (history old).faults (history new).faults

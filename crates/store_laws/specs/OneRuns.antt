@@ -126,7 +126,8 @@ abbrev pub StoppedRunsAreOneRun : Type 0
 StoppedRunsAreOneRun =
     (made : Init) (settings : Run) (whole : Once) → AreAlike made settings whole
     → (head script : List ℕ) (values : Plan × Database) → AreRight whole head script values
-    → (between : List State) (second : State) → AreStopped (is_each settings.listing) values.0 script (new_state made values) between second
+    → (between : List State) (second : State)
+    → AreStopped (is_each settings.listing) values.0 script (new_state made values) between second
     → EndsAsOneRun settings whole head script values second
 
 -- ---- by the files again

@@ -71,7 +71,8 @@ IsLook old new log place refusal.NoMemory = ⊤
 -- the record of the first batch that has no room
 abbrev pub IsCrowdAt : History → Checkpoint → List Batch → ℕ → ℕ → Type 0
 IsCrowdAt disk c later file at =
-    (place : ℕ) × (crowded c later ≡ Some place) × (file ≡ log_in c) × IfSome (current disk (log_in c)) (λ f. at ≡ offset_in (log_of f.seen) place)
+    (place : ℕ) × (crowded c later ≡ Some place) × (file ≡ log_in c)
+    × IfSome (current disk (log_in c)) (λ f. at ≡ offset_in (log_of f.seen) place)
 
 abbrev pub IsNotRun : History → History → Checkpoint → List Batch → NotOpened → Type 0
 IsNotRun old new c later refusal.NoStore = ⊥

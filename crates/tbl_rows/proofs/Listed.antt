@@ -41,7 +41,7 @@ find_none : (k : Key) (es : Entries) → AllByRecursion (λ y. eq_by_cmp key_cmp
 find_none k [] apart = refl
 find_none k (e ∷ es) apart = ap (λ b. cond b (Some e.1) (fin.find key_cmp k es)) apart.0 ∙ find_none k es apart.1
 
--- the first has a key that the others have not
+-- the first has a key that the others do not have
 pub find-head : (e : Key × Cells) (es : Entries) → AllApart (e ∷ es) → fin.find key_cmp e.0 es ≡ None
 find-head e es apart = find_none e.0 es (IsDistinct-head _ e.0 (keys_of es) apart)
 

@@ -67,7 +67,7 @@ impl Bucket {
         }
     }
 
-    /// Sets the row at the key of this hash, and tells whether there was none. `Refused` means want of
+    /// Sets the row at the key of this hash, and tells whether there was none. `Refused` means out of
     /// memory.
     pub(crate) fn put(&mut self, hash: u64, key: Key, row: Row) -> Result<bool, Refused>
         requires { hash ≡ hash_of key }

@@ -46,7 +46,7 @@ impl Overflow {
         self.rows.get(key)
     }
 
-    /// Sets the row at a key. `Refused` means want of memory.
+    /// Sets the row at a key. `Refused` means out of memory.
     pub(crate) fn put(&mut self, key: Key, row: Row) -> Result<(), Refused>
         ensures put { OnOk result (self.new ≡ fin.insert self.old key row) }
         ensures refused { IfErr result (λ refused. (refused.key ≡ key) × (refused.row ≡ row)) }

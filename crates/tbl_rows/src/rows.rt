@@ -58,7 +58,7 @@ impl Rows {
         }
     }
 
-    /// Sets the row at the key of this hash. `Refused` means want of memory.
+    /// Sets the row at the key of this hash. `Refused` means out of memory.
     pub(crate) fn put(&mut self, hash: u64, key: Key, row: Row) -> Result<(), Refused>
         requires { hash ≡ hash_of key }
         ensures put { OnOk result (self.new ≡ fin.insert self.old key row) }

@@ -61,7 +61,7 @@ impl Shard {
         self.rows.get(hash, key)
     }
 
-    /// Sets the row at a key. `Refused` means want of memory.
+    /// Sets the row at a key. `Refused` means out of memory.
     pub fn put(&mut self, key: Key, row: Row) -> Result<(), Refused>
         requires { home key ≡ self.old.number }
         ensures put { OnOk result (self.new ≡ with_row self.old key row) }

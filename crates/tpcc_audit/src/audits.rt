@@ -1,4 +1,4 @@
-//! The audit of tables.
+// The audit of tables.
 ghost use Rattle.std.specs.Prelude.{◌≡◌, List, IfOk};
 ghost use Rattle.tpcc_audit.specs.declared.facts.Fact.{Fact as Told};
 ghost use Rattle.tpcc_audit.specs.Books.{Keeps};

@@ -1,4 +1,4 @@
-//! What the rows of a database come to, gathered in one pass over them.
+// What the rows of a database come to, gathered in one pass over them.
 ghost use Rattle.std.specs.Prelude.{◌≡◌, ℕ, ◌+◌, ◌*◌, ◌^◌, ℤ, [], map, if◌then◌else◌, IfOk, OnOk};
 ghost use Rattle.std.specs.Ordering.{int_eq};
 ghost use Rattle.std.specs.Map.Iter.{deref_pair};

@@ -1,4 +1,4 @@
-//! The conditions of an audit, one by one.
+// The conditions of an audit, one by one.
 ghost use Rattle.std.specs.Prelude.{◌≡◌, pos, ◌-ℤ◌, map};
 ghost use Rattle.tpcc_audit.specs.Books.{or_nothing, paid_in, tally_in};
 ghost use Rattle.tpcc_audit.specs.Conditions as conditions;

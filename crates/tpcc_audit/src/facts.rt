@@ -1,4 +1,4 @@
-//! What a row tells an audit.
+// What a row tells an audit.
 ghost use Rattle.std.specs.Prelude.{◌≡◌};
 ghost use Rattle.tpcc_audit.specs.Facts as facts;
 

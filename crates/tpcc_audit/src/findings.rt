@@ -1,4 +1,4 @@
-//! What an audit finds.
+// What an audit finds.
 ghost use Rattle.std.specs.Prelude.{◌≡◌};
 ghost use Rattle.tpcc_audit.specs.Conditions.{either};
 

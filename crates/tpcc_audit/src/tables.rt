@@ -1,4 +1,4 @@
-//! The numbers of the tables that an audit looks at.
+// The numbers of the tables that an audit looks at.
 
 pub(crate) const WAREHOUSES: u16 = 0;
 

@@ -1,4 +1,4 @@
-//! What the rows of a district come to.
+// What the rows of a district come to.
 ghost use Rattle.std.specs.Prelude.{◌≡◌, ℕ, ◌+◌, OnOk};
 ghost use Rattle.tpcc_audit.specs.declared.facts.District.{District as Place};
 ghost use Rattle.tpcc_audit.specs.Books as books;

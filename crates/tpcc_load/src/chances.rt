@@ -1,4 +1,4 @@
-//! Numbers that are not drawn evenly. None takes memory.
+// Numbers that are not drawn evenly. None takes memory.
 ghost use Rattle.std.specs.Prelude.{◌≡◌, ◌≤◌, ◌<◌, ◌+◌, ◌^◌};
 ghost use Rattle.tpcc_load.specs.Draws as drawn;
 

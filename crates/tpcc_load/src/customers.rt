@@ -1,4 +1,4 @@
-//! The customers of a district.
+// The customers of a district.
 ghost use Rattle.std.specs.Prelude.{◌≡◌, ◌≤◌, ◌<◌, [], ◌∷◌, length, map, IfOk, OnOk};
 ghost use Rattle.tpcc_load.specs.Draws.{over};
 ghost use Rattle.tpcc_load.specs.Rows.{laid};
@@ -102,7 +102,7 @@ fn lay(alloc: Global, tables: &mut Tables, at: District, person: &Person) -> Res
     Ok(())
 }
 
-/// The text without bytes. No refusal can come but want of memory.
+/// The text without bytes. The only refusal that can come is out of memory.
 fn no_text(alloc: Global) -> Result<Txt, Memory>
     ensures { IfOk result (λ text. text ≡ []) }
 {

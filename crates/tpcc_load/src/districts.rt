@@ -1,4 +1,4 @@
-//! Warehouses and their districts.
+// Warehouses and their districts.
 ghost use Rattle.std.specs.Prelude.{◌≡◌, ◌≤◌, ◌<◌, OnOk};
 ghost use Rattle.tpcc_load.specs.Draws.{over};
 ghost use Rattle.tpcc_load.specs.Rows.{laid_drawn};

@@ -1,4 +1,4 @@
-//! The database that order entry begins with.
+// The database that order entry begins with.
 ghost use Rattle.std.specs.Prelude.{◌≡◌, IfOk};
 ghost use Rattle.std.specs.FinMap as fin;
 ghost use Rattle.aria_base.specs.Draws.{standing};

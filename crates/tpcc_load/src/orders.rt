@@ -1,4 +1,4 @@
-//! The orders that a district begins with: one of each customer, and the last ones open.
+// The orders that a district begins with: one of each customer, and the last ones open.
 ghost use Rattle.std.specs.Prelude.{◌≡◌, ◌≤◌, ◌<◌, ◌^◌, length, nat_le, All, OnOk};
 ghost use Rattle.tpcc_load.specs.Draws.{over};
 ghost use Rattle.tpcc_load.specs.Rows.{laid, laid_drawn};

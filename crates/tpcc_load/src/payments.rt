@@ -1,4 +1,4 @@
-//! Payments.
+// Payments.
 ghost use Rattle.std.specs.Prelude.{◌≡◌, ◌≤◌, ◌<◌, [], ◌∷◌, ◌++◌, map, pos, IfOk};
 ghost use Rattle.aria_base.specs.declared.calls.Arg.TheVariants as arg;
 ghost use Rattle.aria_base.specs.declared.limits.TheConstants.{GREATEST_NUMBER};

@@ -1,4 +1,4 @@
-//! Batches of requests, and new orders.
+// Batches of requests, and new orders.
 ghost use Rattle.std.specs.Prelude.{◌&&◌, ◌==◌, ◌≡◌, ◌≤◌, ◌<◌, [], ◌∷◌, pos, IfOk, OnOk, All, true};
 ghost use Rattle.aria_base.specs.declared.limits.TheConstants.{GREATEST_NUMBER};
 ghost use Rattle.proc_lang.specs.Catalogs.{takes};
@@ -15,9 +15,8 @@ use aria_base::{Arg, Args, Call, Draws, Memory, Tuple, Tuples};
 use load_gen::random;
 use std::alloc::Global;
 
-/// The calls of the batch of this number, so many, which come next in the words. Behind them `draws`
-/// stands at the word that they did not use; after want of memory it stands some words further than
-/// before.
+/// The calls of the batch of this number, so many, which come next in the words. Behind them `draws` stands
+/// at the word that they did not use; where there was no memory, it stands some words further than before.
 pub fn batch(
     alloc: Global,
     settings: &Tpcc,

@@ -1,4 +1,4 @@
-//! How a row is laid into the tables.
+// How a row is laid into the tables.
 ghost use Rattle.std.specs.Prelude.{◌≡◌, ◌≤◌, length, map, [], ◌∷◌, pos, IfOk, OnOk};
 ghost use Rattle.aria_base.specs.declared.limits.TheConstants.{MOST_PARTS, MOST_COLUMNS};
 ghost use Rattle.aria_base.specs.declared.keys.Part.TheVariants as part;

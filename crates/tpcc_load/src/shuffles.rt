@@ -1,4 +1,4 @@
-//! The customers of a district in a drawn order.
+// The customers of a district in a drawn order.
 ghost use Rattle.std.specs.Prelude.{◌≡◌, ◌≤◌, ◌<◌, ◌-◌, ◌^◌, length, IfOk};
 ghost use Rattle.std.specs.List.{range_with_len};
 ghost use Rattle.tpcc_load.specs.Heads.{exchange};
@@ -8,7 +8,7 @@ use aria_base::{Draws, Memory};
 use load_gen::random;
 use std::alloc::Global;
 
-/// The numbers from 1 to this one, exchanged in a drawn way. After want of memory nothing was drawn.
+/// The numbers from 1 to this one, exchanged in a drawn way. Where there was no memory, nothing was drawn.
 pub(crate) fn shuffled(alloc: Global, draws: &mut Draws, count: u32) -> Result<Vec<u32>, Memory>
     requires { count < 2 ^ 31 }
     ensures drawn { IfOk result (λ places. (places.items, draws.new) ≡ heads.shuffled count (range_with_len 1 count) draws.old) }

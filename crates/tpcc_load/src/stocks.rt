@@ -1,4 +1,4 @@
-//! Items, and what a warehouse has of them.
+// Items, and what a warehouse has of them.
 ghost use Rattle.std.specs.Prelude.{◌≡◌, ◌≤◌, ◌<◌, ◌^◌, OnOk};
 ghost use Rattle.tpcc_load.specs.Draws.{over};
 ghost use Rattle.tpcc_load.specs.Rows.{laid_drawn};

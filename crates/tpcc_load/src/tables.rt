@@ -1,4 +1,4 @@
-//! The numbers of the tables.
+// The numbers of the tables.
 
 pub(crate) const WAREHOUSES: u16 = 0;
 

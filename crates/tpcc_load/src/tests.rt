@@ -1,5 +1,5 @@
-//! The smallest head, and requests of one and of four warehouses. What is wanted was worked out beside
-//! the code, by a program of its own that follows the benchmark's text.
+// The smallest head, and requests of one and of four warehouses. What is wanted was worked out beside the
+// code, by a program of its own that follows the benchmark's text.
 ghost use Rattle.std.specs.Prelude.{◌≤◌, length};
 
 use crate::{Tpcc, batch, head};

@@ -1,3 +1,4 @@
+// Numbers that any number of threads draw, each number once.
 ghost use Rattle.std.specs.Prelude.{◌≡◌, ℕ, ◌+◌, ◌-◌, ◌<◌, ◌≤◌, [], ◌++◌, All, IfOk, IfSome, IfNone, OnOk, OnErr};
 ghost use Rattle.aria_base.specs.Shares.{all_shares};
 ghost use Rattle.work_claim.specs.Seats.{Drew, IsEachOnce};

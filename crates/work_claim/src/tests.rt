@@ -1,3 +1,4 @@
+// Draws by one thread and by several: each number is drawn once.
 ghost use Rattle.std.specs.Prelude.{◌≡◌, ◌<◌, All, IfOk};
 ghost use Rattle.std.specs.Thread.{IsSync};
 

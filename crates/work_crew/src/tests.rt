@@ -1,5 +1,5 @@
-// What no clause shows: that a work is done, and that want of memory is told. `worked_phases` has two
-// workers at work at once, and counts the steps that they tell of.
+// What no clause shows: that a work is done, and that out of memory is told. `worked_phases` has two workers
+// at work at once, and counts the steps that they tell of.
 ghost use Rattle.std.specs.Prelude.{◌≡◌, ◌/◌, ◌<◌, ◌≤◌};
 
 use crate::{Task, Work, carry_out, gather};

@@ -19,7 +19,7 @@ pub struct Case<'a> {
     pub failing_give: u64,
 }
 
-/// The status of a run, and what it wrote. Want of memory is no answer.
+/// The status of a run, and what it wrote. Out of memory is no answer.
 fn run<R: AllocGlobal>(rt: &R, case: &Case<'_>) -> Result<(u8, Vec<u8>), Memory> {
     let alloc = rt.alloc();
     let mut text = Vec::from_slice(alloc, case.before.as_bytes())?;

@@ -1,5 +1,4 @@
 // Audits of databases of a few rows. What is wanted was worked out by hand.
-
 use aria_base::{Key, Memory, Part, Parts, Row, Value};
 use std::alloc::Global;
 use std::fmt::Debug;

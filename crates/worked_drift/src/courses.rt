@@ -45,7 +45,7 @@ pub struct Course {
     pub drain: bool,
     pub head: String,
     pub front: Stretch,
-    /// How many batches the front has, and the rows behind them.
+    /// How many batches the first part has, and the rows behind them.
     pub batches: u64,
     pub cut: String,
     pub back: Stretch,

@@ -61,7 +61,7 @@ fn joined(rt: &impl Abort, alloc: Global, parts: &[&str]) -> String {
     text
 }
 
-/// The words of a command line.
+/// The arguments of a command line.
 fn words_of(rt: &impl Abort, alloc: Global, line: &str) -> Vec<String> {
     let mut words = Vec::new(alloc);
     for word in line.split(' ') {
@@ -152,7 +152,7 @@ fn make_store<R: AllocGlobal + Threads + Abort + Sync>(
     disk
 }
 
-/// Asserts that `run` of the front prints what it has to print.
+/// Asserts that `run` of the first part prints what it has to print.
 fn runs_front<R: AllocGlobal + Threads + Abort + Sync>(
     rt: &R,
     draws: &mut Draws,

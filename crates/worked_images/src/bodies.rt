@@ -1,4 +1,4 @@
-// Bodies worked out by hand, each with a catalogue at its front.
+// Bodies worked out by hand, each of which begins with a catalogue.
 use crate::words::{FRONT, same};
 use aria_base::Value;
 use image_text::{body_of, read_body};

@@ -121,7 +121,7 @@ fn ten_thousand_are_carried_at_most(rt: HostRuntime) -> Result<(), Fail> {
     Ok(())
 }
 
-/// What is answered where this device call fails: the length, the gate, the front, the body.
+/// What is answered where this device call fails: the length, the gate, the head, the body.
 fn answer(alloc: Global, call: u64) -> Result<bool, LogRefused> {
     let mut disk = failing(alloc, call)?;
     Ok(load(alloc, &mut disk, 1)?.is_some())

@@ -5,7 +5,7 @@ use std::fmt::Debug;
 use std::process::Abort;
 use std::test::Fail;
 
-/// The front of a body: a procedure of a number and a text; a table `seat` with texts for keys, and one,
+/// What a body begins with: a procedure of a number and a text; a table `seat` with texts for keys, and one,
 /// `b`, without columns.
 pub const FRONT: &str =
     "catalog text\n:{\"procs\":[{\"args\":[\"int\",\"text\"],\"body\":[],\"name\":\"add\",\"regs\":[]}],\"tables\":[{\"cols\":[\"int\",\"text\"],\"key\":[\"text\"],\"name\":\"seat\"},{\"cols\":[],\"key\":[\"int\",\"text\"],\"name\":\"b\"}]}\n";

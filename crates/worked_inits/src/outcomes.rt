@@ -46,7 +46,7 @@ pub fn smooth(text: &str) -> Case<'_> {
     }
 }
 
-/// The status and what was printed. Want of memory is no answer.
+/// The status and what was printed. Out of memory is no answer.
 pub fn outcome(
     alloc: Global,
     settings: &Init,
@@ -66,7 +66,7 @@ pub fn outcome(
     Ok((status, Vec::from_slice(alloc, out.bytes())?))
 }
 
-/// The command with settings that are no word of a line: a fallback above 101 is as 101.
+/// The command with settings that no arguments give: a fallback above 101 is as 101.
 fn run(
     alloc: Global,
     settings: &Init,

@@ -2,7 +2,7 @@
 use crate::outcomes::{Case, RING, RING_ANSWER, Row, all_end, ends, once_ends, repeated};
 use std::test::Fail;
 
-/// Scripts on the bank and on catalogues of their own: words, script, status and output.
+/// Scripts on the bank and on catalogues of their own: arguments, script, status and output.
 const ANSWERED: [Row; 23] = [
     ("once", "", 0, "state 0\nend state\n"),
     (
@@ -208,7 +208,7 @@ fn a_customers_text_is_cut(rt: HostRuntime) -> Result<(), Fail> {
     once_ends(&rt, &script, 0, &output)
 }
 
-/// Words that ask for more than one worker or replica.
+/// Arguments that ask for more than one worker or replica.
 const CREWS: [&str; 7] = [
     "once --workers 1",
     "once --workers 2",

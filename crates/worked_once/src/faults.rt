@@ -19,8 +19,8 @@ const ADDS_BOTH: &str =
 const ADDS_WHOLE: &str =
     "batch 1\n1 ok 15\n2 wait waw 1\norder 1\nend 1\nbatch 2\n2 ok 22\norder 2\nend 2\nstate 2\nrow acct 1 = 22\nrow acct 2 = 20\nrow acct 3 = 30\nend state\n";
 
-/// Words and a script, and how the run ends where the source fails at any one of its calls from the first
-/// number to the second. It gives seven bytes a call.
+/// Arguments and a script, and how the run ends where the source fails at any one of its calls from the
+/// first number to the second. It gives seven bytes a call.
 ///
 /// The ring has 103 bytes, which the fifteenth piece ends. The two requests have 95 bytes: the thirteenth
 /// piece ends their first batch, at 89, and the fourteenth the second one. A report with its script has 232
@@ -40,8 +40,8 @@ const TAKES: [(&str, &str, u64, u64, u8, &str); 11] = [
     ("check", RING_TURNED, 36, 36, FAILS, TURNED_FOUND),
 ];
 
-/// Words and a script, and how the run ends where the sink fails at the call of this number. An answer is
-/// one call, and so are the listing and a finding. The last call of each run here is never made.
+/// Arguments and a script, and how the run ends where the sink fails at the call of this number. An answer
+/// is one call, and so are the listing and a finding. The last call of each run here is never made.
 const GIVES: [(&str, &str, u64, u8, &str); 11] = [
     ("once", RING, 1, WRITE_FAULT, ""),
     ("once", RING, 2, WRITE_FAULT, ANSWER),

@@ -7,8 +7,8 @@ use std::process::Abort;
 use std::test::Fail;
 use std::thread::Threads;
 
-/// Small workloads of both kinds, each of three batches, and the words that run them. Each run answers the
-/// third batch, drains what waits and lists the rows last.
+/// Small workloads of both kinds, each of three batches, and the arguments that run them. Each run answers
+/// the third batch, drains what waits and lists the rows last.
 const WORKLOADS: [(&str, &str); 4] = [
     ("gen --batches 3 --size 20 --keys 100", "once --drain"),
     (
@@ -22,7 +22,7 @@ const WORKLOADS: [(&str, &str); 4] = [
     ),
 ];
 
-/// The words and the script of a run in which the source and the sink do not fail.
+/// The arguments and the script of a run in which the source and the sink do not fail.
 fn case_of<'a>(words: &'a str, script: &'a str) -> Case<'a> {
     Case {
         words,
@@ -33,7 +33,7 @@ fn case_of<'a>(words: &'a str, script: &'a str) -> Case<'a> {
     }
 }
 
-/// What the words write on this script. They have to end as done.
+/// What the arguments write on this script. They have to end as done.
 fn written<R: AllocGlobal + Threads + Abort + Sync>(
     rt: &R,
     words: &'static str,

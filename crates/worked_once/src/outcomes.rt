@@ -30,10 +30,10 @@ pub const RING_TURNED: &str =
 /// What `check` prints of that order: behind the first copy, the second one gives 10 as well.
 pub const TURNED_FOUND: &str = "check fails 3\nwanted 2 ok 10\nfound 2 ok 20\n";
 
-/// Words, a script, and the status and the output that they have.
+/// Arguments, a script, and the status and the output that they have.
 pub type Row = (&'static str, &'static str, u8, &'static str);
 
-/// A run: its words, its script, how many bytes the source gives at a time, and which call of the source
+/// A run: its arguments, its script, how many bytes the source gives at a time, and which call of the source
 /// and of the sink fails, 0 for none.
 #[derive(Clone, Copy, Debug)]
 pub struct Case<'a> {
@@ -44,7 +44,7 @@ pub struct Case<'a> {
     pub failing_give: u64,
 }
 
-/// The status of a run, and what it wrote. Want of memory is no answer.
+/// The status of a run, and what it wrote. Out of memory is no answer.
 pub fn run<P: Pace + Sync, R: AllocGlobal + Threads + Sync>(
     rt: &R,
     case: &Case<'_>,

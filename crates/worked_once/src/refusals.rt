@@ -1,4 +1,4 @@
-// Scripts and words that are refused.
+// Scripts and arguments that are refused.
 use crate::outcomes::{Row, all_end};
 use std::test::Fail;
 
@@ -97,7 +97,7 @@ const REFUSED: [Row; 16] = [
     ),
 ];
 
-/// Words that are no command. The script is not read.
+/// Arguments that are no command. The script is not read.
 const NO_COMMANDS: [Row; 4] = [
     ("once --workers 65", "end", 2, "refused usage\n"),
     ("once --fallback 102", "end", 2, "refused usage\n"),

@@ -133,7 +133,7 @@ fn damaged_logs(rt: HostRuntime) -> Result<(), Fail> {
     ends(&rt, &USUAL, &mut disk, 6, "refused store 3 0\n")
 }
 
-/// Two requests wait behind the first batch, so that 9,998 more have room in the second and 9,999 have not.
+/// Two requests wait behind the first batch, so that 9,998 more have room in the second and 9,999 do not.
 /// The first record has 40 bytes.
 #[test]
 fn crowded_batches(rt: HostRuntime) -> Result<(), Fail> {

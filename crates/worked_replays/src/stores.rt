@@ -93,7 +93,7 @@ pub fn disk_of(
     )
 }
 
-/// The status of the command on this disk. Want of memory is no answer.
+/// The status of the command on this disk. Out of memory is no answer.
 fn status_of<R: AllocGlobal + Threads + Sync>(
     rt: &R,
     settings: &Replay,

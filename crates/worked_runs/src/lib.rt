@@ -15,8 +15,8 @@
 //! of it. `calls` has the names of a catalogue, and calls that it does not take. `workers` runs
 //! requests by several workers.
 //!
-//! `typings`, `handmade` and `copies` are the tests of `proc_verify`, `proc_lang` and `proc_exec` that
-//! need no run. They stand here because a crate with tests is proved twice, and those are dear.
+//! `typings`, `handmade` and `copies` are the tests of `proc_verify`, `proc_lang` and `proc_exec` that need
+//! no run. They stand here because a crate with tests is proved twice, and those are slow to prove.
 #![tactic(auto)]
 
 #[cfg(test)]

@@ -17,7 +17,7 @@ pub const HEAD: &str = "catalog bank\nrow acct 1 = 10\nrow acct 2 = 20\nrow acct
 /// One batch.
 pub const ADD: &str = "tx add 1 5\nend 1\n";
 
-/// Words, an input, and the status and the output that they have.
+/// Arguments, an input, and the status and the output that they have.
 pub type Row = (&'static str, &'static str, u8, &'static str);
 
 /// The accounts become a store; that batch is run on it; the store with the batch is opened and replayed.
@@ -52,7 +52,7 @@ pub const LOG: [u8; 19] = [
 /// What a stop leaves of the bytes that were not synced: all of them, or 0 or 1 in the place of each.
 pub const IMAGES: [(bool, u8); 3] = [(true, 0), (false, 0), (false, 1)];
 
-/// A run: its words, its input, and which call of the source and of the sink fails, 0 for none.
+/// A run: its arguments, its input, and which call of the source and of the sink fails, 0 for none.
 #[derive(Clone, Copy)]
 pub struct Case<'a> {
     pub words: &'a str,
@@ -83,7 +83,7 @@ fn status_of<R: AllocGlobal + Threads + Sync>(
     aria(rt, rt.alloc(), words, input, out, disk, &Free)
 }
 
-/// The status of a run, and what it wrote. Want of memory is no answer.
+/// The status of a run, and what it wrote. Out of memory is no answer.
 pub fn outcome<R: AllocGlobal + Threads + Sync>(
     rt: &R,
     case: &Case<'_>,
@@ -129,7 +129,7 @@ pub fn case_ends<R: AllocGlobal + Threads + Abort + Sync>(
     Ok(())
 }
 
-/// Asserts that the words end in this status and print this output on this disk.
+/// Asserts that the arguments end in this status and print this output on this disk.
 pub fn ends<R: AllocGlobal + Threads + Abort + Sync>(
     rt: &R,
     row: &Row,
@@ -176,7 +176,7 @@ pub fn new_store<R: AllocGlobal + Threads + Abort + Sync>(
     Ok(disk)
 }
 
-/// How many calls a disk has counted when the store is made, and when these words have run the batch.
+/// How many calls a disk has counted when the store is made, and when these arguments have run the batch.
 pub fn counted<R: AllocGlobal + Threads + Abort + Sync>(
     rt: &R,
     words: &str,

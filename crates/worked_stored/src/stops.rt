@@ -29,8 +29,8 @@ fn stop_leaves<R: AllocGlobal + Threads + Abort + Sync>(
     Ok(())
 }
 
-/// Stops these words behind each of their calls on the store, whose script has one batch. From the end of its
-/// append on no stop loses the batch.
+/// Stops the command of these arguments behind each of its calls on the store, whose script has one batch.
+/// From the end of its append on no stop loses the batch.
 fn each_stop<R: AllocGlobal + Threads + Abort + Sync>(rt: &R, words: &str) -> Result<(), Fail> {
     let (made, appended) = counted(rt, "run")?;
     let mut disk = new_store(rt, 0)?;

@@ -1,4 +1,4 @@
--- What holds of the settings that words ask for.
+-- What holds of the settings that arguments ask for.
 use Rattle.std.specs.Prelude.{◌≡◌, ◌≤◌, ◌*◌, Some}
 use Rattle.aria_base.specs.declared.limits.TheConstants.{MOST_REQUESTS}
 use Rattle.command_words.specs.declared.settings.Amount.{Amount}

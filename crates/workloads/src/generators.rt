@@ -86,8 +86,8 @@ impl Generator {
     }
 
     /// The calls of the batch of this number, so many, which come next in the words. Behind them `draws`
-    /// stands at the word that they did not use; after want of memory it stands some words further than
-    /// before. Each call is one of a procedure of the catalogue.
+    /// stands at the word that they did not use; where there was no memory, it stands some words further
+    /// than before. Each call is one of a procedure of the catalogue.
     pub fn batch(
         &self,
         alloc: Global,

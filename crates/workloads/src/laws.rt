@@ -1,4 +1,4 @@
-// What holds of the settings that words ask for. A caller gets the fact by the call, which does nothing.
+// What holds of the settings that arguments ask for. A caller gets the fact by the call, which does nothing.
 ghost use Rattle.workloads.specs.Laws.{WordsAreWithin};
 
 /// The settings of a line that asks for a workload are within their ranges.
