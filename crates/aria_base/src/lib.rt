@@ -50,8 +50,9 @@ pub use copies::Duplicate;
 pub use draws::Draws;
 pub use keys::{Changes, Key, Keys, Part, compare_keys, contains_key, copy_key, same_key};
 pub use limits::{
-    FEWEST_PARTS, GREATEST_NUMBER, LONGEST_TEXT, LONGEST_TUPLE, LONGEST_WORD, MOST_ARGS,
-    MOST_COLUMNS, MOST_PARTS, MOST_REQUESTS, SHORTEST_TUPLE, TAG_SPAN, TAGS,
+    FEWEST_PARTS, GREATEST_NUMBER, LONGEST_LINE, LONGEST_TEXT, LONGEST_TUPLE, LONGEST_WORD,
+    MOST_ARGS, MOST_COLUMNS, MOST_PARTS, MOST_PERCENT, MOST_REPLICAS, MOST_REQUESTS, MOST_WORKERS,
+    SHORTEST_TUPLE, TAG_SPAN, TAGS,
 };
 pub use lists::{Bytes, Few, Items};
 pub use marks::Mark;

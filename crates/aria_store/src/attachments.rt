@@ -12,16 +12,13 @@ ghost use Rattle.aria_store.specs.Causes.{AttachCause, LaterCause, BatchesCause}
 
 use aria_base::{GREATEST_NUMBER, MOST_REQUESTS, Memory};
 use batch_rules::verdicts::Rule;
-use checkpoint::Head;
+use checkpoint::{FIRST_FORMAT, Head};
 use disk_model::Disk;
 use image_text::{Logged, read_calls, read_payload};
 use input_log::{LogEnd, Payload, scan};
 use slot_images::{Image, load};
 use std::alloc::Global;
 use store_files::StoreRefused;
-
-/// The format in which a payload is the lines of its calls alone.
-const FIRST_FORMAT: u8 = 1;
 
 /// The image of the slot that was taken by its head. A slot that does not read as it did a moment ago is
 /// damaged at its gate: a disk that tells its files has none.

@@ -1,11 +1,12 @@
 // A store.
-ghost use Rattle.std.specs.Prelude.{◌≡◌, ◌⊎◌, ℕ, ◌+◌, ◌≤◌, ◌^◌, All, true, false, [], ◌∷◌, ◌++◌, List, length, None, IfOk, IfErr, IfSome, OnOk, OnErr};
+ghost use Rattle.std.specs.Prelude.{◌≡◌, ◌⊎◌, ℕ, ◌+◌, ◌≤◌, All, true, false, [], ◌∷◌, ◌++◌, List, length, None, IfOk, IfErr, IfSome, OnOk, OnErr};
 ghost use Rattle.aria_base.specs.Schemas.{IsConsistent};
-ghost use Rattle.aria_base.specs.declared.limits.TheConstants.{GREATEST_NUMBER, MOST_REQUESTS};
+ghost use Rattle.aria_base.specs.declared.limits.TheConstants.{GREATEST_NUMBER, LONGEST_LINE, MOST_PERCENT, MOST_REQUESTS};
 ghost use Rattle.disk_model.specs.Histories.{MayLeave, LeavesAll, Still};
 ghost use Rattle.proc_lang.specs.Catalogs.{takes};
 ghost use Rattle.image_text.specs.Exactly.{line_of_call};
 ghost use Rattle.image_text.specs.Payloads.{Batch, payload_text};
+ghost use Rattle.input_log.specs.declared.limits.TheConstants.{MOST_BEFORE};
 ghost use Rattle.slot_images.specs.Images.{Checkpoint, MayCarry};
 ghost use Rattle.slot_images.specs.Said.{head_in, checkpoint_in, IsInOrder};
 ghost use Rattle.store_files.specs.Attachments.{Chosen, IsTaken, ReadsAlike};
@@ -68,7 +69,7 @@ impl Store {
         requires batches { image.now.batches ≡ 0 }
         requires requests { image.now.requests ≡ 0 }
         requires held { image.now.held.items ≡ [] }
-        requires fallback { image.now.fallback ≤ 101 }
+        requires fallback { image.now.fallback ≤ MOST_PERCENT }
         requires rows { IsConsistent image.now.catalog.tables image.now.tables }
         ensures stands { IfOk result (λ store. Stands (D.history disk.new) store (checkpoint_in image.now) []) }
         ensures rests { IfOk result (λ store. Rests (D.history disk.new) store.files) }
@@ -156,11 +157,11 @@ impl Store {
     ) -> Result<(), StoreRefused>
         requires rests { self.old.files.closed ≡ None → Rests (D.history disk.old) self.old.files }
         requires format { self.old.files.head.format ≡ 2 }
-        requires short { self.old.files.at ≤ 2 ^ 28 + 2 ^ 26 }
+        requires short { self.old.files.at ≤ MOST_BEFORE }
         requires fit { All (λ call. takes catalog.now call ≡ true) calls.now }
         requires few { length calls.now ≤ MOST_REQUESTS }
-        requires lines { All (λ call. length (line_of_call catalog.now call) ≤ 4096) calls.now }
-        requires fallback { fallback ≤ 101 }
+        requires lines { All (λ call. length (line_of_call catalog.now call) ≤ LONGEST_LINE) calls.now }
+        requires fallback { fallback ≤ MOST_PERCENT }
 
         // A stop at any moment leaves the batches from before, or those and this one.
         ensures images { self.old.files.closed ≡ None → (c : Checkpoint) (later : List Batch) → Stands (D.history disk.old) self.old c later → MayAdd catalog.now (length calls.now) c later → LeavesAll (D.history disk.old) (D.history disk.new) (λ images. Reopens images (Holding c later) ⊎ Reopens images (Holding c (added later rule fallback calls.now))) }
@@ -201,7 +202,7 @@ impl Store {
         requires batches { batches ≡ self.old.files.head.batches + self.old.files.batches }
         requires few { batches ≤ GREATEST_NUMBER }
         requires requests { requests ≤ GREATEST_NUMBER }
-        requires fallback { config.now.fallback ≤ 101 }
+        requires fallback { config.now.fallback ≤ MOST_PERCENT }
         requires rows { IsConsistent catalog.now.tables tables.now }
         requires calls { All (λ request. takes catalog.now request.call ≡ true) held.now }
         requires carried { MayCarry (next_head self.old.files.head config.now.rule config.now.fallback batches requests) held.now }

@@ -3,6 +3,7 @@ use Rattle.std.proofs.Common.{◌≡◌, ◌∙◌, sym, ap, subst, refl, ℕ, �
 use Rattle.std.proofs.lemmas.Bool.{leb-true}
 use Rattle.std.specs.Prelude.{find, option_and_then, option_map, codes, bytes_eq, drop}
 use Rattle.std.specs.Option.{IfSome}
+use Rattle.aria_base.specs.declared.limits.TheConstants.{MOST_PERCENT, MOST_REPLICAS, MOST_WORKERS}
 use Rattle.command_words.specs.Lines.{Line, line_of, text_in}
 use Rattle.command_words.specs.Options as option
 use Rattle.command_words.specs.Settings.{bench_of, command_of, init_of, mix_of, nodes_of, once_of, readers, replay_of, run_of, with_some, workload_of}
@@ -80,7 +81,7 @@ once_holds l =
     (λ _. Unit {0}) IsInRange (anything (choice_in l option.listing)) (λ s _. record { workers = of_w; replicas = of_r; fallback = of_f.1 })))))
 
 abbrev InitRange : Init → Type 0
-InitRange settings = settings.fallback ≤ 101
+InitRange settings = settings.fallback ≤ MOST_PERCENT
 
 init_holds : (l : Line) → IfSome (init_of l) InitRange
 init_holds l =
@@ -90,7 +91,7 @@ init_holds l =
     (IsWithin option.fallback) InitRange (in_range l option.fallback (omega arith, omega arith)) (λ f of_f. of_f.1))
 
 abbrev RunRange : Run → Type 0
-RunRange settings = ((1 ≤ settings.workers) × (settings.workers ≤ 64)) × ((1 ≤ settings.replicas) × (settings.replicas ≤ 8))
+RunRange settings = ((1 ≤ settings.workers) × (settings.workers ≤ MOST_WORKERS)) × ((1 ≤ settings.replicas) × (settings.replicas ≤ MOST_REPLICAS))
 
 abbrev OfRun : Line → ℕ → ℕ → ℕ → Listing → Option Run
 OfRun l w r c s = Some (record { workers = w; replicas = r; checkpoint = c; listing = s; drain = flag_in l option.drain; batons = flag_in l option.batons })
@@ -107,7 +108,7 @@ run_holds l =
     (λ _. Unit {0}) RunRange (anything (choice_in l option.listing)) (λ s _. (of_w, of_r)))))
 
 abbrev ReplayRange : Replay → Type 0
-ReplayRange settings = ((1 ≤ settings.workers) × (settings.workers ≤ 64)) × ((1 ≤ settings.replicas) × (settings.replicas ≤ 8))
+ReplayRange settings = ((1 ≤ settings.workers) × (settings.workers ≤ MOST_WORKERS)) × ((1 ≤ settings.replicas) × (settings.replicas ≤ MOST_REPLICAS))
 
 abbrev OfReplay : Line → ℕ → ℕ → Listing → Option Replay
 OfReplay l w r s = Some (record { workers = w; replicas = r; listing = s; batons = flag_in l option.batons })
@@ -123,7 +124,7 @@ replay_holds l =
 
 -- all of it but the workload, of which there is a law
 abbrev BenchRange : Bench → Type 0
-BenchRange settings = ((1 ≤ settings.workers) × (settings.workers ≤ 64)) × ((1 ≤ settings.replicas) × (settings.replicas ≤ 8)) × (settings.fallback ≤ 101)
+BenchRange settings = ((1 ≤ settings.workers) × (settings.workers ≤ MOST_WORKERS)) × ((1 ≤ settings.replicas) × (settings.replicas ≤ MOST_REPLICAS)) × (settings.fallback ≤ MOST_PERCENT)
 
 abbrev OfBench : Line → Workload → ℕ → ℕ → Rule → ℕ → Option Bench
 OfBench l d w r u f = Some (record { workload = d; workers = w; replicas = r; rule = u; fallback = f; drain = flag_in l option.drain; batons = flag_in l option.batons })

@@ -1,5 +1,6 @@
 -- What arguments ask for.
 use Rattle.std.specs.Prelude.{◌≤◌, Bool, true, false, ℕ, List, Option, Some, None, option_and_then}
+use Rattle.aria_base.specs.declared.limits.TheConstants.{MOST_PERCENT, MOST_REPLICAS, MOST_WORKERS}
 use Rattle.command_words.specs.Lines.{line_of}
 use Rattle.command_words.specs.Settings.{command_of}
 use Rattle.command_words.specs.Tables.{commands}
@@ -33,9 +34,9 @@ task_in words = option_and_then task_by (command_in words)
 -- its settings are within their ranges
 abbrev pub IsInRange : Task → Type 0
 IsInRange (task.Once settings) = once.IsInRange settings
-IsInRange (task.Init settings) = settings.fallback ≤ 101
-IsInRange (task.Run settings) = ((1 ≤ settings.workers) × (settings.workers ≤ 64)) × ((1 ≤ settings.replicas) × (settings.replicas ≤ 8))
-IsInRange (task.Replay settings) = ((1 ≤ settings.workers) × (settings.workers ≤ 64)) × ((1 ≤ settings.replicas) × (settings.replicas ≤ 8))
+IsInRange (task.Init settings) = settings.fallback ≤ MOST_PERCENT
+IsInRange (task.Run settings) = ((1 ≤ settings.workers) × (settings.workers ≤ MOST_WORKERS)) × ((1 ≤ settings.replicas) × (settings.replicas ≤ MOST_REPLICAS))
+IsInRange (task.Replay settings) = ((1 ≤ settings.workers) × (settings.workers ≤ MOST_WORKERS)) × ((1 ≤ settings.replicas) × (settings.replicas ≤ MOST_REPLICAS))
 IsInRange (task.Gen settings) = IsAsked settings
 IsInRange (task.Bench settings) = bench.IsInRange settings
 IsInRange task.Audit = Unit {0}

@@ -3,6 +3,7 @@ ghost use Rattle.std.specs.Prelude.{◌≡◌, ◌⊎◌, ◌≤◌, ℕ, List, 
 ghost use Rattle.std.specs.Io.KnownBytes.{Appends, IsAtEnd};
 ghost use Rattle.aria_base.specs.Faults.{Rose};
 ghost use Rattle.aria_base.specs.Streams.{AppendsFront};
+ghost use Rattle.aria_base.specs.declared.limits.TheConstants.{MOST_PERCENT, MOST_REPLICAS, MOST_WORKERS};
 ghost use Rattle.aria_store.specs.Reopens.{Reopened, Reopens};
 ghost use Rattle.disk_model.specs.Histories.{LeavesAll, MayLeave};
 ghost use Rattle.run_commands.specs.Resumes.{IsToldOver, out_over};
@@ -31,7 +32,7 @@ pub fn run_init<S: Source, K: Sink, D: Disk>(
     out: &mut K,
     disk: &mut D,
 ) -> u8
-    requires { settings.now.fallback ≤ 101 }
+    requires { settings.now.fallback ≤ MOST_PERCENT }
     ensures answered { (images : ℕ → List ℕ) → ReadsAs (D.history disk.old) images → IsAnswered result → IfSome (S.left input.old)
         (λ text. (result ≡ (init.out_of settings.now (is_taken images) text).status) × Appends (K.given out.old) (K.given out.new) (init.out_of settings.now (is_taken images) text).bytes) }
     ensures front { (images : ℕ → List ℕ) → ReadsAs (D.history disk.old) images → IfSome (S.left input.old) (λ text. AppendsFront (K.given out.old) (K.given out.new) (init.out_of settings.now (is_taken images) text).bytes) }
@@ -59,8 +60,8 @@ pub fn run_batches<S: Source, K: Sink, D: Disk, P: Pace + Sync, R: Threads + Syn
     disk: &mut D,
     pace: &P,
 ) -> u8
-    requires workers { (1 ≤ settings.now.workers) × (settings.now.workers ≤ 64) }
-    requires replicas { (1 ≤ settings.now.replicas) × (settings.now.replicas ≤ 8) }
+    requires workers { (1 ≤ settings.now.workers) × (settings.now.workers ≤ MOST_WORKERS) }
+    requires replicas { (1 ≤ settings.now.replicas) × (settings.now.replicas ≤ MOST_REPLICAS) }
     ensures answered { (images : ℕ → List ℕ) (found : Reopened) → ReadsAs (D.history disk.old) images → Reopens images found → IsAnswered result → IfSome (out_over settings.now (opened images found) (S.left input.old))
         (λ o. (result ≡ o.status) × Appends (K.given out.old) (K.given out.new) o.bytes) }
     ensures front { (images : ℕ → List ℕ) (found : Reopened) → ReadsAs (D.history disk.old) images → Reopens images found → IfSome (out_over settings.now (opened images found) (S.left input.old)) (λ o. AppendsFront (K.given out.old) (K.given out.new) o.bytes) }
@@ -88,8 +89,8 @@ pub fn run_replay<K: Sink, D: Disk, P: Pace + Sync, R: Threads + Sync>(
     disk: &mut D,
     pace: &P,
 ) -> u8
-    requires workers { (1 ≤ settings.now.workers) × (settings.now.workers ≤ 64) }
-    requires replicas { (1 ≤ settings.now.replicas) × (settings.now.replicas ≤ 8) }
+    requires workers { (1 ≤ settings.now.workers) × (settings.now.workers ≤ MOST_WORKERS) }
+    requires replicas { (1 ≤ settings.now.replicas) × (settings.now.replicas ≤ MOST_REPLICAS) }
     ensures answered { (images : ℕ → List ℕ) (found : Reopened) → ReadsAs (D.history disk.old) images → Reopens images found → IsAnswered result
         → (result ≡ (replay.out_of settings.now images found).status) × Appends (K.given out.old) (K.given out.new) (replay.out_of settings.now images found).bytes }
     ensures front { (images : ℕ → List ℕ) (found : Reopened) → ReadsAs (D.history disk.old) images → Reopens images found → AppendsFront (K.given out.old) (K.given out.new) (replay.out_of settings.now images found).bytes }

@@ -8,8 +8,8 @@ ghost use Rattle.audit_command.specs.Audits.{out_of, told_of};
 ghost use Rattle.script_course.specs.declared.statuses.TheConstants as status;
 
 use crate::audits::Auditing;
-use aria_base::{Sink, Source};
-use run_commands::{LONGEST_LINE, MOST_BYTES};
+use aria_base::{LONGEST_LINE, Sink, Source};
+use run_commands::MOST_BYTES;
 use script_course::{Stop, read_through};
 use std::alloc::Global;
 
@@ -32,7 +32,15 @@ pub fn audit<S: Source, K: Sink>(alloc: Global, input: &mut S, out: &mut K) -> R
     let Ok(start) = Auditing::start(alloc) else {
         return Err(Stop::NoMemory);
     };
-    match read_through(alloc, MOST_BYTES, LONGEST_LINE, start, input, out, &mut ()) {
+    match read_through(
+        alloc,
+        MOST_BYTES,
+        LONGEST_LINE as u32,
+        start,
+        input,
+        out,
+        &mut (),
+    ) {
         Ok(last) => last.end(alloc, out),
         Err(stop) => Err(stop),
     }

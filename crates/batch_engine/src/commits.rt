@@ -1,6 +1,6 @@
 // A batch up to the end of its commit phase.
 ghost use Rattle.std.specs.Prelude.{◌≡◌, ◌≤◌, length, IfOk, Some};
-ghost use Rattle.aria_base.specs.declared.limits.TheConstants.{MOST_REQUESTS};
+ghost use Rattle.aria_base.specs.declared.limits.TheConstants.{MOST_REQUESTS, MOST_WORKERS};
 ghost use Rattle.proc_lang.specs.Catalogs.{run_of};
 ghost use Rattle.batch_engine.specs.Commits.{IsCommitted};
 ghost use Rattle.batch_engine.specs.Lasts.{marks_of_last};
@@ -48,7 +48,7 @@ pub(crate) fn commit<P: Pace + Sync, R: Threads + Sync>(
     pace: &P,
 ) -> Result<(Last, Committed), Memory>
     requires list { length list.now ≤ MOST_REQUESTS }
-    requires workers { (1 ≤ config.now.workers) × (config.now.workers ≤ 64) }
+    requires workers { (1 ≤ config.now.workers) × (config.now.workers ≤ MOST_WORKERS) }
     ensures marked { IfOk result (λ r. HasMarked (run_of catalog.now) tables list.now (Some (marks_of_last r.0))) }
     ensures committed { IfOk result (λ r. IsCommitted (run_of catalog.now) config.now.rule tables list.now r.1) }
 {

@@ -1,7 +1,7 @@
 // A database between two batches, and the next batch.
 ghost use Rattle.std.specs.Prelude.{◌≡◌, ◌≢◌, ◌≤◌, ◌<◌, ◌+◌, ◌-◌, None, Some, length, true, IfOk};
 ghost use Rattle.std.specs.List.{All};
-ghost use Rattle.aria_base.specs.declared.limits.TheConstants.{GREATEST_NUMBER, MOST_REQUESTS};
+ghost use Rattle.aria_base.specs.declared.limits.TheConstants.{GREATEST_NUMBER, MOST_PERCENT, MOST_REQUESTS, MOST_WORKERS};
 ghost use Rattle.proc_lang.specs.Catalogs.{takes, run_of};
 ghost use Rattle.batch_core.specs.Steps.{list_of, step, answer};
 ghost use Rattle.batch_core.specs.Serial.{IsSerialAnswer};
@@ -88,8 +88,8 @@ impl Engine {
         requires room { length self.carried + length new.items ≤ MOST_REQUESTS }
         requires batches { self.batches < GREATEST_NUMBER }
         requires requests { self.requests + length new.items ≤ GREATEST_NUMBER }
-        requires percent { config.now.fallback ≤ 101 }
-        requires workers { (1 ≤ config.now.workers) × (config.now.workers ≤ 64) }
+        requires percent { config.now.fallback ≤ MOST_PERCENT }
+        requires workers { (1 ≤ config.now.workers) × (config.now.workers ≤ MOST_WORKERS) }
         ensures plan { IfOk result (λ r. r.0.plan ≡ self.plan) }
         ensures state { IfOk result (λ r. state_in config.now r.0 ≡ step (run_of self.plan) (state_in config.now self) (handed_by config.now new.items)) }
         ensures answer { IfOk result (λ r. r.1 ≡ answer (run_of self.plan) (state_in config.now self) (handed_by config.now new.items)) }

@@ -1,6 +1,6 @@
 // The late run at the end of a batch, where enough requests wait.
 ghost use Rattle.std.specs.Prelude.{◌≡◌, ◌≤◌, length, map, drop, IfOk};
-ghost use Rattle.aria_base.specs.declared.limits.TheConstants.{MOST_REQUESTS};
+ghost use Rattle.aria_base.specs.declared.limits.TheConstants.{MOST_PERCENT, MOST_REQUESTS, MOST_WORKERS};
 ghost use Rattle.proc_lang.specs.Catalogs.{run_of};
 ghost use Rattle.proc_exec.specs.Lates.{fate_of};
 ghost use Rattle.batch_engine.specs.Answers.{still_waiting, first_ended};
@@ -17,7 +17,7 @@ use tbl_rows::Tables;
 
 /// Whether of `size` requests so many wait that they are run again.
 fn is_due(percent: u32, waiting: usize, size: usize) -> bool
-    requires percent { percent ≤ 101 }
+    requires percent { percent ≤ MOST_PERCENT }
     requires waiting { waiting ≤ MOST_REQUESTS }
     requires size { size ≤ MOST_REQUESTS }
     ensures { result ≡ is_due percent waiting size }
@@ -39,8 +39,8 @@ pub(crate) fn run_late<P: Pace + Sync, R: Threads + Sync>(
 ) -> Result<(Tables, Vec<Late>), Memory>
     requires waiting { length waiting.now ≤ size }
     requires size { size ≤ MOST_REQUESTS }
-    requires percent { config.now.fallback ≤ 101 }
-    requires workers { (1 ≤ config.now.workers) × (config.now.workers ≤ 64) }
+    requires percent { config.now.fallback ≤ MOST_PERCENT }
+    requires workers { (1 ≤ config.now.workers) × (config.now.workers ≤ MOST_WORKERS) }
     ensures { IfOk result (λ r. LateRun (run_of catalog.now) (is_due config.now.fallback (length waiting.now) size) tables waiting.now r.0 (map fate_of r.1.items)) }
 {
     if !is_due(config.fallback, waiting.len(), size) {

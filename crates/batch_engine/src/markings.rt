@@ -3,7 +3,7 @@ ghost use Rattle.std.specs.Prelude.{◌≡◌, ◌≤◌, ◌<◌, ◌*◌, [], 
 ghost use Rattle.std.specs.FinMap as fin;
 ghost use Rattle.std.specs.List.{All};
 ghost use Rattle.aria_base.specs.Reserved.{AreAbove};
-ghost use Rattle.aria_base.specs.declared.limits.TheConstants.{MOST_REQUESTS, TAGS};
+ghost use Rattle.aria_base.specs.declared.limits.TheConstants.{MOST_REQUESTS, MOST_WORKERS, TAGS};
 ghost use Rattle.dep_rules.specs.Decisions.{reads_of, writes_of};
 ghost use Rattle.key_numbering.specs.Numbers.{touch_count};
 ghost use Rattle.key_numbering.specs.declared.kept.TheConstants.{MOST_KEPT};
@@ -44,7 +44,7 @@ pub(crate) fn mark<P: Pace + Sync, R: Threads + Sync>(
 ) -> Result<Last, Memory>
     requires few { length sets.now ≤ MOST_REQUESTS }
     requires touched { All (λ s. touch_count s ≤ MOST_ACCESSES) sets.now }
-    requires workers { (1 ≤ workers) × (workers ≤ 64) }
+    requires workers { (1 ≤ workers) × (workers ≤ MOST_WORKERS) }
     ensures { IfOk result (λ last. MarksSets reads_of writes_of sets.now (marks_of last.marked)) }
 {
     let Begun {

@@ -1,7 +1,7 @@
 // A batch from the end of its commit phase to its answer.
 ghost use Rattle.std.specs.Prelude.{◌≡◌, ◌≤◌, ◌<◌, length, IfOk};
 ghost use Rattle.aria_base.specs.Orders.{Database};
-ghost use Rattle.aria_base.specs.declared.limits.TheConstants.{MOST_REQUESTS};
+ghost use Rattle.aria_base.specs.declared.limits.TheConstants.{MOST_PERCENT, MOST_REQUESTS, MOST_WORKERS};
 ghost use Rattle.proc_lang.specs.Catalogs.{run_of};
 ghost use Rattle.batch_engine.specs.Commits.{IsCommitted, IsSettled};
 
@@ -43,8 +43,8 @@ pub(crate) fn settle<P: Pace + Sync, R: Threads + Sync>(
     requires list { length list.items ≤ MOST_REQUESTS }
     requires ends { length committed.ends.items ≡ length list.items }
     requires verdicts { length committed.verdicts.items ≡ length list.items }
-    requires percent { config.now.fallback ≤ 101 }
-    requires workers { (1 ≤ config.now.workers) × (config.now.workers ≤ 64) }
+    requires percent { config.now.fallback ≤ MOST_PERCENT }
+    requires workers { (1 ≤ config.now.workers) × (config.now.workers ≤ MOST_WORKERS) }
     ensures { IfOk result (λ settled. (start : Database) → IsCommitted (run_of catalog.now) config.now.rule start list.items committed
         → IsSettled (run_of catalog.now) config.now.rule config.now.fallback start list.items settled) }
 {

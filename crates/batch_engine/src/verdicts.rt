@@ -1,6 +1,6 @@
 // What the commit phase decides of each request of a batch, by the words of its keys.
 ghost use Rattle.std.specs.Prelude.{◌≡◌, ◌≤◌, ◌<◌, IfOk, length};
-ghost use Rattle.aria_base.specs.declared.limits.TheConstants.{MOST_REQUESTS, TAGS};
+ghost use Rattle.aria_base.specs.declared.limits.TheConstants.{MOST_REQUESTS, MOST_WORKERS, TAGS};
 ghost use Rattle.dep_rules.specs.Words.{Tell};
 ghost use Rattle.batch_engine.specs.Answers.{verdicts_on};
 
@@ -62,7 +62,7 @@ pub(crate) fn decide_all<R: Threads + Sync>(
 ) -> Result<Vec<Verdict>, Memory>
     requires tag { tag < TAGS }
     requires words { Tell numbered.now tag words.now }
-    requires workers { (1 ≤ workers) × (workers ≤ 64) }
+    requires workers { (1 ≤ workers) × (workers ≤ MOST_WORKERS) }
     ensures { IfOk result (λ verdicts. verdicts.items ≡ verdicts_on rule numbered.now) }
 {
     let count = numbered.len();

@@ -2,7 +2,7 @@
 use Rattle.std.specs.Prelude.{ℕ, zero, suc, ◌+◌, ◌-◌, ◌==◌, ◌≤◌, min, Bool, if◌then◌else◌, List, [], ◌∷◌, ◌++◌, length}
 use Rattle.rand_pcg.specs.Lcg.{Lcg}
 use Rattle.aria_base.specs.declared.calls.Call.{Call}
-use Rattle.aria_base.specs.declared.limits.TheConstants.{MOST_REQUESTS}
+use Rattle.aria_base.specs.declared.limits.TheConstants.{MOST_PERCENT, MOST_REPLICAS, MOST_REQUESTS, MOST_WORKERS}
 use Rattle.batch_core.specs.Steps.{State, answer, step}
 use Rattle.batch_core.specs.declared.answers.Answer.{Answer}
 use Rattle.batch_rules.specs.declared.verdicts.Rule.{Rule}
@@ -78,6 +78,6 @@ ran_of b =
 -- the settings are within their bounds
 pub record IsInRange (b : Bench) : Type 0 where
   pub asked : IsAsked b.workload
-  pub workers : (1 ≤ b.workers) × (b.workers ≤ 64)
-  pub replicas : (1 ≤ b.replicas) × (b.replicas ≤ 8)
-  pub fallback : b.fallback ≤ 101
+  pub workers : (1 ≤ b.workers) × (b.workers ≤ MOST_WORKERS)
+  pub replicas : (1 ≤ b.replicas) × (b.replicas ≤ MOST_REPLICAS)
+  pub fallback : b.fallback ≤ MOST_PERCENT

@@ -1,5 +1,6 @@
 // The database of a workload before its first batch.
 ghost use Rattle.std.specs.Prelude.{◌≡◌, ◌≤◌, IfOk};
+ghost use Rattle.aria_base.specs.declared.limits.TheConstants.{MOST_PERCENT, MOST_REPLICAS, MOST_WORKERS};
 ghost use Rattle.serving.specs.Lives.{IsRunnable, plan_of, state_of};
 ghost use Rattle.workloads.specs.Generators.{IsWithin};
 ghost use Rattle.workloads.specs.Generators as load;
@@ -19,9 +20,9 @@ pub(crate) fn begin(
     replicas: u32,
 ) -> Result<Live, Memory>
     requires within { IsWithin generator.now }
-    requires workers { (1 ≤ config.workers) × (config.workers ≤ 64) }
-    requires fallback { config.fallback ≤ 101 }
-    requires engines { (1 ≤ replicas) × (replicas ≤ 8) }
+    requires workers { (1 ≤ config.workers) × (config.workers ≤ MOST_WORKERS) }
+    requires fallback { config.fallback ≤ MOST_PERCENT }
+    requires engines { (1 ≤ replicas) × (replicas ≤ MOST_REPLICAS) }
     ensures plan { IfOk result (λ live. plan_of live ≡ load.plan_of generator.now) }
     ensures state { IfOk result (λ live. state_of live ≡ head_state generator.now config.rule config.fallback) }
     ensures runnable { IfOk result IsRunnable }

@@ -17,7 +17,7 @@ use std::alloc::Global;
 pub const MOST_BYTES: u64 = 2_147_483_648;
 
 /// The most bytes of a line, of the script and of the report.
-pub const LONGEST_LINE: u32 = 262_144;
+pub const LONGEST_CHECKED: u32 = 262_144;
 
 /// Reads a script, the line `report` and a report behind it, and prints whether the report holds: status 0
 /// where it does, 8 where a line cannot stand, 1 where a line of the input is refused. Nothing is printed
@@ -41,7 +41,15 @@ pub fn check_report<S: Source, K: Sink>(
     let Ok(start) = Reading::start(alloc) else {
         return Err(Stop::NoMemory);
     };
-    match read_through(alloc, MOST_BYTES, LONGEST_LINE, start, input, out, &mut ()) {
+    match read_through(
+        alloc,
+        MOST_BYTES,
+        LONGEST_CHECKED,
+        start,
+        input,
+        out,
+        &mut (),
+    ) {
         Ok(last) => end_of(alloc, last, out),
         Err(stop) => Err(stop),
     }

@@ -8,7 +8,7 @@ use Rattle.byteorder.specs.Endian.{little_bytes, little_number}
 use Rattle.byteorder.specs.Numbers.{little_number-reads_back}
 use Rattle.batch_rules.specs.declared.verdicts.Rule.{Rule}
 use Rattle.batch_rules.specs.declared.verdicts.Rule.TheVariants.{Plain, Reorder}
-use Rattle.aria_base.specs.declared.limits.TheConstants.{GREATEST_NUMBER}
+use Rattle.aria_base.specs.declared.limits.TheConstants.{GREATEST_NUMBER, MOST_PERCENT}
 use Rattle.disk_model.specs.Files.{put}
 use Rattle.checkpoint.specs.declared.heads.Head.{Head}
 use Rattle.checkpoint.specs.declared.heads.Fields.{Fields}
@@ -143,7 +143,7 @@ pub record Clear (slot : ℕ) (f : Fields) : Type 0 where
   pub behind_magic : first_fault (drop 1 (faults slot f)) ≡ None
   pub format : not (f.format == 1 || f.format == 2) ≡ false
   pub rule : nat_lt 1 f.rule ≡ false
-  pub fallback : nat_lt 101 f.fallback ≡ false
+  pub fallback : nat_lt MOST_PERCENT f.fallback ≡ false
   pub generation : wrong_generation slot f ≡ false
   pub batches : nat_lt GREATEST_NUMBER f.batches ≡ false
   pub requests : nat_lt GREATEST_NUMBER f.requests ≡ false
@@ -153,7 +153,7 @@ clear slot f none =
     let magic_row = no_fault (not (f.magic == magic)) 1 (drop 1 (faults slot f)) none in
     let format_row = no_fault (not (f.format == 1 || f.format == 2)) 5 (drop 2 (faults slot f)) magic_row.1 in
     let rule_row = no_fault (nat_lt 1 f.rule) 6 (drop 3 (faults slot f)) format_row.1 in
-    let fallback_row = no_fault (nat_lt 101 f.fallback) 7 (drop 4 (faults slot f)) rule_row.1 in
+    let fallback_row = no_fault (nat_lt MOST_PERCENT f.fallback) 7 (drop 4 (faults slot f)) rule_row.1 in
     let generation_row = no_fault (wrong_generation slot f) 8 (drop 5 (faults slot f)) fallback_row.1 in
     let batches_row = no_fault (nat_lt GREATEST_NUMBER f.batches) 16 (drop 6 (faults slot f)) generation_row.1 in
     let requests_row = no_fault (nat_lt GREATEST_NUMBER f.requests) 24 [] batches_row.1 in

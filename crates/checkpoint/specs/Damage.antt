@@ -1,6 +1,6 @@
 -- What may be wrong with the head of an open slot, and the offset that is named.
 use Rattle.std.specs.Prelude.{◌≡◌, ℕ, ◌+◌, ◌%◌, ◌==◌, nat_lt, not, ◌||◌, Bool, List, [], ◌∷◌, Option, None, Some, if◌then◌else◌}
-use Rattle.aria_base.specs.declared.limits.TheConstants.{GREATEST_NUMBER}
+use Rattle.aria_base.specs.declared.limits.TheConstants.{GREATEST_NUMBER, MOST_PERCENT}
 use Rattle.checkpoint.specs.declared.heads.Head.{Head}
 use Rattle.checkpoint.specs.declared.heads.Fields.{Fields}
 use Rattle.checkpoint.specs.Heads.{magic, fields_for}
@@ -16,7 +16,7 @@ faults slot f =
     (not (f.magic == magic), 1)
     ∷ (not (f.format == 1 || f.format == 2), 5)
     ∷ (nat_lt 1 f.rule, 6)
-    ∷ (nat_lt 101 f.fallback, 7)
+    ∷ (nat_lt MOST_PERCENT f.fallback, 7)
     ∷ (wrong_generation slot f, 8)
     ∷ (nat_lt GREATEST_NUMBER f.batches, 16)
     ∷ (nat_lt GREATEST_NUMBER f.requests, 24)

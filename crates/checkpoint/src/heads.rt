@@ -1,20 +1,21 @@
 // The head of a slot: its fields as bytes, and what may be wrong with them.
 ghost use Rattle.std.specs.Prelude.{◌≡◌, ◌≤◌};
+ghost use Rattle.aria_base.specs.declared.limits.TheConstants.{MOST_PERCENT};
 ghost use Rattle.checkpoint.specs.Heads.{fields_of, head_in, head_bytes};
 ghost use Rattle.checkpoint.specs.Damage.{faults, first_fault, wrong_generation};
 
-use aria_base::GREATEST_NUMBER;
+use aria_base::{GREATEST_NUMBER, MOST_PERCENT};
 use batch_rules::verdicts::Rule;
 use byteorder::{ByteOrder, LittleEndian};
 
 /// How many bytes stand before the body, the gate among them.
 pub const FRONT: usize = 40;
 
+/// The first format. A log's payload is the lines of its calls alone, and no batch is added to it.
+pub const FIRST_FORMAT: u8 = 1;
+
 /// 'ARIA' as a number, the first byte the lowest.
 const MAGIC: u32 = 0x4149_5241;
-
-/// The greatest fallback.
-const MOST_FALLBACK: u8 = 101;
 
 /// What stands at the beginning of a checkpoint.
 #[derive(Clone, Copy, Debug, PartialEq, Eq)]
@@ -43,7 +44,7 @@ pub struct Fields {
 impl Head {
     /// The bytes between the gate and a body of so many bytes.
     pub fn bytes(&self, body: u64) -> [u8; 39]
-        requires { self.now.fallback ≤ 101 }
+        requires { self.now.fallback ≤ MOST_PERCENT }
         ensures { result ≡ head_bytes self.now body }
     {
         let mut front = [0; FRONT - 1];
@@ -85,13 +86,13 @@ impl Fields {
         if self.magic != MAGIC {
             return Some(1);
         }
-        if self.format != 1 && self.format != 2 {
+        if self.format != FIRST_FORMAT && self.format != 2 {
             return Some(5);
         }
         if self.rule > 1 {
             return Some(6);
         }
-        if self.fallback > MOST_FALLBACK {
+        if u32::from(self.fallback) > MOST_PERCENT {
             return Some(7);
         }
         if self.wrong_generation(slot) {

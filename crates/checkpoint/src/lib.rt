@@ -18,7 +18,7 @@ pub mod laws;
 mod readings;
 mod slots;
 
-pub use heads::{FRONT, Head};
+pub use heads::{FIRST_FORMAT, FRONT, Head};
 pub use readings::{head_of, read_slot};
 pub use slots::{blank, lay, show, shut};
 

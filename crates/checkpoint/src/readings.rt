@@ -8,9 +8,8 @@ ghost use Rattle.checkpoint.specs.Slots.{slot_of, is_open, IsHead, IsLooked, IsR
 ghost use Rattle.checkpoint.specs.Causes.{LookCause, ReadCause};
 
 use crate::heads::{FRONT, Fields, Head};
-use crate::slots::{OPEN, SHUT};
 use aria_base::{Bytes, Failed};
-use disk_model::{Disk, LogRefused};
+use disk_model::{Disk, LogRefused, OPEN, SHUT};
 use std::alloc::Global;
 
 /// A slot's head, where its gate is open.

@@ -1,5 +1,6 @@
 // Writing a slot: its gate, and what stands behind it.
 ghost use Rattle.std.specs.Prelude.{◌≡◌, ◌<◌, ◌≤◌, length, IfErr, OnOk, option_map};
+ghost use Rattle.aria_base.specs.declared.limits.TheConstants.{MOST_PERCENT};
 ghost use Rattle.disk_model.specs.Files.{untouched, loosened};
 ghost use Rattle.disk_model.specs.Histories.{current, EachImage, HasImage, IsStable, Leaves};
 ghost use Rattle.disk_model.specs.Causes.{FaultOnly};
@@ -7,13 +8,7 @@ ghost use Rattle.checkpoint.specs.Slots.{laid, opened, closed};
 ghost use Rattle.checkpoint.specs.Gates.{IsShut, IsShutOrSame, IsShutOrOpened, shut_file};
 
 use crate::heads::{FRONT, Head};
-use disk_model::{Disk, LogRefused, write_synced};
-
-/// The byte of an open gate. Every other byte is a closed one.
-pub const OPEN: u8 = 1;
-
-/// The byte that is written for a closed gate.
-pub const SHUT: u8 = 0;
+use disk_model::{Disk, LogRefused, OPEN, SHUT, write_synced};
 
 /// Closes a slot's gate, whatever the file holds.
 pub fn blank<D: Disk>(disk: &mut D, slot: u8) -> Result<(), LogRefused>
@@ -55,7 +50,7 @@ pub fn shut<D: Disk>(disk: &mut D, slot: u8) -> Result<(), LogRefused>
 pub fn lay<D: Disk>(disk: &mut D, slot: u8, head: &Head, body: &[u8]) -> Result<(), LogRefused>
     requires slot { slot < 2 }
     requires shut { EachImage (current (D.history disk.old) slot) IsShut }
-    requires fallback { head.now.fallback ≤ 101 }
+    requires fallback { head.now.fallback ≤ MOST_PERCENT }
     ensures bytes { OnOk result (current (D.history disk.new) slot ≡ option_map (λ f. untouched (laid head.now body.now f.seen)) (current (D.history disk.old) slot)) }
     ensures still_shut { OnOk result (EachImage (current (D.history disk.new) slot) IsShut) }
     ensures stable { OnOk result (IsStable (current (D.history disk.new) slot)) }

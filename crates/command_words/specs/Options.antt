@@ -1,6 +1,6 @@
 -- The options of all commands: their values, and the one that counts where the line gives none.
 use Rattle.std.specs.Prelude.{ℕ, List, codes}
-use Rattle.aria_base.specs.declared.limits.TheConstants.{MOST_REQUESTS}
+use Rattle.aria_base.specs.declared.limits.TheConstants.{MOST_PERCENT, MOST_REPLICAS, MOST_REQUESTS, MOST_WORKERS}
 use Rattle.batch_rules.specs.declared.verdicts.Rule.{Rule}
 use Rattle.batch_rules.specs.declared.verdicts.Rule.TheVariants.{Plain, Reorder}
 use Rattle.command_words.specs.declared.settings.Listing.{Listing}
@@ -15,16 +15,16 @@ range name low high usual = record { name = name; low = low; high = high; usual 
 -- ---- how a batch is run
 
 abbrev pub workers : Range
-workers = range (codes "workers") 1 64 1
+workers = range (codes "workers") 1 MOST_WORKERS 1
 
 abbrev pub replicas : Range
-replicas = range (codes "replicas") 1 8 1
+replicas = range (codes "replicas") 1 MOST_REPLICAS 1
 
 abbrev pub nodes : Range
 nodes = range (codes "nodes") 1 8 2
 
 abbrev pub fallback : Range
-fallback = range (codes "fallback") 0 101 101
+fallback = range (codes "fallback") 0 MOST_PERCENT MOST_PERCENT
 
 -- 0 is never
 abbrev pub checkpoint : Range

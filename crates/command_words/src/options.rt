@@ -1,6 +1,6 @@
 // The options of all commands: their values, and the one that counts where the arguments give none.
 use crate::settings::{Listing, Load};
-use aria_base::MOST_REQUESTS;
+use aria_base::{MOST_PERCENT, MOST_REPLICAS, MOST_REQUESTS, MOST_WORKERS};
 use batch_rules::verdicts::Rule;
 
 /// An option whose value is a number from `low` to `high`, and `usual` where it is not given.
@@ -21,7 +21,7 @@ pub(crate) struct Choice<'a, T> {
 }
 
 macro_rules! number {
-    ($name:literal, $low:literal, $high:expr, $usual:literal) => {
+    ($name:literal, $low:literal, $high:expr, $usual:expr) => {
         Number {
             name: $name,
             low: $low,
@@ -31,11 +31,11 @@ macro_rules! number {
     };
 }
 
-pub(crate) const WORKERS: Number<'static> = number!("workers", 1, 64, 1);
+pub(crate) const WORKERS: Number<'static> = number!("workers", 1, MOST_WORKERS, 1);
 
-pub(crate) const REPLICAS: Number<'static> = number!("replicas", 1, 8, 1);
+pub(crate) const REPLICAS: Number<'static> = number!("replicas", 1, MOST_REPLICAS, 1);
 
-pub(crate) const FALLBACK: Number<'static> = number!("fallback", 0, 101, 101);
+pub(crate) const FALLBACK: Number<'static> = number!("fallback", 0, MOST_PERCENT, MOST_PERCENT);
 
 pub(crate) const CHECKPOINT: Number<'static> = number!("checkpoint", 0, 1_000_000, 0);
 

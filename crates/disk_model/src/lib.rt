@@ -16,11 +16,13 @@
 
 mod contents;
 mod disks;
+mod gates;
 mod mem_disks;
 mod refusals;
 mod tapes;
 
 pub use disks::{Disk, write_synced};
+pub use gates::{OPEN, SHUT};
 pub use mem_disks::MemDisk;
 pub use refusals::LogRefused;
 

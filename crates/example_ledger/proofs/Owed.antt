@@ -9,6 +9,7 @@ use Rattle.std.proofs.lemmas.List.Elements.{All-nil, All-cons}
 use Rattle.aria_base.specs.Orders.{key_cmp, Cells, Database}
 use Rattle.aria_base.specs.Schemas.{IsConsistent}
 use Rattle.aria_base.specs.declared.calls.Call.{Call}
+use Rattle.aria_base.specs.declared.limits.TheConstants.{LONGEST_LINE}
 use Rattle.aria_store.specs.Stands.{Kept}
 use Rattle.batch_engine.specs.Engines.{Between}
 use Rattle.disk_model.specs.Histories.{History}
@@ -42,10 +43,10 @@ calls_of found calls items plan bytes e are = subst (λ (o : Option _). AreCalls
 
 -- a batch whose calls are a short text may be added to the store
 pub may_log : (live : Live) (first : Between) (calls : List Call) (bytes : List ℕ) (disk : History) → slice_get live.replicas 0 ≡ Some first
-    → IsLogging disk live → IsCalls first.plan bytes calls → length bytes ≤ 4096 → MayLog live calls disk
+    → IsLogging disk live → IsCalls first.plan bytes calls → length bytes ≤ LONGEST_LINE → MayLog live calls disk
 may_log live first calls bytes disk is logging read short = record {
   logging = logging;
   lines = with_any _ live.store
       (subst (λ (plan : Plan). HasLines plan calls) (sym (plan_is live.replicas first is))
-      (lines_within first.plan calls 4096 (subst (λ (text : List ℕ). length text ≤ 4096) read.text short)));
+      (lines_within first.plan calls LONGEST_LINE (subst (λ (text : List ℕ). length text ≤ LONGEST_LINE) read.text short)));
 }

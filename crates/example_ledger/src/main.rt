@@ -7,7 +7,7 @@ ghost use Rattle.serving.specs.Lives.{IsRunnable};
 ghost use Rattle.serving.specs.Stored.{IsLogging};
 
 use answer_text::print_state;
-use aria_base::{FileSink, Free, GREATEST_NUMBER, MOST_REQUESTS, Memory, Sink};
+use aria_base::{FileSink, Free, GREATEST_NUMBER, LONGEST_LINE, MOST_REQUESTS, Memory, Sink};
 use aria_store::{Image, Store, StoreRefused};
 use batch_rules::verdicts::Rule;
 use cat_read::{CatRefused, read_catalog};
@@ -43,9 +43,6 @@ const BATCHES: [&str; 3] = [
     "tx pay 1 2 30\ntx pay 2 1 500\ntx balance 1\n",
     "tx pay 2 1 15\ntx pay 2 1 10\ntx balance 2\n",
 ];
-
-/// The most bytes of a call's line in a store.
-const LONGEST_LINE: usize = 4096;
 
 /// Three replicas of two workers each, and a checkpoint behind each second batch.
 const ENGINES: Engines = Engines {
@@ -127,6 +124,7 @@ fn serve<K: Sink, D: Disk, R: Threads + Sync>(
 {
     let catalog = ledger.replicas.first().catalog();
     let calls = read_calls(alloc, catalog, lines.as_bytes())?.ok_or(Fault::NotTaken)?;
+    // A text within the bound of a line has each of its lines within it.
     if LONGEST_LINE < lines.len()
         || MOST_REQUESTS - ledger.waiting() < calls.len()
         || GREATEST_NUMBER == ledger.batches()

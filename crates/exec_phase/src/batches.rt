@@ -1,6 +1,6 @@
 // Runs of all requests of a batch on one snapshot, by several workers.
 ghost use Rattle.std.specs.Prelude.{◌≡◌, ◌≤◌, IfOk, length, map};
-ghost use Rattle.aria_base.specs.declared.limits.TheConstants.{MOST_REQUESTS};
+ghost use Rattle.aria_base.specs.declared.limits.TheConstants.{MOST_REQUESTS, MOST_WORKERS};
 ghost use Rattle.proc_lang.specs.Catalogs.{run_of};
 ghost use Rattle.proc_exec.specs.Outcomes.{outcome_at};
 
@@ -63,7 +63,7 @@ pub fn execute_all<P: Pace + Sync, R: Threads + Sync>(
     pace: &P,
 ) -> Result<Vec<Outcome>, Memory>
     requires list { length list.now ≤ MOST_REQUESTS }
-    requires workers { (1 ≤ workers) × (workers ≤ 64) }
+    requires workers { (1 ≤ workers) × (workers ≤ MOST_WORKERS) }
     ensures { IfOk result (λ all. all.items ≡ map (outcome_at (run_of catalog.now) snapshot.entry) list.now) }
 {
     let task = Executions {

@@ -1,7 +1,7 @@
 // All that wait, wave after wave.
 ghost use Rattle.std.specs.Prelude.{◌≤◌, length, IfOk};
 ghost use Rattle.aria_base.specs.Schemas.{IsConsistent};
-ghost use Rattle.aria_base.specs.declared.limits.TheConstants.{MOST_REQUESTS};
+ghost use Rattle.aria_base.specs.declared.limits.TheConstants.{MOST_REQUESTS, MOST_WORKERS};
 ghost use Rattle.proc_lang.specs.Catalogs.{run_of};
 ghost use Rattle.proc_exec.specs.Lates.{IsLateFold};
 ghost use Rattle.fallback_locks.specs.Reruns.{AllFit};
@@ -35,7 +35,7 @@ pub fn rerun<P: Pace + Sync, R: Threads + Sync>(
     pace: &P,
 ) -> Result<(Tables, Vec<Late>), Memory>
     requires waiting { length waiting.now ≤ MOST_REQUESTS }
-    requires workers { (1 ≤ workers) × (workers ≤ 64) }
+    requires workers { (1 ≤ workers) × (workers ≤ MOST_WORKERS) }
     ensures fold { IfOk result (λ r. IsLateFold (run_of catalog.now) tables waiting.now r.1.items r.0) }
     ensures fit { AllFit catalog.now waiting.now tables → IfOk result (λ r. IsConsistent catalog.now.tables r.0) }
 {

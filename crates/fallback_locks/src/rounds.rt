@@ -1,6 +1,6 @@
 // A wave: its requests run on one snapshot, by several workers.
 ghost use Rattle.std.specs.Prelude.{◌≡◌, ◌≤◌, ◌<◌, length, IfOk, All};
-ghost use Rattle.aria_base.specs.declared.limits.TheConstants.{MOST_REQUESTS};
+ghost use Rattle.aria_base.specs.declared.limits.TheConstants.{MOST_REQUESTS, MOST_WORKERS};
 ghost use Rattle.proc_lang.specs.Catalogs.{run_of};
 ghost use Rattle.fallback_locks.specs.Reruns.{done_at, AreDone};
 
@@ -65,7 +65,7 @@ pub(crate) fn run_wave<P: Pace + Sync, R: Threads + Sync>(
 ) -> Result<Vec<Done>, Memory>
     requires few { length places.now ≤ MOST_REQUESTS }
     requires within { All (λ p. p < length waiting.now) places.now }
-    requires workers { (1 ≤ workers) × (workers ≤ 64) }
+    requires workers { (1 ≤ workers) × (workers ≤ MOST_WORKERS) }
     ensures { IfOk result (λ dones. AreDone (run_of catalog.now) snapshot.entry waiting.now places.now dones.items) }
 {
     let round = Round {

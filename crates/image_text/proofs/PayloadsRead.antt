@@ -5,10 +5,10 @@ use Rattle.std.proofs.lemmas.Bool.{eqb-true}
 use Rattle.std.proofs.lemmas.List.{append_assoc, append-nil}
 use Rattle.std.proofs.lemmas.Grind.{common_steps}
 use Rattle.aria_base.specs.declared.calls.Call.{Call}
+use Rattle.aria_base.specs.declared.limits.TheConstants.{MOST_PERCENT}
 use Rattle.batch_rules.specs.declared.verdicts.Rule.{Rule}
 use Rattle.batch_rules.specs.declared.verdicts.Rule.TheVariants.{Plain, Reorder}
 use Rattle.proc_lang.specs.Catalogs.{Plan, IsCatalog, takes}
-use Rattle.script_text.specs.declared.fits.TheConstants.{MOST_PERCENT}
 use Rattle.script_text.specs.Cuts.{Lacks}
 use Rattle.script_text.specs.Written.{IsArgs}
 use Rattle.image_text.specs.Lines.{lines_text, written, lines_taken, pushes}

@@ -10,10 +10,9 @@ ghost use Rattle.image_text.specs.Payloads.{Batch, rule_byte, rule_of, payload_t
 
 use crate::exactly::{append_line, exact_call};
 use crate::lines::{Taker, take_lines};
-use aria_base::{Call, Memory};
+use aria_base::{Call, MOST_PERCENT, Memory};
 use batch_rules::verdicts::Rule;
 use proc_lang::Catalog;
-use script_text::MOST_PERCENT;
 use std::alloc::Global;
 use std::marker::Model;
 

@@ -1,22 +1,17 @@
 // A log in one file of a disk: records are added at its end, and read from its beginning.
-ghost use Rattle.std.specs.Prelude.{◌≡◌, ◌⊎◌, ◌*◌, ◌+◌, ◌<◌, ◌≤◌, ◌^◌, ◌++◌, [], ◌∷◌, List, length, take, drop, IfOk, IfErr, OnOk, OnErr, IfSome, option_map};
+ghost use Rattle.std.specs.Prelude.{◌≡◌, ◌⊎◌, ◌*◌, ◌+◌, ◌<◌, ◌≤◌, ◌++◌, [], ◌∷◌, List, length, take, drop, IfOk, IfErr, OnOk, OnErr, IfSome, option_map};
 ghost use Rattle.aria_base.specs.Faults.{one_more};
 ghost use Rattle.disk_model.specs.Files.{untouched, put, loosened};
 ghost use Rattle.disk_model.specs.Histories.{current, EachImage, HasImage, IsStable, Leaves, Still};
 ghost use Rattle.input_log.specs.Layout.{Ends, log_of, next_of, next_is, with_record, behind_gate, record_bytes, EndsAt, IsWithOrWithout};
 ghost use Rattle.disk_model.specs.Causes.{WriteCause, FaultOnly, NoDamage};
 ghost use Rattle.input_log.specs.Causes.{ReadCause, GateCause};
+ghost use Rattle.input_log.specs.declared.limits.TheConstants.{MOST_BEFORE, MOST_PAYLOAD};
 
 use aria_base::Bytes;
 use byteorder::{ByteOrder, LittleEndian};
-use disk_model::{Disk, LogRefused, write_synced};
+use disk_model::{Disk, LogRefused, OPEN, SHUT, write_synced};
 use std::alloc::{AllocError, Global};
-
-/// The byte of an open gate. Every other byte is a closed one.
-const OPEN: u8 = 1;
-
-/// The byte that is written for a closed gate.
-const SHUT: u8 = 0;
 
 /// How many bytes the payload's length has.
 const LENGTH_BYTES: usize = 4;
@@ -68,8 +63,8 @@ pub fn append<D: Disk>(
 ) -> Result<(), LogRefused>
     requires file { end.old.file < 4 }
     requires ends { EachImage (current (D.history disk.old) end.old.file) (λ image. EndsAt image end.old.at end.old.batches) }
-    requires short { end.old.at ≤ 2 ^ 28 + 2 ^ 26 }
-    requires payload { length payload.now ≤ 40970002 }
+    requires short { end.old.at ≤ MOST_BEFORE }
+    requires payload { length payload.now ≤ MOST_PAYLOAD }
 
     // A stop at any moment leaves the payloads from before, with this one or without.
     ensures images { Leaves (D.history disk.old) (D.history disk.new) end.old.file (IsWithOrWithout (current (D.history disk.old) end.old.file) payload.now) }
@@ -95,7 +90,7 @@ pub fn append<D: Disk>(
 
 // The payload's length, the payload and a closed gate.
 fn behind_gate(alloc: Global, payload: &[u8]) -> Result<Vec<u8>, AllocError>
-    requires { length payload.now ≤ 40970002 }
+    requires { length payload.now ≤ MOST_PAYLOAD }
     ensures { IfOk result (λ v. v.items ≡ behind_gate payload.now) }
 {
     let mut len = [0; LENGTH_BYTES];

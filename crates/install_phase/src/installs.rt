@@ -1,5 +1,6 @@
 // Workers that make the writes, each in its own shards.
 ghost use Rattle.std.specs.Prelude.{◌≡◌, ◌≤◌, map, flat_map, IfOk};
+ghost use Rattle.aria_base.specs.declared.limits.TheConstants.{MOST_WORKERS};
 ghost use Rattle.install_phase.specs.Jobs.{finished};
 ghost use Rattle.install_phase.specs.Installs.{after_finishing, after_changes};
 
@@ -25,7 +26,7 @@ pub fn install<P: Pace + Sync, R: Threads + Sync>(
     workers: u32,
     pace: &P,
 ) -> Result<Tables, Memory>
-    requires workers { (1 ≤ workers) × (workers ≤ 64) }
+    requires workers { (1 ≤ workers) × (workers ≤ MOST_WORKERS) }
     ensures { IfOk result (λ after. after ≡ after_finishing 1 tables outcomes.items verdicts.now) }
 {
     let parts = share_out(rt, alloc, &Taking { alloc }, outcomes, workers)?;
@@ -79,7 +80,7 @@ pub fn install_changes<P: Pace + Sync, R: Threads + Sync>(
     workers: u32,
     pace: &P,
 ) -> Result<Tables, Memory>
-    requires workers { (1 ≤ workers) × (workers ≤ 64) }
+    requires workers { (1 ≤ workers) × (workers ≤ MOST_WORKERS) }
     ensures { IfOk result (λ after. after ≡ after_changes 1 tables list.items verdicts.now) }
 {
     let deals = share_out(rt, alloc, &Dealing { alloc, verdicts }, list, workers)?;

@@ -1,6 +1,7 @@
 // A list that is cut into parts, one for each worker, and what the workers make of them.
 ghost use Rattle.std.specs.Prelude.{◌≤◌, ◌<◌, ◌+◌, ℕ, List, IfOk};
 ghost use Rattle.std.specs.Thread.{IsSync};
+ghost use Rattle.aria_base.specs.declared.limits.TheConstants.{MOST_WORKERS};
 ghost use Rattle.install_phase.specs.Shares.{HaveMade};
 
 use aria_base::Memory;
@@ -48,7 +49,7 @@ fn spread<T: PartWork + Sync, R: Threads + Sync>(
     who: u32,
     others: u32,
 ) -> Result<Vec<T::Made>, Memory>
-    requires { who + others < 64 }
+    requires { who + others < MOST_WORKERS }
     ensures { IfOk result (λ all. HaveMade (T.makes task.now) 0 items.items all.items) }
 {
     if others == 0 {
@@ -65,7 +66,7 @@ fn spread<T: PartWork + Sync, R: Threads + Sync>(
             ensures { IfOk result (T.makes task.entry.now first part.items) }
         { task.run(part, first, who) },
         move || -> Result<Vec<T::Made>, Memory>
-            requires { IsSync R.row × IsSync T.row × (next + fewer < 64) }
+            requires { IsSync R.row × IsSync T.row × (next + fewer < MOST_WORKERS) }
             ensures { IfOk result (λ all. HaveMade (T.makes task.entry.now) 0 items.items all.items) }
         { spread(rt, alloc, task, items, next, fewer) },
     );

@@ -1,6 +1,7 @@
 // What no clause shows: the rows after a batch worked out by hand. `worked_phases` has two workers write
 // at the same time, and counts the steps that they tell of.
 ghost use Rattle.std.specs.Prelude.{◌≤◌};
+ghost use Rattle.aria_base.specs.declared.limits.TheConstants.{MOST_WORKERS};
 
 use crate::{install, install_changes};
 use aria_base::{Changes, Free, Key, Keys, Memory, Part, Parts, Row, Value};
@@ -71,7 +72,7 @@ fn verdict(number: i64) -> Verdict {
 
 /// The accounts after the batch.
 fn installed<R: Threads + Sync>(rt: &R, alloc: Global, workers: u32) -> Result<Tables, Fail>
-    requires { (1 ≤ workers) × (workers ≤ 64) }
+    requires { (1 ≤ workers) × (workers ≤ MOST_WORKERS) }
 {
     let mut outcomes = Vec::new(alloc);
     let mut verdicts = Vec::new(alloc);
@@ -132,7 +133,7 @@ fn change(alloc: Global, number: i64) -> Result<Changes, Memory> {
 
 /// The accounts after the crowd.
 fn crowded<R: Threads + Sync>(rt: &R, alloc: Global, workers: u32) -> Result<Tables, Fail>
-    requires { (1 ≤ workers) × (workers ≤ 64) }
+    requires { (1 ≤ workers) × (workers ≤ MOST_WORKERS) }
 {
     let mut list = Vec::new(alloc);
     let mut verdicts = Vec::new(alloc);

@@ -2,7 +2,7 @@
 ghost use Rattle.std.specs.Prelude.{◌≡◌, ◌≤◌, ◌<◌, ◌↔◌, [], All, IsTrue, IfOk, OnOk, length, map};
 ghost use Rattle.std.specs.FinMap as fin;
 ghost use Rattle.std.specs.List.{sum_by};
-ghost use Rattle.aria_base.specs.declared.limits.TheConstants.{MOST_REQUESTS};
+ghost use Rattle.aria_base.specs.declared.limits.TheConstants.{MOST_REQUESTS, MOST_WORKERS};
 ghost use Rattle.aria_base.specs.Orders.{key_cmp};
 ghost use Rattle.batch_rules.specs.Numberings.{IsOneToOneOn};
 ghost use Rattle.dep_rules.specs.Decisions.{reads_of, writes_of};
@@ -79,7 +79,7 @@ impl Kept {
         requires not_full { fin.len self ≤ MOST_KEPT }
         requires count { length sets.now ≤ MOST_REQUESTS }
         requires touched { fin.len (numbers_of sets.now) ≤ MOST_TOUCHED }
-        requires workers { (1 ≤ workers) × (workers ≤ 64) }
+        requires workers { (1 ≤ workers) × (workers ≤ MOST_WORKERS) }
         ensures kept { IfOk result (λ r. r.0 ≡ with_sets self sets.now) }
         ensures lists { IfOk result (λ r. IsNumbered key_cmp reads_of writes_of (fin.keys r.0) (number_in r.0) sets.now r.1) }
         ensures keys { IfOk result (λ r. r.1.keys ≡ fin.len r.0) }

@@ -1,6 +1,7 @@
 // What no clause shows: that keys of every kind are told apart, that the workers' answers are one, and
 // that a crowded stretch of the table takes no further key.
 ghost use Rattle.std.specs.Prelude.{◌≤◌, vec_len};
+ghost use Rattle.aria_base.specs.declared.limits.TheConstants.{MOST_WORKERS};
 
 use crate::hashed::{Hashed, stretch_of};
 use crate::{Kept, may_be_numbered, number};
@@ -106,7 +107,7 @@ fn kept_on<R: Abort + Threads + Sync>(
     sets: &[Sets],
     workers: u32,
 ) -> Result<(Kept, Vec<Vec<u32>>), Fail>
-    requires { (1 ≤ workers) × (workers ≤ 64) }
+    requires { (1 ≤ workers) × (workers ≤ MOST_WORKERS) }
 {
     if kept.full() || !may_be_numbered(sets) {
         panic!(rt; "too many keys or sets");
@@ -169,7 +170,7 @@ fn two_batches<R: Abort + Threads + Sync>(
     second: &[Sets],
     workers: u32,
 ) -> Result<(Vec<Vec<u32>>, Vec<Vec<u32>>), Fail>
-    requires { (1 ≤ workers) × (workers ≤ 64) }
+    requires { (1 ≤ workers) × (workers ≤ MOST_WORKERS) }
 {
     let (kept, lists) = kept_on(rt, alloc, Kept::new(alloc), first, workers)?;
     let (_kept, more) = kept_on(rt, alloc, kept, second, workers)?;

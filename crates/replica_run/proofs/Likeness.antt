@@ -3,6 +3,7 @@ use Rattle.std.proofs.Common.{◌≡◌, ◌∙◌, sym, ap, subst, refl, ℕ, �
 use Rattle.std.specs.List.{All, slice_get}
 use Rattle.std.proofs.lemmas.List.Elements.{All-cons, All-weaker, length_all_zip, AllZip-get_or}
 use Rattle.aria_base.specs.declared.calls.Call.{Call}
+use Rattle.aria_base.specs.declared.limits.TheConstants.{MOST_REPLICAS}
 use Rattle.batch_core.specs.Steps.{State, step, answer}
 use Rattle.batch_core.specs.declared.answers.Answer.{Answer}
 use Rattle.batch_engine.specs.Engines.{Between, state_in, handed_by}
@@ -14,7 +15,7 @@ use Rattle.replica_run.specs.declared.jobs.Ran.{Ran}
 use Rattle.replica_run.proofs.Pairs.{zip_map, zip_lengths, one_of_all, holds_of_all, ap_two}
 
 -- an engine and equal copies of it
-pub alike_copies : (first : Between) (copies : List Between) → All (λ copy. copy ≡ unmarked first) copies → length copies < 8 → AreAlike (first ∷ copies)
+pub alike_copies : (first : Between) (copies : List Between) → All (λ copy. copy ≡ unmarked first) copies → length copies < MOST_REPLICAS → AreAlike (first ∷ copies)
 alike_copies first copies same few =
     let each : All (λ engine. unmarked engine ≡ unmarked first) (first ∷ copies) =
     All-cons (λ (engine : Between). unmarked engine ≡ unmarked first) first copies refl

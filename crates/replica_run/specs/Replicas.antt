@@ -2,7 +2,7 @@
 use Rattle.std.specs.Prelude.{◌≡◌, ◌≤◌, ◌<◌, ◌+◌, true, List, None, length}
 use Rattle.std.specs.List.{All, AllZip}
 use Rattle.aria_base.specs.declared.calls.Call.{Call}
-use Rattle.aria_base.specs.declared.limits.TheConstants.{GREATEST_NUMBER, MOST_REQUESTS}
+use Rattle.aria_base.specs.declared.limits.TheConstants.{GREATEST_NUMBER, MOST_PERCENT, MOST_REPLICAS, MOST_REQUESTS, MOST_WORKERS}
 use Rattle.batch_core.specs.Progress.{IsProgress}
 use Rattle.batch_core.specs.Serial.{IsSerialAnswer}
 use Rattle.batch_core.specs.Steps.{list_of, step, answer}
@@ -19,7 +19,7 @@ unmarked engine = record engine { marked = None }
 -- at least one engine, at most eight, and any two of them alike but for what they marked
 pub record AreAlike (engines : List Between) : Type 0 where
   pub some : 1 ≤ length engines
-  pub few : length engines ≤ 8
+  pub few : length engines ≤ MOST_REPLICAS
   pub alike : All (λ one. All (λ other. unmarked one ≡ unmarked other) engines) engines
 
 -- the engine may run a batch of these calls
@@ -28,8 +28,8 @@ pub record MayRun (config : Config) (calls : List Call) (engine : Between) : Typ
   pub room : length engine.carried + length calls ≤ MOST_REQUESTS
   pub batches : engine.batches < GREATEST_NUMBER
   pub requests : engine.requests + length calls ≤ GREATEST_NUMBER
-  pub percent : config.fallback ≤ 101
-  pub workers : (1 ≤ config.workers) × (config.workers ≤ 64)
+  pub percent : config.fallback ≤ MOST_PERCENT
+  pub workers : (1 ≤ config.workers) × (config.workers ≤ MOST_WORKERS)
 
 -- the engine is what a batch of these calls leaves of `before`, and has marked that batch itself
 pub record IsAfter (config : Config) (calls : List Call) (before after : Between) : Type 0 where

@@ -1,6 +1,7 @@
 // Engines that run the same batches at once.
 ghost use Rattle.std.specs.Prelude.{◌≡◌, ◌≤◌, ◌∷◌, length, drop, slice_get, Some, IfOk};
 ghost use Rattle.std.specs.List.{All};
+ghost use Rattle.aria_base.specs.declared.limits.TheConstants.{MOST_REPLICAS};
 ghost use Rattle.replica_run.specs.Replicas.{MayRun, AreAfter, IsSerialFor, IsProgressFor, answer_of, unmarked};
 
 use crate::at_once::run_all;
@@ -41,7 +42,7 @@ impl Model for Replicas {
 impl Replicas {
     /// This engine and copies of it, `count` engines in all.
     pub fn begin(alloc: Global, first: Engine, count: u32) -> Result<Replicas, Memory>
-        requires { (1 ≤ count) × (count ≤ 8) }
+        requires { (1 ≤ count) × (count ≤ MOST_REPLICAS) }
         ensures first { IfOk result (λ replicas. slice_get replicas 0 ≡ Some first) }
         ensures copies { IfOk result (λ replicas. All (λ copy. copy ≡ unmarked first) (drop 1 replicas)) }
         ensures count { IfOk result (λ replicas. length replicas ≡ count) }
@@ -88,7 +89,7 @@ impl Replicas {
     /// How many engines there are, from 1 to 8. No memory.
     pub fn count(&self) -> u32
         ensures count { result ≡ length self.now }
-        ensures within { (1 ≤ result) × (result ≤ 8) }
+        ensures within { (1 ≤ result) × (result ≤ MOST_REPLICAS) }
     {
         self.engines.len() as u32
     }

@@ -1,7 +1,7 @@
 // The marks of all requests of a batch, by several workers.
 ghost use Rattle.std.specs.Prelude.{◌≡◌, ◌≤◌, ◌<◌, ◌*◌, ℕ, List, length, IfOk};
 ghost use Rattle.aria_base.specs.Reserved.{AreAbove};
-ghost use Rattle.aria_base.specs.declared.limits.TheConstants.{TAGS};
+ghost use Rattle.aria_base.specs.declared.limits.TheConstants.{MOST_WORKERS, TAGS};
 ghost use Rattle.dep_rules.specs.Sheets.{AreMarksOf};
 ghost use Rattle.dep_rules.specs.Words.{Tell};
 ghost use Rattle.resv_words.specs.Seats.{most_keys, Tells};
@@ -31,7 +31,7 @@ pub fn reserve<P: Pace + Sync, R: Threads + Sync>(
     workers: u32,
     pace: &P,
 ) -> Result<Closed, Memory>
-    requires workers { (1 ≤ workers) × (workers ≤ 64) }
+    requires workers { (1 ≤ workers) × (workers ≤ MOST_WORKERS) }
     requires keys { numbered.now.keys ≤ most_keys }
     requires old { length old.items ≤ 2 * numbered.now.keys }
     requires tag { tag < TAGS }

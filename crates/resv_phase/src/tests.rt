@@ -1,6 +1,7 @@
 // What no clause shows: the words of batches worked out by hand. `worked_phases` has two workers mark at
 // the same time, and counts the steps that they tell of.
 ghost use Rattle.std.specs.Prelude.{◌≡◌, ◌≤◌, ◌<◌, length, map, IfOk, All};
+ghost use Rattle.aria_base.specs.declared.limits.TheConstants.{MOST_WORKERS};
 ghost use Rattle.dep_rules.specs.Sheets.{AllBelow};
 
 use crate::reserve;
@@ -80,7 +81,7 @@ fn batch(
 /// The words of a thousand requests over a hundred keys: each reads the key of its TID, and writes that
 /// of three times its TID.
 fn words_by<R: Threads + Sync>(rt: &R, alloc: Global, workers: u32) -> Result<Vec<u64>, Memory>
-    requires { (1 ≤ workers) × (workers ≤ 64) }
+    requires { (1 ≤ workers) × (workers ≤ MOST_WORKERS) }
 {
     let reads = Touches { from: 1, factor: 1 };
     let writes = Touches { from: 1, factor: 3 };

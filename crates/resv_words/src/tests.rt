@@ -1,6 +1,7 @@
 // Marks by several threads and their words, against a fold over the same marks.
 ghost use Rattle.std.specs.Prelude.{◌≡◌, ◌+◌, ◌<◌, ◌≤◌, length, IfOk};
 ghost use Rattle.std.specs.Thread.{IsSync};
+ghost use Rattle.aria_base.specs.declared.limits.TheConstants.{MOST_WORKERS};
 
 use crate::{Closed, WordSeat, Words};
 use aria_base::Memory;
@@ -14,7 +15,7 @@ const MARKED_TAG: u64 = 77;
 
 // The TID by which a worker writes a key, or reads it where the stride is another.
 fn tid_of(worker: u32, key: u32, stride: u32) -> u32
-    requires worker { worker < 64 }
+    requires worker { worker < MOST_WORKERS }
     requires key { key < KEYS }
     requires stride { stride < 1000 }
     ensures { (1 ≤ result) × (result ≤ 10000) }
@@ -26,7 +27,7 @@ fn tid_of(worker: u32, key: u32, stride: u32) -> u32
 fn mark_all(words: &Words, mut seat: WordSeat, worker: u32) -> WordSeat
     requires own { seat.table ≡ words.now.table }
     requires keys { words.now.keys ≡ KEYS }
-    requires worker { worker < 64 }
+    requires worker { worker < MOST_WORKERS }
     ensures { (result.table ≡ seat.table) × (result.share ≡ seat.share) }
 {
     for step in 0..KEYS {
@@ -50,7 +51,7 @@ fn mark_by<R: Threads + Sync>(
 ) -> Result<WordSeat, Memory>
     requires own { seat.table ≡ words.now.table }
     requires keys { words.now.keys ≡ KEYS }
-    requires worker { last < 64 }
+    requires worker { last < MOST_WORKERS }
     requires share { last < seat.share }
     ensures { IfOk result (λ all. (all.table ≡ seat.table) × (all.share ≡ seat.share)) }
 {
@@ -74,7 +75,7 @@ fn mark_by<R: Threads + Sync>(
 
 // The words of the same marks, each folded in after the others.
 fn folded(alloc: Global, workers: u32) -> Result<Vec<u64>, Memory>
-    requires { workers ≤ 64 }
+    requires { workers ≤ MOST_WORKERS }
 {
     let mut words = Vec::from_elem(alloc, u64::MAX, 2 * KEYS as usize)?;
     for worker in 0..workers {
@@ -90,7 +91,7 @@ fn folded(alloc: Global, workers: u32) -> Result<Vec<u64>, Memory>
 }
 
 fn close_after<R: Threads + Sync>(rt: &R, alloc: Global, workers: u32) -> Result<Closed, Memory>
-    requires { (1 ≤ workers) × (workers ≤ 64) }
+    requires { (1 ≤ workers) × (workers ≤ MOST_WORKERS) }
 {
     let (words, seat) = Words::over(alloc, Vec::new(alloc), KEYS, MARKED_TAG)?;
     let seat = mark_by(rt, &words, seat, workers - 1)?;

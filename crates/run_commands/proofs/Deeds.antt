@@ -7,7 +7,7 @@ use Rattle.aria_base.specs.Orders.{Cells}
 use Rattle.aria_base.specs.Schemas.{Fits}
 use Rattle.aria_base.specs.declared.calls.Call.{Call}
 use Rattle.aria_base.specs.declared.keys.Key.{Key}
-use Rattle.aria_base.specs.declared.limits.TheConstants.{GREATEST_NUMBER, MOST_REQUESTS}
+use Rattle.aria_base.specs.declared.limits.TheConstants.{GREATEST_NUMBER, MOST_PERCENT, MOST_REPLICAS, MOST_REQUESTS}
 use Rattle.batch_core.specs.Steps.{State, Handed, step}
 use Rattle.batch_engine.specs.Engines.{Between}
 use Rattle.batch_rules.specs.declared.verdicts.Rule.{Rule}
@@ -19,7 +19,6 @@ use Rattle.script_places.specs.declared.places.Mode.TheVariants as mode
 use Rattle.script_places.specs.declared.heads.Head.{Head}
 use Rattle.script_places.specs.declared.heads.Head.TheVariants as head
 use Rattle.script_places.specs.declared.places.Place.{Place}
-use Rattle.script_text.specs.declared.fits.TheConstants.{MOST_PERCENT}
 use Rattle.serving.specs.Lives.{IsNext, IsRunnable, MayServe, batch_text, first_state, handed_at, next_handed, next_state, next_text, plan_of, state_of}
 use Rattle.serving.specs.declared.lives.Live.{Live}
 use Rattle.run_commands.specs.Bases.{IsBegun, IsBounded, IsHead, IsListed, IsUnder, plan_in, put_in, set_in, settings_with, state_in}
@@ -67,7 +66,7 @@ put_stands place work next key row may calls b replicas each =
         ended = subst (λ (x : Base). HasEnded place.rows_ended x) (sym b) (put_ended place.rows_ended work.base key row h.ended);
         bounded = subst IsBounded (sym b) (put_bounded work.base key row h.bounded);
         listed = rw each (subst (λ (x : Base). IsListed work.each x) (sym b) (put_listed work.each work.base key row h.listed));
-        engines = subst (λ (n : ℕ). (1 ≤ n) × (n ≤ 8)) (sym replicas) h.engines;
+        engines = subst (λ (n : ℕ). (1 ≤ n) × (n ≤ MOST_REPLICAS)) (sym replicas) h.engines;
       };
       counted = may.stands.counted ∙ ap length (sym calls);
       few = rw calls may.stands.few;
@@ -133,7 +132,7 @@ set_stands place work next rule percent may calls b replicas each =
         ended = subst (λ (x : Base). HasEnded place.rows_ended x) (sym b) (set_ended place.rows_ended work.base rule percent h.ended);
         bounded = subst IsBounded (sym b) (set_bounded work.base rule percent may.within h.bounded);
         listed = rw each (subst (λ (x : Base). IsListed work.each x) (sym b) (set_listed work.each work.base rule percent h.listed));
-        engines = subst (λ (n : ℕ). (1 ≤ n) × (n ≤ 8)) (sym replicas) h.engines;
+        engines = subst (λ (n : ℕ). (1 ≤ n) × (n ≤ MOST_REPLICAS)) (sym replicas) h.engines;
       };
       counted = may.stands.counted ∙ ap length (sym calls);
       few = rw calls may.stands.few;
@@ -157,7 +156,7 @@ close_stands place work next may none b replicas each =
         ended = subst (λ (x : Base). HasEnded place.rows_ended x) (sym b) h.ended;
         bounded = subst IsBounded (sym b) h.bounded;
         listed = rw each (subst (λ (x : Base). IsListed work.each x) (sym b) h.listed);
-        engines = subst (λ (n : ℕ). (1 ≤ n) × (n ≤ 8)) (sym replicas) h.engines;
+        engines = subst (λ (n : ℕ). (1 ≤ n) × (n ≤ MOST_REPLICAS)) (sym replicas) h.engines;
       };
       counted = may.counted ∙ ap length (sym none);
       few = rw none (omega arith);
@@ -200,7 +199,7 @@ run_stands place work next before after may begun is none b replicas each =
         ended = subst (λ (x : Base). HasEnded place.rows_ended x) (sym b) may.rows;
         bounded = subst IsBounded (sym b) is.runnable;
         listed = rw each (subst (λ (x : Base). IsListed work.each x) (sym b) (is.each ∙ begun.listed));
-        engines = subst (λ (n : ℕ). (1 ≤ n) × (n ≤ 8)) (sym replicas) may.holds.engines;
+        engines = subst (λ (n : ℕ). (1 ≤ n) × (n ≤ MOST_REPLICAS)) (sym replicas) may.holds.engines;
       };
       counted = may.counted ∙ ap length (sym none);
       few = rw none (omega arith);
@@ -239,7 +238,7 @@ module _ (place : Place) (work : Work) (before : Live) (begun : IsBegun place.he
 -- ---- over a database that runs
 
 pub resume_stands : (plan : Plan) (work : Work) (live : Live) → plan ≡ plan_of live → work.calls.items ≡ [] → work.base ≡ base.Runs live → work.each ≡ live.each → IsRunnable live
-    → (1 ≤ work.replicas) × (work.replicas ≤ 8) → Stands (start_with mode.Run plan) work
+    → (1 ≤ work.replicas) × (work.replicas ≤ MOST_REPLICAS) → Stands (start_with mode.Run plan) work
 resume_stands plan work live of none b each runnable engines =
     let place = start_with mode.Run plan in
     record {

@@ -7,7 +7,7 @@ use Rattle.aria_base.specs.Orders.{Cells}
 use Rattle.aria_base.specs.declared.calls.Arg.{Arg}
 use Rattle.aria_base.specs.declared.calls.Call.{Call}
 use Rattle.aria_base.specs.declared.keys.Part.{Part}
-use Rattle.aria_base.specs.declared.limits.TheConstants.{GREATEST_NUMBER, MOST_REQUESTS}
+use Rattle.aria_base.specs.declared.limits.TheConstants.{GREATEST_NUMBER, LONGEST_LINE, MOST_REQUESTS}
 use Rattle.cat_builtin.specs.Builtins.{builtin_named}
 use Rattle.image_text.specs.Exactly.{line_of_call}
 use Rattle.proc_lang.specs.Catalogs.{Plan}
@@ -77,13 +77,13 @@ after_within done feed (b ∷ bs) longest is begun all =
 pub scan_within : (feed : Feed) (bytes : List ℕ) → length feed.begun ≤ feed.longest → IsWithin feed.longest (scan feed bytes)
 scan_within feed bytes begun = after_within [] feed bytes feed.longest refl begun (λ i d below. absurd (omega arith))
 
-pub scan_short : (feed : Feed) (bytes : List ℕ) → feed.longest ≤ 4096 → length feed.begun ≤ feed.longest → All (λ line. length line ≤ 4096) (scan feed bytes).lines
-scan_short feed bytes few begun = All-weaker (λ line. length line ≤ feed.longest) (λ line. length line ≤ 4096) (λ line h. omega arith) (scan feed bytes).lines (scan_within feed bytes begun).lines
+pub scan_short : (feed : Feed) (bytes : List ℕ) → feed.longest ≤ LONGEST_LINE → length feed.begun ≤ feed.longest → All (λ line. length line ≤ LONGEST_LINE) (scan feed bytes).lines
+scan_short feed bytes few begun = All-weaker (λ line. length line ≤ feed.longest) (λ line. length line ≤ LONGEST_LINE) (λ line h. omega arith) (scan feed bytes).lines (scan_within feed bytes begun).lines
 
-pub last_short : (feed : Feed) → feed.longest ≤ 4096 → length feed.begun ≤ feed.longest → IfSome (last_line feed) (λ line. length line ≤ 4096)
+pub last_short : (feed : Feed) → feed.longest ≤ LONGEST_LINE → length feed.begun ≤ feed.longest → IfSome (last_line feed) (λ line. length line ≤ LONGEST_LINE)
 last_short feed few begun = by (length feed.begun == 0)
   where
-    by : (none : Bool) → IfSome (cond none None (Some (unreturned feed.begun))) (λ line. length line ≤ 4096)
+    by : (none : Bool) → IfSome (cond none None (Some (unreturned feed.begun))) (λ line. length line ≤ LONGEST_LINE)
     by true = tt
     by false = let line = unreturned_short feed.begun in omega arith
 
@@ -127,15 +127,15 @@ row_short p table parts row = under_short p.head (λ plan. cond p.rows_ended (Er
     (λ plan is. either_ok IsShortThere p.rows_ended (Err kind.Site) (and_then (puts p) (placed_row plan table parts row)) (λ ended. tt)
     (λ open_yet. then_ok (λ r. Unit {0}) IsShortThere (puts p) (placed_row plan table parts row) (any_ok (placed_row plan table parts row)) (λ r any. tt)))
 
-calls_short : (p : Place) (plan : Plan) (call : Call) → p.head ≡ head.Ready plan → length (line_of_call plan call) ≤ 4096 → IfOk (calls p call) IsShortThere
+calls_short : (p : Place) (plan : Plan) (call : Call) → p.head ≡ head.Ready plan → length (line_of_call plan call) ≤ LONGEST_LINE → IfOk (calls p call) IsShortThere
 calls_short p plan call is few =
     either_ok IsShortThere (nat_lt p.open_calls MOST_REQUESTS) (Ok (record p { rows_ended = true; open_calls = p.open_calls + 1 }, deed.Call call)) (Err kind.Batch)
-    (λ room. subst (λ (h : Head). length (line_of_call (plan_in h) call) ≤ 4096) (sym is) few) (λ full. tt)
+    (λ room. subst (λ (h : Head). length (line_of_call (plan_in h) call) ≤ LONGEST_LINE) (sym is) few) (λ full. tt)
 
-call_short : (p : Place) (proc : List ℕ) (args : List Arg) → 3 + length proc + weight arg_token args ≤ 4096 → IfOk (at_call p proc args) IsShortThere
+call_short : (p : Place) (proc : List ℕ) (args : List Arg) → 3 + length proc + weight arg_token args ≤ LONGEST_LINE → IfOk (at_call p proc args) IsShortThere
 call_short p proc args few = under_short p.head (λ plan. cond (has_batches p.mode) (and_then (calls p) (placed_call plan proc args)) (Err kind.Site))
     (λ plan is. either_ok IsShortThere (has_batches p.mode) (and_then (calls p) (placed_call plan proc args)) (Err kind.Site)
-    (λ may. then_ok (λ call. length (call_line plan.procs call) ≤ 4096) IsShortThere (calls p) (placed_call plan proc args) (placed_within plan proc args 4096 few) (λ call within. calls_short p plan call is within))
+    (λ may. then_ok (λ call. length (call_line plan.procs call) ≤ LONGEST_LINE) IsShortThere (calls p) (placed_call plan proc args) (placed_within plan proc args 4096 few) (λ call within. calls_short p plan call is within))
     (λ no. tt))
 
 ends_short : (p : Place) (counts : Counts) (n : ℕ) → IfOk (ends p counts n) IsShortThere
@@ -157,7 +157,7 @@ settings_short p name percent = under_short p.head (λ plan. cond (has_batches p
 
 -- what a line of a call comes to
 abbrev IsShortItem : Item → Type 0
-IsShortItem i = (proc : List ℕ) (args : List Arg) → i ≡ item.Tx proc args → 3 + length proc + weight arg_token args ≤ 4096
+IsShortItem i = (proc : List ℕ) (args : List Arg) → i ≡ item.Tx proc args → 3 + length proc + weight arg_token args ≤ LONGEST_LINE
 
 item_short : (p : Place) (counts : Counts) (i : Item) → IsShortItem i → IfOk (at_item p counts i) IsShortThere
 item_short p counts item.Skip short = tt
@@ -193,18 +193,18 @@ line_short p counts head.Unnamed line short = then_ok IsShortItem IsShortThere (
 line_short p counts (head.Text text) line short = text_line_short (without_head p) counts text line short
 line_short p counts (head.Ready plan) line short = then_ok IsShortItem IsShortThere (at_item p counts) line short (item_short p counts)
 
-said_short : (line : List ℕ) → length line ≤ 4096 → IfOk (said line) IsShortItem
+said_short : (line : List ℕ) → length line ≤ LONGEST_LINE → IfOk (said line) IsShortItem
 said_short line few = by (said line) refl
   where
     by : (r : Result Item Kind8) → said line ≡ r → IfOk r IsShortItem
     by (Err why) says = tt
     by (Ok i) says = λ proc args is. let within = call_within line proc args (says ∙ ap (λ (j : Item). Ok j) is) in omega arith
 
-asked_short : (p : Place) (counts : Counts) (line : List ℕ) → length line ≤ 4096 → IfOk (asked p counts line) IsShortThere
+asked_short : (p : Place) (counts : Counts) (line : List ℕ) → length line ≤ LONGEST_LINE → IfOk (asked p counts line) IsShortThere
 asked_short p counts line few =
     either_ok IsShortThere p.reports (Ok (next_line p, deed.Tell)) (by_head (next_line p) counts p.head (said line)) (λ told. tt)
     (λ none. line_short (next_line p) counts p.head (said line) (said_short line few))
 
 -- a line of a script asks for no call that is longer than a line of a log
-pub short_deed : (p next : Place) (counts : Counts) (line : List ℕ) (asks : Deed) → asked p counts line ≡ Ok (next, asks) → length line ≤ 4096 → IsShort (plan_in next.head) asks
+pub short_deed : (p next : Place) (counts : Counts) (line : List ℕ) (asks : Deed) → asked p counts line ≡ Ok (next, asks) → length line ≤ LONGEST_LINE → IsShort (plan_in next.head) asks
 short_deed p next counts line asks is few = subst (λ (r : Asked). IfOk r IsShortThere) is (asked_short p counts line few)

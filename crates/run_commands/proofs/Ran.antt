@@ -5,6 +5,7 @@ use Rattle.std.specs.Io.KnownBytes.{Appends}
 use Rattle.std.proofs.lemmas.List.Elements.{All-nil}
 use Rattle.aria_base.specs.Streams.{AppendsFront}
 use Rattle.aria_base.specs.declared.calls.Call.{Call}
+use Rattle.aria_base.specs.declared.limits.TheConstants.{LONGEST_LINE}
 use Rattle.aria_store.specs.Stands.{Kept}
 use Rattle.batch_core.specs.Steps.{State}
 use Rattle.disk_model.specs.Histories.{History, LeavesAll}
@@ -75,7 +76,7 @@ held_leaves_all disk plan state (Some store) c later h = held_leaves disk plan s
 
 pub no_lines : (plan : Plan) (calls : List Call) (store : Option Kept) → calls ≡ [] → IfSome store (λ _. HasLines plan calls)
 no_lines plan calls None e = tt
-no_lines plan calls (Some store) e = subst (λ (l : List Call). HasLines plan l) (sym e) (All-nil (λ (call : Call). length (line_of_call plan call) ≤ 4096))
+no_lines plan calls (Some store) e = subst (λ (l : List Call). HasLines plan l) (sym e) (All-nil (λ (call : Call). length (line_of_call plan call) ≤ LONGEST_LINE))
 
 pub open_without : (disk : History) (script : Running) → script.store ≡ None → IsOpen disk script
 open_without disk script e = record {

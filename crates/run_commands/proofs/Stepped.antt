@@ -3,6 +3,7 @@ use Rattle.std.proofs.Common.{◌≡◌, ◌∙◌, sym, ap, subst, refl, ℕ, �
 use Rattle.std.specs.Prelude.{if◌then◌else◌, Result, Ok, Err, IfOk, IfErr}
 use Rattle.std.proofs.lemmas.List.Elements.{All-nil, All-append, All-cons}
 use Rattle.aria_base.specs.declared.calls.Call.{Call}
+use Rattle.aria_base.specs.declared.limits.TheConstants.{LONGEST_LINE}
 use Rattle.aria_store.specs.Stands.{Kept}
 use Rattle.batch_core.specs.Steps.{State}
 use Rattle.disk_model.specs.Histories.{History}
@@ -79,11 +80,11 @@ quiet_keeps plan line before d held asks quiet same is disk ga gb result serves 
 
 -- ---- what stays open
 
-one_line_more : (plan : Plan) (calls : List Call) (call : Call) (store : Option Kept) → IfSome store (λ _. HasLines plan calls) → IfSome store (λ _. length (line_of_call plan call) ≤ 4096)
+one_line_more : (plan : Plan) (calls : List Call) (call : Call) (store : Option Kept) → IfSome store (λ _. HasLines plan calls) → IfSome store (λ _. length (line_of_call plan call) ≤ LONGEST_LINE)
     → IfSome store (λ _. HasLines plan (calls ++ call ∷ []))
 one_line_more plan calls call None lines short = tt
 one_line_more plan calls call (Some store) lines short =
-    let P : Call → Type 0 = λ c. length (line_of_call plan c) ≤ 4096 in
+    let P : Call → Type 0 = λ c. length (line_of_call plan c) ≤ LONGEST_LINE in
     All-append P calls (call ∷ []) lines (All-cons P call [] short (All-nil P))
 
 module _ (disk : History) (d : Doing) (store : Option Kept) (checkpoint : ℕ) (o : IsOpen disk (record { doing = d; store = store; checkpoint = checkpoint })) (ga gb : Option (List ℕ)) where

@@ -5,6 +5,7 @@ use Rattle.std.specs.Io.KnownBytes.{Appends}
 use Rattle.std.proofs.KnownBytes.{Appends-nil}
 use Rattle.std.proofs.lemmas.List.Elements.{All-drop, All-head}
 use Rattle.std.specs.List.{All}
+use Rattle.aria_base.specs.declared.limits.TheConstants.{LONGEST_LINE}
 use Rattle.batch_core.specs.Steps.{State}
 use Rattle.disk_model.specs.Histories.{History}
 use Rattle.proc_lang.specs.Catalogs.{Plan}
@@ -308,7 +309,7 @@ module _ (first : ℕ) where
   stays_on b c script next (Err why) s t = tt
 
 -- the next of lines that are all short is short
-pub short_next : (lines : List (List ℕ)) (i : ℕ) (line : List ℕ) (rest : List (List ℕ)) → drop i lines ≡ line ∷ rest → All (λ l. length l ≤ 4096) lines → length line ≤ 4096
+pub short_next : (lines : List (List ℕ)) (i : ℕ) (line : List ℕ) (rest : List (List ℕ)) → drop i lines ≡ line ∷ rest → All (λ l. length l ≤ LONGEST_LINE) lines → length line ≤ LONGEST_LINE
 short_next lines i line rest is short =
-    let P : List ℕ → Type 0 = λ l. length l ≤ 4096 in
+    let P : List ℕ → Type 0 = λ l. length l ≤ LONGEST_LINE in
     All-head P line rest (subst (λ (l : List (List ℕ)). All P l) is (All-drop P i lines short))

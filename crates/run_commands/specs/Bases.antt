@@ -5,6 +5,7 @@ use Rattle.aria_base.specs.Orders.{Cells}
 use Rattle.aria_base.specs.Schemas.{IsConsistent}
 use Rattle.aria_store.specs.Stands.{Kept}
 use Rattle.aria_base.specs.declared.keys.Key.{Key}
+use Rattle.aria_base.specs.declared.limits.TheConstants.{MOST_PERCENT, MOST_WORKERS}
 use Rattle.batch_core.specs.Steps.{State}
 use Rattle.batch_rules.specs.declared.verdicts.Rule.{Rule}
 use Rattle.dep_rules.specs.declared.configs.Config.{Config}
@@ -64,8 +65,8 @@ base_result (Err why) = Err why
 
 -- the settings are within their bounds
 pub record IsSettled (config : Config) : Type 0 where
-  pub percent : config.fallback ≤ 101
-  pub workers : (1 ≤ config.workers) × (config.workers ≤ 64)
+  pub percent : config.fallback ≤ MOST_PERCENT
+  pub workers : (1 ≤ config.workers) × (config.workers ≤ MOST_WORKERS)
 
 abbrev pub IsBounded : Base → Type 0
 IsBounded (base.Rows tables config) = IsSettled config

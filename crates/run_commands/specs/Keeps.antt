@@ -1,6 +1,7 @@
 -- What a disk holds while a script runs over it.
 use Rattle.std.specs.Prelude.{◌≡◌, ◌≤◌, ◌<◌, ◌%◌, ℕ, List, length, Option, None, IfSome}
 use Rattle.std.specs.Io.KnownBytes.{Appends}
+use Rattle.aria_base.specs.declared.limits.TheConstants.{LONGEST_LINE}
 use Rattle.aria_store.specs.Reopens.{Reopens, Found}
 use Rattle.aria_store.specs.Stands.{Kept}
 use Rattle.batch_core.specs.Steps.{State}
@@ -70,7 +71,7 @@ held_of script = told_by script.store script.doing.state
 
 -- a call that is asked for has a line that goes into a log
 abbrev pub IsShort : Plan → Deed → Type 0
-IsShort plan (deed.Call call) = length (line_of_call plan call) ≤ 4096
+IsShort plan (deed.Call call) = length (line_of_call plan call) ≤ LONGEST_LINE
 IsShort plan deed.Run = Unit {0}
 IsShort plan deed.Nothing = Unit {0}
 IsShort plan deed.Tell = Unit {0}

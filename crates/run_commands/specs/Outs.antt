@@ -1,6 +1,7 @@
 -- The output of `once`.
 use Rattle.std.specs.Prelude.{◌≡◌, ◌≤◌, ℕ, Bool, true, false, List, [], ◌++◌}
 use Rattle.std.specs.FinMap as fin
+use Rattle.aria_base.specs.declared.limits.TheConstants.{LONGEST_LINE, MOST_PERCENT, MOST_REPLICAS, MOST_WORKERS}
 use Rattle.batch_rules.specs.declared.verdicts.Rule.{Rule}
 use Rattle.command_words.specs.declared.settings.Listing.{Listing}
 use Rattle.command_words.specs.declared.settings.Listing.TheVariants.{Each, Last}
@@ -11,7 +12,7 @@ use Rattle.script_places.specs.declared.places.Mode.TheVariants as mode
 use Rattle.script_text.specs.Lines.{Feed, blank, scan}
 use Rattle.run_commands.specs.Onces.{Doing, on_line, on_end}
 use Rattle.run_commands.specs.Passes.{Turn, ending_behind, turns_whole}
-use Rattle.run_commands.specs.declared.loops.TheConstants.{MOST_BYTES, LONGEST_LINE}
+use Rattle.run_commands.specs.declared.loops.TheConstants.{MOST_BYTES}
 
 abbrev pub is_each : Listing → Bool
 is_each Each = true
@@ -46,9 +47,9 @@ out_of settings text = whole on_line (on_end settings.drain) no_line (start_of s
 
 -- the settings are within their bounds
 pub record IsInRange (settings : Once) : Type 0 where
-  pub workers : (1 ≤ settings.workers) × (settings.workers ≤ 64)
-  pub replicas : (1 ≤ settings.replicas) × (settings.replicas ≤ 8)
-  pub fallback : settings.fallback ≤ 101
+  pub workers : (1 ≤ settings.workers) × (settings.workers ≤ MOST_WORKERS)
+  pub replicas : (1 ≤ settings.replicas) × (settings.replicas ≤ MOST_REPLICAS)
+  pub fallback : settings.fallback ≤ MOST_PERCENT
 
 -- settings that differ in workers, replicas and batons alone
 pub record IsAlike (first second : Once) : Type 0 where

@@ -5,7 +5,7 @@ use Rattle.aria_base.specs.Orders.{Cells}
 use Rattle.aria_base.specs.Schemas.{Fits}
 use Rattle.aria_base.specs.declared.calls.Call.{Call}
 use Rattle.aria_base.specs.declared.keys.Key.{Key}
-use Rattle.aria_base.specs.declared.limits.TheConstants.{GREATEST_NUMBER, MOST_REQUESTS}
+use Rattle.aria_base.specs.declared.limits.TheConstants.{GREATEST_NUMBER, MOST_PERCENT, MOST_REPLICAS, MOST_REQUESTS}
 use Rattle.proc_lang.specs.Catalogs.{takes}
 use Rattle.script_places.specs.Follows.{IsReadyWith}
 use Rattle.script_places.specs.Places.{is_check}
@@ -14,7 +14,6 @@ use Rattle.script_places.specs.declared.deeds.Deed.TheVariants as deed
 use Rattle.script_places.specs.declared.heads.Head.{Head}
 use Rattle.script_places.specs.declared.heads.Head.TheVariants as head
 use Rattle.script_places.specs.declared.places.Place.{Place}
-use Rattle.script_text.specs.declared.fits.TheConstants.{MOST_PERCENT}
 use Rattle.run_commands.specs.Bases.{IsBounded, IsUnder, IsBlank, IsHead, IsListed, state_in, store_in, checkpoint_in}
 use Rattle.run_commands.specs.Onces.{Doing, Running}
 use Rattle.run_commands.specs.declared.bases.Base.{Base}
@@ -47,7 +46,7 @@ pub record Holds (place : Place) (work : Work) : Type 0 where
   pub ended : HasEnded place.rows_ended work.base
   pub bounded : IsBounded work.base
   pub listed : IsListed work.each work.base
-  pub engines : (1 ≤ work.replicas) × (work.replicas ≤ 8)
+  pub engines : (1 ≤ work.replicas) × (work.replicas ≤ MOST_REPLICAS)
 
 -- between two lines
 pub record Stands (place : Place) (work : Work) : Type 0 where

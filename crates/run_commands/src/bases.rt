@@ -1,5 +1,6 @@
 // A database before its first batch, and from then on.
 ghost use Rattle.std.specs.Prelude.{◌≡◌, ◌≤◌, IfOk};
+ghost use Rattle.aria_base.specs.declared.limits.TheConstants.{MOST_REPLICAS};
 ghost use Rattle.script_places.specs.Follows.{IsReadyWith};
 ghost use Rattle.answer_text.specs.States.{state_text};
 ghost use Rattle.serving.specs.Lives.{listing, no_plan, plan_of};
@@ -78,7 +79,7 @@ impl Base {
         replicas: u32,
         each: bool,
     ) -> Result<Live, Memory>
-        requires engines { (1 ≤ replicas) × (replicas ≤ 8) }
+        requires engines { (1 ≤ replicas) × (replicas ≤ MOST_REPLICAS) }
         requires under { IsReadyWith head.now (λ plan. IsUnder plan self) }
         requires bounded { IsBounded self }
         requires listed { IsListed each self }

@@ -4,6 +4,7 @@ ghost use Rattle.std.specs.Prelude.{◌≡◌, ◌≤◌, ◌++◌, ℕ, [], len
 ghost use Rattle.std.specs.List.{All};
 ghost use Rattle.std.specs.Io.KnownBytes.{IsAtEnd};
 ghost use Rattle.aria_base.specs.Faults.{Rose};
+ghost use Rattle.aria_base.specs.declared.limits.TheConstants.{LONGEST_LINE};
 ghost use Rattle.script_text.specs.Lines.{last_line, scan};
 ghost use Rattle.script_course.specs.Causes.{IsCause, IsReadCause, IsTaken};
 ghost use Rattle.script_course.specs.Courses.{Goes, told, told_whole, with_fault, with_last, with_lines, with_scan};
@@ -15,7 +16,7 @@ ghost use Rattle.run_commands.specs.Passes.{Line, last, past, turns, turns_whole
 ghost use Rattle.run_commands.specs.Turns.{HoldsScript, KeepsTurns, Stays};
 
 use crate::scripts::Script;
-use aria_base::{Bytes, Memory, Pace, Sink, Source};
+use aria_base::{Bytes, LONGEST_LINE, Memory, Pace, Sink, Source};
 use disk_model::Disk;
 use script_course::{PIECE, Stop, refuse};
 use script_text::{Lines, LinesRefused, Refusal};
@@ -24,9 +25,6 @@ use std::thread::Threads;
 
 /// The most bytes of an input.
 pub const MOST_BYTES: u64 = 2_147_483_648;
-
-/// The most bytes of a line.
-pub const LONGEST_LINE: u32 = 4_096;
 
 /// Reads the source to its end, and takes each line as soon as it is whole. The answer is the script behind
 /// the last line, the one at the end that no line feed completes included.
@@ -64,7 +62,7 @@ pub(crate) fn read_script<S: Source, K: Sink, D: Disk, P: Pace + Sync, R: Thread
     ensures sink { K.faults out.old ≤ K.faults out.new }
     ensures cause { IfErr result (λ stop. IsReadCause stop (Rose (S.faults input.old) (S.faults input.new)) (Rose (K.faults out.old) (K.faults out.new)) (IsSomeAnd start.store (λ _. Rose (D.history disk.old).faults (D.history disk.new).faults))) }
 {
-    let mut lines = Lines::new(alloc, MOST_BYTES, LONGEST_LINE);
+    let mut lines = Lines::new(alloc, MOST_BYTES, LONGEST_LINE as u32);
     let mut script = start;
     let mut buffer = [0; PIECE];
     loop {
@@ -102,7 +100,7 @@ fn take_piece<K: Sink, D: Disk, P: Pace + Sync, R: Threads + Sync>(
     pace: &P,
 ) -> Result<Script, Stop>
     requires open { IsOpen (D.history disk.old) script }
-    requires longest { lines.old.longest ≤ 4096 }
+    requires longest { lines.old.longest ≤ LONGEST_LINE }
     requires begun { length lines.old.begun ≤ lines.old.longest }
     ensures serves { Serves (with_scan on_line (Goes [] script.doing) (scan lines.old piece.now)) (K.given out.old) (K.given out.new) (doing_result result) }
     ensures open { IfOk result (λ next. IsOpen (D.history disk.new) next) }
@@ -136,7 +134,7 @@ fn refuse_behind<K: Sink, D: Disk, P: Pace + Sync, R: Threads + Sync>(
     pace: &P,
 ) -> Result<Script, Stop>
     requires open { IsOpen (D.history disk.old) script }
-    requires short { All (λ line. length line ≤ 4096) lines.now }
+    requires short { All (λ line. length line ≤ LONGEST_LINE) lines.now }
     ensures serves { Serves (with_fault (with_lines on_line (Goes [] script.doing) lines.now) (Some refusal.now)) (K.given out.old) (K.given out.new) (doing_result result) }
     ensures keeps { (first : ℕ) → HoldsScript first (D.history disk.old) script → KeepsTurns first (map Line lines.now ++ past (Some refusal.now)) script (D.history disk.old) (D.history disk.new) (K.given out.old) (K.given out.new) result }
     ensures untouched { script.store ≡ None → disk.new ≡ disk.old }
@@ -161,7 +159,7 @@ fn finish<K: Sink, D: Disk, P: Pace + Sync, R: Threads + Sync>(
     pace: &P,
 ) -> Result<Script, Stop>
     requires open { IsOpen (D.history disk.old) script }
-    requires longest { lines.longest ≤ 4096 }
+    requires longest { lines.longest ≤ LONGEST_LINE }
     requires begun { length lines.begun ≤ lines.longest }
     ensures serves { Serves (with_last on_line (Goes [] script.doing) (last_line lines)) (K.given out.old) (K.given out.new) (doing_result result) }
     ensures open { IfOk result (λ next. IsOpen (D.history disk.new) next) }
@@ -189,7 +187,7 @@ fn each_line<K: Sink, D: Disk, P: Pace + Sync, R: Threads + Sync>(
     pace: &P,
 ) -> Result<Script, Stop>
     requires open { IsOpen (D.history disk.old) start }
-    requires short { All (λ line. length line ≤ 4096) lines.now }
+    requires short { All (λ line. length line ≤ LONGEST_LINE) lines.now }
     ensures serves { Serves (with_lines on_line (Goes [] start.doing) lines.now) (K.given out.old) (K.given out.new) (doing_result result) }
     ensures open { IfOk result (λ next. IsOpen (D.history disk.new) next) }
     ensures keeps { (first : ℕ) → HoldsScript first (D.history disk.old) start → KeepsTurns first (map Line lines.now) start (D.history disk.old) (D.history disk.new) (K.given out.old) (K.given out.new) result }

@@ -2,6 +2,7 @@
 ghost use Rattle.std.specs.Prelude.{◌≡◌, ◌≢◌, ◌⊎◌, ◌≤◌, ℕ, List, Ok, Err, IfOk, IfErr, IfSome};
 ghost use Rattle.std.specs.Io.KnownBytes.{IsAtEnd};
 ghost use Rattle.aria_base.specs.Faults.{Rose};
+ghost use Rattle.aria_base.specs.declared.limits.TheConstants.{MOST_REPLICAS, MOST_WORKERS};
 ghost use Rattle.aria_store.specs.Reopens.{Reopened, Reopens};
 ghost use Rattle.answer_text.specs.Notices.{at_text};
 ghost use Rattle.script_course.specs.Causes.{IsCause, IsReadCause};
@@ -44,8 +45,8 @@ pub fn run<S: Source, K: Sink, D: Disk, P: Pace + Sync, R: Threads + Sync>(
     disk: &mut D,
     pace: &P,
 ) -> Result<u8, Stop>
-    requires workers { (1 ≤ settings.now.workers) × (settings.now.workers ≤ 64) }
-    requires replicas { (1 ≤ settings.now.replicas) × (settings.now.replicas ≤ 8) }
+    requires workers { (1 ≤ settings.now.workers) × (settings.now.workers ≤ MOST_WORKERS) }
+    requires replicas { (1 ≤ settings.now.replicas) × (settings.now.replicas ≤ MOST_REPLICAS) }
     ensures completes { (images : ℕ → List ℕ) (found : Reopened) → ReadsAs (D.history disk.old) images → Reopens images found → CompletesOver settings.now (opened images found) (S.left input.old) (S.left input.new) (K.given out.old) (K.given out.new) result }
 
     // A stop at any moment leaves the batches of the store with some first ones of the script behind them:
@@ -89,7 +90,7 @@ fn run_over<S: Source, K: Sink, D: Disk, P: Pace + Sync, R: Threads + Sync>(
     disk: &mut D,
     pace: &P,
 ) -> Result<u8, Stop>
-    requires engines { (1 ≤ settings.now.replicas) × (settings.now.replicas ≤ 8) }
+    requires engines { (1 ≤ settings.now.replicas) × (settings.now.replicas ≤ MOST_REPLICAS) }
     requires runnable { IsRunnable live }
     requires logging { IsLogging (D.history disk.old) live }
     ensures completes { Completes (told_from (over live)) (out_from settings.now.drain (over live)) (S.left input.old) (S.left input.new) (K.given out.old) (K.given out.new) result }

@@ -1,6 +1,7 @@
 // A script between two of its lines, and the next line.
 ghost use Rattle.std.specs.Prelude.{◌≡◌, ◌≢◌, ◌≤◌, ℕ, List, [], ◌∷◌, length, None, false, IfOk, IfErr, IfSome, IsSomeAnd};
 ghost use Rattle.aria_base.specs.Faults.{Rose};
+ghost use Rattle.aria_base.specs.declared.limits.TheConstants.{LONGEST_LINE, MOST_REPLICAS};
 ghost use Rattle.answer_text.specs.Notices.{kept_text};
 ghost use Rattle.script_course.specs.Causes.{IsCause};
 ghost use Rattle.script_course.specs.Courses.{Goes};
@@ -62,7 +63,7 @@ impl Script {
     /// Before the first line, without a store.
     pub fn start(alloc: Global, config: Config, replicas: u32, each: bool) -> Result<Script, Memory>
         requires settled { IsSettled config }
-        requires engines { (1 ≤ replicas) × (replicas ≤ 8) }
+        requires engines { (1 ≤ replicas) × (replicas ≤ MOST_REPLICAS) }
         ensures doing { IfOk result (λ script. script.doing ≡ start_by config.rule config.fallback each) }
         ensures store { IfOk result (λ script. script.store ≡ None) }
     {
@@ -81,7 +82,7 @@ impl Script {
     /// The script brings no catalogue.
     pub fn resume(alloc: Global, live: Live, replicas: u32) -> Result<Script, Memory>
         requires runnable { IsRunnable live }
-        requires engines { (1 ≤ replicas) × (replicas ≤ 8) }
+        requires engines { (1 ≤ replicas) × (replicas ≤ MOST_REPLICAS) }
         ensures doing { IfOk result (λ script. script.doing ≡ record { place = start_with mode.Run (plan_of live); calls = []; state = state_of live; each = live.each }) }
         ensures store { IfOk result (λ script. script.store ≡ live.store) }
         ensures checkpoint { IfOk result (λ script. script.checkpoint ≡ live.checkpoint) }
@@ -111,7 +112,7 @@ impl Script {
         pace: &P,
     ) -> Result<Script, Stop>
         requires open { IsOpen (D.history disk.old) self }
-        requires short { length line.now ≤ 4096 }
+        requires short { length line.now ≤ LONGEST_LINE }
         ensures serves { Serves (on_line self.doing line.now) (K.given out.old) (K.given out.new) (doing_result result) }
         ensures open { IfOk result (λ next. IsOpen (D.history disk.new) next) }
 

@@ -11,7 +11,7 @@ use Rattle.aria_base.specs.declared.calls.Arg.{Arg}
 use Rattle.aria_base.specs.declared.calls.Call.{Call}
 use Rattle.aria_base.specs.declared.keys.Key.{Key}
 use Rattle.aria_base.specs.declared.keys.Part.{Part}
-use Rattle.aria_base.specs.declared.limits.TheConstants.{GREATEST_NUMBER, MOST_REQUESTS}
+use Rattle.aria_base.specs.declared.limits.TheConstants.{GREATEST_NUMBER, MOST_PERCENT, MOST_REQUESTS}
 use Rattle.aria_base.specs.declared.schemas.Table.{Table}
 use Rattle.aria_base.specs.declared.values.Kind.{Kind}
 use Rattle.aria_base.specs.declared.values.Kind.TheVariants as kind
@@ -20,7 +20,6 @@ use Rattle.cat_builtin.specs.Builtins.{builtin_named}
 use Rattle.cat_text.specs.Texts.{catalog_of}
 use Rattle.script_text.specs.Fits.{and_then, is_kind, are_kinds, fits_table, row_fits, row_in, placed_row, table_named, call_of, placed_call, proc_named, with_percent, settings_by, placed_settings, rule_named}
 use Rattle.script_text.specs.Forms.{said}
-use Rattle.script_text.specs.declared.fits.TheConstants.{MOST_PERCENT}
 use Rattle.script_text.specs.declared.items.Item.{Item}
 use Rattle.script_text.specs.declared.items.Item.TheVariants as item
 use Rattle.script_text.specs.declared.refusals.CatFault.TheVariants.{Long}

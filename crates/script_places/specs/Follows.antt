@@ -1,9 +1,8 @@
 -- What is known behind a line that is not refused.
 use Rattle.std.specs.Prelude.{◌≡◌, ◌≤◌, ◌<◌, ◌+◌, ℕ, true, false}
 use Rattle.aria_base.specs.Schemas.{Fits}
-use Rattle.aria_base.specs.declared.limits.TheConstants.{GREATEST_NUMBER, MOST_REQUESTS}
+use Rattle.aria_base.specs.declared.limits.TheConstants.{GREATEST_NUMBER, MOST_PERCENT, MOST_REQUESTS}
 use Rattle.proc_lang.specs.Catalogs.{Plan, takes}
-use Rattle.script_text.specs.declared.fits.TheConstants.{MOST_PERCENT}
 use Rattle.script_places.specs.Places.{is_check}
 use Rattle.script_places.specs.declared.deeds.Deed.{Deed}
 use Rattle.script_places.specs.declared.deeds.Deed.TheVariants as deed

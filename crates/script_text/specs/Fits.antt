@@ -11,8 +11,8 @@ use Rattle.aria_base.specs.declared.values.Kind.TheVariants as kind
 use Rattle.aria_base.specs.declared.calls.Arg.{Arg}
 use Rattle.aria_base.specs.declared.calls.Call.{Call}
 use Rattle.aria_base.specs.declared.schemas.Table.{Table}
+use Rattle.aria_base.specs.declared.limits.TheConstants.{MOST_PERCENT}
 use Rattle.proc_lang.specs.Catalogs.{Plan, takes}
-use Rattle.script_text.specs.declared.fits.TheConstants.{MOST_PERCENT}
 use Rattle.script_text.specs.Forms.{said}
 use Rattle.script_text.specs.declared.items.Item.{Item}
 use Rattle.script_text.specs.declared.items.Item.TheVariants as item

@@ -6,12 +6,9 @@ ghost use Rattle.script_text.specs.Fits.{placed_row, placed_call, placed_setting
 use crate::forms::refused;
 use crate::items::Item;
 use crate::refusals::{Kind8, LinesRefused};
-use aria_base::{Args, Call, Duplicate, Key, Parts, Row, Schema, Txt};
+use aria_base::{Args, Call, Duplicate, Key, MOST_PERCENT, Parts, Row, Schema, Txt};
 use proc_lang::Catalog;
 use std::alloc::Global;
-
-/// The greatest percentage, which is more than all of a hundred.
-pub const MOST_PERCENT: u32 = 101;
 
 /// The row that the item is under the catalogue. `Name` comes exactly where no table has the name, else
 /// `Argument` exactly where the parts or the columns are not those of the table in number and kind. The

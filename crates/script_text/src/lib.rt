@@ -31,7 +31,7 @@ mod written;
 
 pub use cuts::cut_at;
 pub use digits::read_number;
-pub use fits::{MOST_PERCENT, fit_row, fit_settings, fit_tx, place_call, place_row};
+pub use fits::{fit_row, fit_settings, fit_tx, place_call, place_row};
 pub use forms::read_line;
 pub use items::Item;
 pub use laws::{lines_of_texts, rows_fit};

@@ -17,7 +17,7 @@ use Rattle.aria_store.specs.Reopens.{Reopens, Found}
 use Rattle.aria_store.specs.Stands.{Kept, MayAdd, Stands, added}
 use Rattle.serving.specs.Given.{IsUntold, Tells}
 use Rattle.serving.specs.Lives.{IsNext, MayServe, next_handed, next_state, plan_of, state_of}
-use Rattle.serving.specs.declared.rotations.TheConstants.{MOST_LOG}
+use Rattle.input_log.specs.declared.limits.TheConstants.{MOST_LOG}
 use Rattle.serving.specs.Stored.{GoesOn, HasTaken, Holds, HoldsTurned, IsHeld, IsLogging, LeavesState, MayRenew, MayTurn, ReopensTo, ReopensToEither, due_by, is_due, is_stale, logged, next_due, stored_state, told_by, turned, turned_by}
 use Rattle.serving.specs.declared.batches.Given.{Given}
 use Rattle.serving.specs.declared.batches.Given.TheVariants as given

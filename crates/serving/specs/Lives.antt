@@ -5,7 +5,7 @@ use Rattle.std.specs.FinMap as fin
 use Rattle.aria_base.specs.Orders.{Database}
 use Rattle.aria_base.specs.declared.calls.Call.{Call}
 use Rattle.aria_base.specs.declared.calls.Request.{Request}
-use Rattle.aria_base.specs.declared.limits.TheConstants.{GREATEST_NUMBER, MOST_REQUESTS}
+use Rattle.aria_base.specs.declared.limits.TheConstants.{GREATEST_NUMBER, MOST_PERCENT, MOST_REQUESTS, MOST_WORKERS}
 use Rattle.answer_text.specs.Answers.{answer_text}
 use Rattle.answer_text.specs.States.{state_text}
 use Rattle.batch_core.specs.Serial.{IsSerialAnswer}
@@ -87,8 +87,8 @@ pub record IsRunnable (live : Live) : Type 0 where
   pub few : length (state_of live).waiting ≤ MOST_REQUESTS
   pub batches_within : (state_of live).batches ≤ GREATEST_NUMBER
   pub requests_within : (state_of live).requests ≤ GREATEST_NUMBER
-  pub percent : live.config.fallback ≤ 101
-  pub workers : (1 ≤ live.config.workers) × (live.config.workers ≤ 64)
+  pub percent : live.config.fallback ≤ MOST_PERCENT
+  pub workers : (1 ≤ live.config.workers) × (live.config.workers ≤ MOST_WORKERS)
 
 -- a batch of these calls may be run
 pub record MayServe (live : Live) (calls : List Call) : Type 0 where
@@ -96,8 +96,8 @@ pub record MayServe (live : Live) (calls : List Call) : Type 0 where
   pub room : length (state_of live).waiting + length calls ≤ MOST_REQUESTS
   pub batches : (state_of live).batches < GREATEST_NUMBER
   pub requests : (state_of live).requests + length calls ≤ GREATEST_NUMBER
-  pub percent : live.config.fallback ≤ 101
-  pub workers : (1 ≤ live.config.workers) × (live.config.workers ≤ 64)
+  pub percent : live.config.fallback ≤ MOST_PERCENT
+  pub workers : (1 ≤ live.config.workers) × (live.config.workers ≤ MOST_WORKERS)
 
 -- the engine stands behind this batch, which it has marked itself
 pub record StandsAfter (plan : Plan) (config : Config) (state : State) (handed : Handed) (engine : Between) : Type 0 where

@@ -3,7 +3,7 @@ use Rattle.std.specs.Prelude.{◌≡◌, ◌⊎◌, ◌≤◌, ◌+◌, ◌%◌,
 use Rattle.std.specs.Prelude.{List, [], ◌∷◌, map, length, Option, None, Some, option_map, IfSome}
 use Rattle.std.specs.List.{All}
 use Rattle.aria_base.specs.declared.calls.Call.{Call}
-use Rattle.aria_base.specs.declared.limits.TheConstants.{MOST_REQUESTS}
+use Rattle.aria_base.specs.declared.limits.TheConstants.{LONGEST_LINE, MOST_REQUESTS}
 use Rattle.batch_core.specs.Steps.{State, Handed, run, step}
 use Rattle.disk_model.specs.Histories.{History, MayLeave}
 use Rattle.image_text.specs.Exactly.{line_of_call}
@@ -15,7 +15,7 @@ use Rattle.aria_store.specs.Reopens.{Reopens, Found}
 use Rattle.aria_store.specs.Stands.{Kept, Stands, new_store, with_batch}
 use Rattle.serving.specs.Lives.{next_handed, next_state, plan_of, state_of}
 use Rattle.serving.specs.declared.lives.Live.{Live}
-use Rattle.serving.specs.declared.rotations.TheConstants.{MOST_LOG}
+use Rattle.input_log.specs.declared.limits.TheConstants.{MOST_LOG}
 
 -- ---- what a store holds, as a state
 
@@ -126,7 +126,7 @@ IsLogging disk live = IfSome live.store (GoesOn disk (state_of live).batches)
 
 -- each call's line has no more bytes than a line of a script
 abbrev pub HasLines : Plan → List Call → Type 0
-HasLines plan calls = All (λ call. length (line_of_call plan call) ≤ 4096) calls
+HasLines plan calls = All (λ call. length (line_of_call plan call) ≤ LONGEST_LINE) calls
 
 -- where there is a store, a batch of these calls may be added to it
 pub record MayLog (live : Live) (calls : List Call) (disk : History) : Type 0 where

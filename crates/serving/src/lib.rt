@@ -21,5 +21,6 @@ mod logs;
 mod rotations;
 
 pub use batches::{Given, serve_batch};
+pub use input_log::MOST_LOG;
 pub use lives::Live;
-pub use rotations::{MOST_LOG, renew_where_stale};
+pub use rotations::renew_where_stale;

@@ -1,5 +1,6 @@
 // The database that is served, and its next batch.
 ghost use Rattle.std.specs.Prelude.{◌≡◌, ◌≤◌, IfOk, None, if◌then◌else◌, [], ◌++◌, length};
+ghost use Rattle.aria_base.specs.declared.limits.TheConstants.{MOST_PERCENT, MOST_REPLICAS, MOST_WORKERS};
 ghost use Rattle.answer_text.specs.Answers.{answer_text};
 ghost use Rattle.batch_engine.specs.Engines.{IsReady};
 ghost use Rattle.serving.specs.Lives.{IsNext, IsRunnable, MayServe, begun_state, listing, next_answer, next_text, plan_of, state_of};
@@ -46,9 +47,9 @@ impl Live {
         each: bool,
     ) -> Result<Live, Memory>
         requires ready { IsReady catalog tables carried.items batches requests }
-        requires fallback { config.fallback ≤ 101 }
-        requires workers { (1 ≤ config.workers) × (config.workers ≤ 64) }
-        requires replicas { (1 ≤ replicas) × (replicas ≤ 8) }
+        requires fallback { config.fallback ≤ MOST_PERCENT }
+        requires workers { (1 ≤ config.workers) × (config.workers ≤ MOST_WORKERS) }
+        requires replicas { (1 ≤ replicas) × (replicas ≤ MOST_REPLICAS) }
         ensures plan { IfOk result (λ live. plan_of live ≡ catalog) }
         ensures state { IfOk result (λ live. state_of live ≡ begun_state config tables carried.items batches requests) }
         ensures count { IfOk result (λ live. length live.replicas ≡ replicas) }

@@ -1,7 +1,7 @@
 // The next checkpoint, where one is due: behind a batch, or before the first one.
 ghost use Rattle.std.specs.Prelude.{◌≡◌, ◌≤◌, None, true, [], List, IfErr, IfSome, IsOk, OnOk};
 ghost use Rattle.aria_base.specs.Faults.{Rose};
-ghost use Rattle.aria_base.specs.declared.limits.TheConstants.{GREATEST_NUMBER};
+ghost use Rattle.aria_base.specs.declared.limits.TheConstants.{GREATEST_NUMBER, MOST_PERCENT};
 ghost use Rattle.batch_engine.specs.Engines.{state_in};
 ghost use Rattle.disk_model.specs.Histories.{LeavesAll};
 ghost use Rattle.image_text.specs.Payloads.{Batch};
@@ -15,15 +15,11 @@ use crate::lives::Live;
 use crate::logs::why_untold;
 use aria_store::Store;
 use batch_engine::Engine;
+use checkpoint::FIRST_FORMAT;
 use dep_rules::Config;
 use disk_model::Disk;
+use input_log::MOST_LOG;
 use std::alloc::Global;
-
-/// How many bytes a log may have between two batches: behind a longer one a checkpoint is laid.
-pub const MOST_LOG: u64 = 1 << 28;
-
-/// The format in which a store takes no batches.
-const FIRST_FORMAT: u8 = 1;
 
 /// Lays the next checkpoint with an empty log, where there is a store and one is due behind the batch
 /// that was run last.
@@ -100,7 +96,7 @@ fn rotate<D: Disk>(
     disk: &mut D,
 ) -> Result<(), Given>
     requires may { MayTurn (D.history disk.old) engine.now.batches store.old }
-    requires fallback { config.now.fallback ≤ 101 }
+    requires fallback { config.now.fallback ≤ MOST_PERCENT }
     ensures turned { OnOk result (store.new ≡ turned true (state_in config.now engine.now) store.old) }
     ensures goes_on { OnOk result (GoesOn (D.history disk.new) engine.now.batches store.new) }
     ensures holds { OnOk result ((d : Checkpoint) × IsHeld (D.history disk.new) engine.now.plan (state_in config.now engine.now) store.new d []) }

@@ -2,7 +2,7 @@
 use Rattle.std.specs.Prelude.{◌≡◌, ℕ, ◌≤◌, true}
 use Rattle.std.specs.List.{All}
 use Rattle.aria_base.specs.Schemas.{IsConsistent}
-use Rattle.aria_base.specs.declared.limits.TheConstants.{GREATEST_NUMBER}
+use Rattle.aria_base.specs.declared.limits.TheConstants.{GREATEST_NUMBER, MOST_PERCENT}
 use Rattle.proc_lang.specs.Catalogs.{takes}
 use Rattle.checkpoint.specs.declared.heads.Head.{Head}
 use Rattle.checkpoint.specs.Damage.{IsSound}
@@ -31,7 +31,7 @@ pub record IsFitting (c : Checkpoint) : Type 0 where
 -- an image that a slot may show
 pub record IsInOrder (slot : ℕ) (c : Checkpoint) : Type 0 where
   pub sound : IsSound slot c.head
-  pub fallback : c.head.fallback ≤ 101
+  pub fallback : c.head.fallback ≤ MOST_PERCENT
   pub batches : c.head.batches ≤ GREATEST_NUMBER
   pub requests : c.head.requests ≤ GREATEST_NUMBER
   pub fits : IsFitting c

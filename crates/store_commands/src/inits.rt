@@ -4,6 +4,7 @@ ghost use Rattle.std.specs.Option.{IfSome, IsSomeAnd};
 ghost use Rattle.std.specs.Io.KnownBytes.{Appends, IsAtEnd};
 ghost use Rattle.aria_base.specs.Faults.{Rose};
 ghost use Rattle.aria_base.specs.Schemas.{IsConsistent};
+ghost use Rattle.aria_base.specs.declared.limits.TheConstants.{MOST_PERCENT};
 ghost use Rattle.run_commands.specs.Bases.{plan_in};
 ghost use Rattle.script_course.specs.Causes.{IsCause, IsReadCause};
 ghost use Rattle.script_course.specs.declared.stops.Stop.TheVariants as stop;
@@ -15,12 +16,12 @@ ghost use Rattle.script_course.specs.declared.statuses.TheConstants as status;
 
 use crate::drafts::Draft;
 use answer_text::{Refused, ready_line, refused_line};
-use aria_base::{Schema, Sink, Source};
+use aria_base::{LONGEST_LINE, Schema, Sink, Source};
 use aria_store::{Image, Store, StoreRefused};
 use command_words::Init;
 use disk_model::Disk;
 use proc_lang::Catalog;
-use run_commands::{LONGEST_LINE, MOST_BYTES};
+use run_commands::MOST_BYTES;
 use script_course::{DONE, STORE_REFUSED, Stop, end_with, read_through, refuse};
 use script_places::{Head, closes};
 use script_text::LinesRefused;
@@ -37,7 +38,7 @@ pub fn init<S: Source, K: Sink, D: Disk>(
     out: &mut K,
     disk: &mut D,
 ) -> Result<u8, Stop>
-    requires { settings.now.fallback ≤ 101 }
+    requires { settings.now.fallback ≤ MOST_PERCENT }
 
     // What is printed is the output of the text, by whether a gate was open; where it was cut off, a prefix
     // of it was printed, and where the source failed, nothing. Where that output says that no store is made,
@@ -63,7 +64,15 @@ pub fn init<S: Source, K: Sink, D: Disk>(
     let Ok(start) = Draft::start(alloc) else {
         return Err(Stop::NoMemory);
     };
-    match read_through(alloc, MOST_BYTES, LONGEST_LINE, start, input, out, &mut ()) {
+    match read_through(
+        alloc,
+        MOST_BYTES,
+        LONGEST_LINE as u32,
+        start,
+        input,
+        out,
+        &mut (),
+    ) {
         Ok(last) => close(alloc, settings, last, out, disk),
         Err(stop) => Err(stop),
     }
@@ -77,7 +86,7 @@ fn close<K: Sink, D: Disk>(
     out: &mut K,
     disk: &mut D,
 ) -> Result<u8, Stop>
-    requires fallback { settings.now.fallback ≤ 101 }
+    requires fallback { settings.now.fallback ≤ MOST_PERCENT }
     requires fitting { IsFitting last }
     ensures ends { Ends (λ taken. on_end settings.now taken last) (D.history disk.old) (D.history disk.new) (K.given out.old) (K.given out.new) result }
     ensures made { result ≡ Ok status.DONE → IsSomeAnd (values_by last (closing last.place)) (λ values. IsMadeOf settings.now values (D.history disk.new)) }
@@ -106,7 +115,7 @@ fn make<K: Sink, D: Disk>(
     out: &mut K,
     disk: &mut D,
 ) -> Result<u8, Stop>
-    requires fallback { settings.now.fallback ≤ 101 }
+    requires fallback { settings.now.fallback ≤ MOST_PERCENT }
     requires rows { IsConsistent (plan_in head).tables tables }
     ensures ends { Ends (store_out settings.now) (D.history disk.old) (D.history disk.new) (K.given out.old) (K.given out.new) result }
     ensures made { result ≡ Ok status.DONE → IsMadeOf settings.now (plan_in head, tables) (D.history disk.new) }

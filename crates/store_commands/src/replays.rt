@@ -2,6 +2,7 @@
 ghost use Rattle.std.specs.Prelude.{◌≡◌, ◌≢◌, ℕ, ◌≤◌, ◌<◌, ◌⊎◌, List, Err, IfOk, IfErr, length};
 ghost use Rattle.std.specs.Option.{IsSomeAnd};
 ghost use Rattle.aria_base.specs.Faults.{Rose};
+ghost use Rattle.aria_base.specs.declared.limits.TheConstants.{MOST_PERCENT, MOST_REPLICAS, MOST_WORKERS};
 ghost use Rattle.aria_store.specs.Reopens.{Reopens, Reopened};
 ghost use Rattle.aria_store.specs.Stands.{batches_in};
 ghost use Rattle.batch_engine.specs.Engines.{IsReady};
@@ -45,8 +46,8 @@ pub fn replay<K: Sink, D: Disk, P: Pace + Sync, R: Threads + Sync>(
     disk: &mut D,
     pace: &P,
 ) -> Result<u8, Stop>
-    requires workers { (1 ≤ settings.now.workers) × (settings.now.workers ≤ 64) }
-    requires replicas { (1 ≤ settings.now.replicas) × (settings.now.replicas ≤ 8) }
+    requires workers { (1 ≤ settings.now.workers) × (settings.now.workers ≤ MOST_WORKERS) }
+    requires replicas { (1 ≤ settings.now.replicas) × (settings.now.replicas ≤ MOST_REPLICAS) }
 
     // What is printed is the output of what the files read as; where it was cut off, a prefix of it. Neither
     // workers nor replicas have a say in it.
@@ -78,9 +79,9 @@ fn replay_found<K: Sink, D: Disk, P: Pace + Sync, R: Threads + Sync>(
     disk: &mut D,
     pace: &P,
 ) -> Result<u8, Stop>
-    requires workers { (1 ≤ settings.now.workers) × (settings.now.workers ≤ 64) }
-    requires replicas { (1 ≤ settings.now.replicas) × (settings.now.replicas ≤ 8) }
-    requires fallback { found.image.fallback ≤ 101 }
+    requires workers { (1 ≤ settings.now.workers) × (settings.now.workers ≤ MOST_WORKERS) }
+    requires replicas { (1 ≤ settings.now.replicas) × (settings.now.replicas ≤ MOST_REPLICAS) }
+    requires fallback { found.image.fallback ≤ MOST_PERCENT }
     requires ready { IsReady found.image.catalog found.image.tables found.image.held.items found.image.batches found.image.requests }
     requires fit { AreRunnable found.image.catalog found.image.batches found.image.requests (batches_in found.later.items) }
     ensures output { (bytes : List ℕ) → IsSomeAnd (current (D.history disk.old) (log_in (checkpoint_in found.image))) (λ f. f.seen ≡ bytes) → Finishes (replayed found.image.catalog (is_each settings.now.listing) (crowded_out (log_in (checkpoint_in found.image)) bytes) 0 (state_at (checkpoint_in found.image)) (batches_in found.later.items)) (K.given out.old) (K.given out.new) result }

@@ -10,7 +10,7 @@ use crate::creations::sync_all;
 use crate::refusals::StoreRefused;
 use aria_base::Failed;
 use checkpoint::{Head, head_of};
-use disk_model::Disk;
+use disk_model::{Disk, OPEN, SHUT};
 
 /// Whether one of the two gates is open.
 pub fn is_taken<D: Disk>(disk: &mut D) -> Result<bool, Failed>
@@ -36,9 +36,9 @@ fn gate_open<D: Disk>(disk: &mut D, slot: u8) -> Result<bool, Failed>
     if disk.len(slot)? == 0 {
         return Ok(false);
     }
-    let mut gate = [0];
+    let mut gate = [SHUT];
     disk.read_at(slot, 0, &mut gate)?;
-    Ok(gate[0] == 1)
+    Ok(gate[0] == OPEN)
 }
 
 /// Syncs the four files and looks which slot is taken. The other slot's file is not empty then.

@@ -1,10 +1,11 @@
 // What an open store knows of its files.
 ghost use Rattle.std.specs.Prelude.{◌≡◌, ℕ, ◌⊎◌, ◌+◌, ◌-◌, ◌<◌, ◌≤◌, ◌^◌, ◌%◌, [], List, length, None, IfOk, IfErr, OnOk, IfSome};
 ghost use Rattle.aria_base.specs.Faults.{one_more};
-ghost use Rattle.aria_base.specs.declared.limits.TheConstants.{GREATEST_NUMBER};
+ghost use Rattle.aria_base.specs.declared.limits.TheConstants.{GREATEST_NUMBER, MOST_PERCENT};
 ghost use Rattle.disk_model.specs.Causes.{FaultOnly};
 ghost use Rattle.disk_model.specs.Histories.{current, LeavesAll};
 ghost use Rattle.input_log.specs.Layout.{Log, Ends, with_record};
+ghost use Rattle.input_log.specs.declared.limits.TheConstants.{MOST_BEFORE, MOST_PAYLOAD};
 ghost use Rattle.checkpoint.specs.Damage.{IsSound};
 ghost use Rattle.store_files.specs.Openings.{Taken, opened_of};
 ghost use Rattle.store_files.specs.Holdings.{Holds};
@@ -106,8 +107,8 @@ impl Files {
         payload: &[u8],
     ) -> Result<(), StoreRefused>
         requires rests { self.old.closed ≡ None → Rests (D.history disk.old) self.old }
-        requires short { self.old.at ≤ 2 ^ 28 + 2 ^ 26 }
-        requires payload { length payload.now ≤ 40970002 }
+        requires short { self.old.at ≤ MOST_BEFORE }
+        requires payload { length payload.now ≤ MOST_PAYLOAD }
 
         // A stop at any moment leaves the log as it was, or with this record.
         ensures images { self.old.closed ≡ None → (b : List ℕ) (log : Log) → Holds (D.history disk.old) (slot_in self.old) self.old.head b log → LeavesAll (D.history disk.old) (D.history disk.new) (λ images. (opened_of images ≡ Taken (slot_in self.old) self.old.head b log) ⊎ (opened_of images ≡ Taken (slot_in self.old) self.old.head b (with_record payload.now log))) }
@@ -154,7 +155,7 @@ impl Files {
         requires batches { batches ≡ self.old.head.batches + self.old.batches }
         requires few { batches ≤ GREATEST_NUMBER }
         requires requests { requests ≤ GREATEST_NUMBER }
-        requires fallback { fallback ≤ 101 }
+        requires fallback { fallback ≤ MOST_PERCENT }
         requires body { length body.now < 256 ^ 8 }
 
         // A stop at any moment leaves what was there, or the new checkpoint with an empty log.

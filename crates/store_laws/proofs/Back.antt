@@ -1,6 +1,7 @@
 -- A script that `run` reads to its end over the store of a head is right behind that head, as one text.
 use Rattle.std.proofs.Common.{◌≡◌, ◌∙◌, sym, ap, subst, refl, ℕ, Bool, true, false, List, [], ◌++◌, map, Option, Some, None, ◌≢◌}
 use Rattle.aria_base.specs.Orders.{Database}
+use Rattle.aria_base.specs.declared.limits.TheConstants.{LONGEST_LINE}
 use Rattle.command_words.specs.declared.settings.Init.{Init}
 use Rattle.command_words.specs.declared.settings.Once.{Once}
 use Rattle.command_words.specs.declared.settings.Run.{Run}
@@ -17,7 +18,7 @@ use Rattle.run_commands.specs.Onces.{Doing, on_end, on_line}
 use Rattle.run_commands.specs.Outs.{is_each, no_line}
 use Rattle.run_commands.specs.Passes.{Line, last, on_turn}
 use Rattle.run_commands.specs.Resumes.{resumed}
-use Rattle.run_commands.specs.declared.loops.TheConstants.{MOST_BYTES, LONGEST_LINE}
+use Rattle.run_commands.specs.declared.loops.TheConstants.{MOST_BYTES}
 use Rattle.store_commands.specs.Drafts as drafts
 use Rattle.store_commands.specs.declared.drafts.Draft.{Draft}
 use Rattle.store_commands.specs.Drafts.{said_by, values_of}

@@ -3,6 +3,7 @@ use Rattle.std.proofs.Common.{◌≡◌, ◌∙◌, sym, ap, refl, ℕ, Bool, fa
 use Rattle.std.specs.Prelude.{option_to_list}
 use Rattle.std.proofs.lemmas.List.{map-append}
 use Rattle.aria_base.specs.Orders.{Database}
+use Rattle.aria_base.specs.declared.limits.TheConstants.{LONGEST_LINE}
 use Rattle.command_words.specs.declared.settings.Init.{Init}
 use Rattle.command_words.specs.declared.settings.Once.{Once}
 use Rattle.command_words.specs.declared.settings.Run.{Run}
@@ -22,7 +23,7 @@ use Rattle.run_commands.specs.Onces.{Doing, on_end, on_line}
 use Rattle.run_commands.specs.Outs.{is_each, no_line, start_of}
 use Rattle.run_commands.specs.Passes.{Line, Turn, last, on_turn, past, turns_whole}
 use Rattle.run_commands.specs.Resumes.{resumed}
-use Rattle.run_commands.specs.declared.loops.TheConstants.{MOST_BYTES, LONGEST_LINE}
+use Rattle.run_commands.specs.declared.loops.TheConstants.{MOST_BYTES}
 use Rattle.resume_laws.specs.Resumptions.{answers, answers_of, run_from}
 use Rattle.store_commands.specs.Drafts as drafts
 use Rattle.store_commands.specs.declared.drafts.Draft.{Draft}

@@ -8,7 +8,7 @@ use Rattle.aria_base.specs.Orders.{Cells}
 use Rattle.aria_base.specs.declared.calls.Call.{Call}
 use Rattle.aria_base.specs.declared.calls.Request.{Request}
 use Rattle.aria_base.specs.declared.keys.Key.{Key}
-use Rattle.aria_base.specs.declared.limits.TheConstants.{MOST_REQUESTS}
+use Rattle.aria_base.specs.declared.limits.TheConstants.{MOST_PERCENT, MOST_REQUESTS}
 use Rattle.aria_store.specs.Records.{AreBatches, SaysIn}
 use Rattle.batch_core.specs.Steps.{Handed, State, step}
 use Rattle.batch_engine.specs.Engines.{Between, IsReady}
@@ -49,12 +49,12 @@ fit_by : (first : Bool) (c : Checkpoint) (bytes : List ℕ) (batch : Batch) → 
 fit_by true c bytes batch says = fits_all c.plan batch.calls says.2.fit
 fit_by false c bytes batch says = fits_all c.plan batch.calls says.fit
 
-fallback_by : (first : Bool) (c : Checkpoint) (bytes : List ℕ) (batch : Batch) → c.head.fallback ≤ 101 → SaysIn first c bytes batch → batch.fallback ≤ 101
-fallback_by true c bytes batch bound says = subst (λ (n : ℕ). n ≤ 101) (sym says.1) bound
+fallback_by : (first : Bool) (c : Checkpoint) (bytes : List ℕ) (batch : Batch) → c.head.fallback ≤ MOST_PERCENT → SaysIn first c bytes batch → batch.fallback ≤ MOST_PERCENT
+fallback_by true c bytes batch bound says = subst (λ (n : ℕ). n ≤ MOST_PERCENT) (sym says.1) bound
 fallback_by false c bytes batch bound says = says.fallback
 
 -- behind a checkpoint each may be run
-pub runnable : (c : Checkpoint) (batches requests : ℕ) (payloads : List Payload) (later : List Batch) → c.head.fallback ≤ 101
+pub runnable : (c : Checkpoint) (batches requests : ℕ) (payloads : List Payload) (later : List Batch) → c.head.fallback ≤ MOST_PERCENT
     → AreBatches c batches requests payloads later → AreRunnable c.plan batches requests later
 runnable c batches requests [] [] bound are = tt
 runnable c batches requests [] (batch ∷ later) bound are = absurd are

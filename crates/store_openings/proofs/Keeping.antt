@@ -29,7 +29,7 @@ use Rattle.serving.specs.Stored.{Holds, HoldsTurned, IsHeld, IsLogging, MayRenew
 use Rattle.serving.specs.declared.batches.Given.{Given}
 use Rattle.serving.specs.declared.batches.Given.TheVariants as given
 use Rattle.serving.specs.declared.lives.Live.{Live}
-use Rattle.serving.specs.declared.rotations.TheConstants.{MOST_LOG}
+use Rattle.input_log.specs.declared.limits.TheConstants.{MOST_LOG}
 use Rattle.slot_images.specs.Images.{Checkpoint}
 use Rattle.slot_images.specs.Said.{IsInOrder}
 use Rattle.store_files.specs.Stores.{Rests, slot_in}

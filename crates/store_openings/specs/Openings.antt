@@ -2,6 +2,7 @@
 use Rattle.std.specs.Prelude.{◌≡◌, ℕ, ◌+◌, ◌%◌, ◌<◌, ◌≤◌, true, List, [], ◌∷◌, length, Option, None, Some, ⊤}
 use Rattle.std.specs.List.{All, slice_get}
 use Rattle.std.specs.Option.{IsSomeAnd}
+use Rattle.aria_base.specs.declared.limits.TheConstants.{MOST_PERCENT}
 use Rattle.aria_store.specs.Records.{IsWithin}
 use Rattle.aria_store.specs.Reopens.{Reopened, NoStore, Damaged, Found}
 use Rattle.disk_model.specs.Histories.{History, MayLeave, LeavesAll, current}
@@ -26,7 +27,7 @@ ReadsAs disk images = (file : ℕ) → file < 4 → IsSomeAnd (current disk file
 -- greatest.
 pub record MayFollow (plan : Plan) (batches requests : ℕ) (batch : Batch) : Type 0 where
   pub fit : All (λ call. takes plan call ≡ true) batch.calls
-  pub fallback : batch.fallback ≤ 101
+  pub fallback : batch.fallback ≤ MOST_PERCENT
   pub within : IsWithin batches requests (length batch.calls)
 
 -- each of these may, one behind the other

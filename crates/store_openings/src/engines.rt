@@ -1,5 +1,6 @@
 // How an opened database is run, and the database of a checkpoint.
 ghost use Rattle.std.specs.Prelude.{◌≡◌, ◌≤◌, ◌<◌, None, IfOk, length};
+ghost use Rattle.aria_base.specs.declared.limits.TheConstants.{MOST_PERCENT, MOST_REPLICAS, MOST_WORKERS};
 ghost use Rattle.batch_engine.specs.Engines.{IsReady};
 ghost use Rattle.serving.specs.Lives.{IsRunnable, plan_of, state_of};
 ghost use Rattle.serving.specs.Stored.{state_at};
@@ -27,9 +28,9 @@ pub struct Engines {
 
 /// The database of a checkpoint, without a store. It lays no checkpoints.
 pub fn begin(alloc: Global, engines: &Engines, image: Image) -> Result<Live, Memory>
-    requires workers { (1 ≤ engines.now.workers) × (engines.now.workers ≤ 64) }
-    requires replicas { (1 ≤ engines.now.replicas) × (engines.now.replicas ≤ 8) }
-    requires fallback { image.fallback ≤ 101 }
+    requires workers { (1 ≤ engines.now.workers) × (engines.now.workers ≤ MOST_WORKERS) }
+    requires replicas { (1 ≤ engines.now.replicas) × (engines.now.replicas ≤ MOST_REPLICAS) }
+    requires fallback { image.fallback ≤ MOST_PERCENT }
     requires ready { IsReady image.catalog image.tables image.held.items image.batches image.requests }
     ensures plan { IfOk result (λ live. plan_of live ≡ image.catalog) }
     ensures state { IfOk result (λ live. state_of live ≡ state_at (checkpoint_in image)) }

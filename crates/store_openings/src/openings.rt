@@ -1,6 +1,7 @@
 // Opening a store.
 ghost use Rattle.std.specs.Prelude.{◌≡◌, ◌⊎◌, ℕ, ◌≤◌, ◌<◌, ◌%◌, List, IfOk, IfErr, IsSome, OnErr, length};
 ghost use Rattle.aria_base.specs.Faults.{Rose};
+ghost use Rattle.aria_base.specs.declared.limits.TheConstants.{MOST_PERCENT, MOST_REPLICAS, MOST_WORKERS};
 ghost use Rattle.aria_store.specs.Records.{AreLater};
 ghost use Rattle.aria_store.specs.Reopens.{Reopens, Reopened};
 ghost use Rattle.aria_store.specs.Stands.{IsKnown, IsTold, Stands, batches_in};
@@ -35,8 +36,8 @@ pub fn open<D: Disk, P: Pace + Sync, R: Threads + Sync>(
     disk: &mut D,
     pace: &P,
 ) -> Result<Live, NotOpened>
-    requires workers { (1 ≤ engines.now.workers) × (engines.now.workers ≤ 64) }
-    requires replicas { (1 ≤ engines.now.replicas) × (engines.now.replicas ≤ 8) }
+    requires workers { (1 ≤ engines.now.workers) × (engines.now.workers ≤ MOST_WORKERS) }
+    requires replicas { (1 ≤ engines.now.replicas) × (engines.now.replicas ≤ MOST_REPLICAS) }
 
     // By what a read of the four files gives: the database of it, and no store or damage exactly where it is that.
     ensures opened { IfOk result (λ live. (images : ℕ → List ℕ) (found : Reopened) → ReadsAs (D.history disk.old) images → Reopens images found → IsOpenedAs (opened images found) live) }
@@ -77,8 +78,8 @@ fn open_found<D: Disk, P: Pace + Sync, R: Threads + Sync>(
     disk: &mut D,
     pace: &P,
 ) -> Result<Live, NotOpened>
-    requires workers { (1 ≤ engines.now.workers) × (engines.now.workers ≤ 64) }
-    requires replicas { (1 ≤ engines.now.replicas) × (engines.now.replicas ≤ 8) }
+    requires workers { (1 ≤ engines.now.workers) × (engines.now.workers ≤ MOST_WORKERS) }
+    requires replicas { (1 ≤ engines.now.replicas) × (engines.now.replicas ≤ MOST_REPLICAS) }
     requires in_order { IsInOrder (slot_in store.files) (checkpoint_in found.image) }
     requires later { AreLater (checkpoint_in found.image) (batches_in found.later.items) }
     requires known { IsKnown store (checkpoint_in found.image) (batches_in found.later.items) }
@@ -107,9 +108,9 @@ fn rerun_found<D: Disk, P: Pace + Sync, R: Threads + Sync>(
     disk: &mut D,
     pace: &P,
 ) -> Result<Live, NotOpened>
-    requires workers { (1 ≤ engines.now.workers) × (engines.now.workers ≤ 64) }
-    requires replicas { (1 ≤ engines.now.replicas) × (engines.now.replicas ≤ 8) }
-    requires fallback { found.image.fallback ≤ 101 }
+    requires workers { (1 ≤ engines.now.workers) × (engines.now.workers ≤ MOST_WORKERS) }
+    requires replicas { (1 ≤ engines.now.replicas) × (engines.now.replicas ≤ MOST_REPLICAS) }
+    requires fallback { found.image.fallback ≤ MOST_PERCENT }
     requires ready { IsReady found.image.catalog found.image.tables found.image.held.items found.image.batches found.image.requests }
     requires fit { AreRunnable found.image.catalog found.image.batches found.image.requests (batches_in found.later.items) }
     ensures found { IfOk result (IsFoundAs engines.now (checkpoint_in found.image) (batches_in found.later.items)) }

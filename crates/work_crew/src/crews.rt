@@ -2,6 +2,7 @@
 ghost use Rattle.std.specs.Prelude.{◌≡◌, ◌≤◌, ◌<◌, ◌+◌, [], IfOk};
 ghost use Rattle.std.specs.Thread.{IsSync};
 ghost use Rattle.aria_base.specs.Shares.{all_shares};
+ghost use Rattle.aria_base.specs.declared.limits.TheConstants.{MOST_WORKERS};
 ghost use Rattle.work_crew.specs.Hands.{HasDoneAll, IsPart};
 
 use crate::works::Work;
@@ -22,7 +23,7 @@ pub fn carry_out<W: Work + Sync, P: Pace + Sync, R: Threads + Sync>(
     workers: u32,
     pace: &P,
 ) -> Result<W::Hand, Memory>
-    requires workers { (1 ≤ workers) × (workers ≤ 64) }
+    requires workers { (1 ≤ workers) × (workers ≤ MOST_WORKERS) }
     requires fresh { W.did work.now hand all_shares [] }
     ensures { IfOk result (HasDoneAll (W.did work.now) (W.count work.now)) }
 {
@@ -49,7 +50,7 @@ fn spread<W: Work + Sync, P: Pace + Sync, R: Threads + Sync>(
     requires bound { claims.now.bound ≡ W.count work.now }
     requires fresh { (seat.drawn ≡ []) × W.did work.now hand seat.share [] }
     requires share { others < seat.share }
-    requires count { who + others < 64 }
+    requires count { who + others < MOST_WORKERS }
     ensures { IfOk result (λ r. IsPart (W.count work.now) (W.did work.now) seat r.0 r.1) }
 {
     if others == 0 {
@@ -66,7 +67,7 @@ fn spread<W: Work + Sync, P: Pace + Sync, R: Threads + Sync>(
             ensures { IfOk result (λ r. IsPart (W.count work.entry.now) (W.did work.entry.now) other_seat r.0 r.1) }
         { labour(claims, other_seat, work, other_hand, who, pace) },
         move || -> Result<(ClaimSeat, W::Hand), Memory>
-            requires { IsSync R.row × IsSync P.row × IsSync W.row × (seat.table ≡ claims.now.table) × (claims.now.bound ≡ W.count work.now) × (seat.drawn ≡ []) × W.did work.now hand seat.share [] × (fewer < seat.share) × (next + fewer < 64) }
+            requires { IsSync R.row × IsSync P.row × IsSync W.row × (seat.table ≡ claims.now.table) × (claims.now.bound ≡ W.count work.now) × (seat.drawn ≡ []) × W.did work.now hand seat.share [] × (fewer < seat.share) × (next + fewer < MOST_WORKERS) }
             ensures { IfOk result (λ r. IsPart (W.count work.entry.now) (W.did work.entry.now) seat r.0 r.1) }
         { spread(rt, claims, seat, work, hand, next, fewer, pace) },
     );

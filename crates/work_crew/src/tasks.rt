@@ -1,5 +1,6 @@
 // What places come to, each for itself.
 ghost use Rattle.std.specs.Prelude.{◌≡◌, ◌≤◌, ◌<◌, ℕ, IfOk};
+ghost use Rattle.aria_base.specs.declared.limits.TheConstants.{MOST_WORKERS};
 ghost use Rattle.work_crew.specs.Gathered.{AreGiven, IsGathered};
 
 use crate::crews::carry_out;
@@ -81,7 +82,7 @@ pub fn gather<T: Task + Sync, P: Pace + Sync, R: Threads + Sync>(
     workers: u32,
     pace: &P,
 ) -> Result<Vec<T::Output>, Memory>
-    requires workers { (1 ≤ workers) × (workers ≤ 64) }
+    requires workers { (1 ≤ workers) × (workers ≤ MOST_WORKERS) }
     ensures { IfOk result (λ outputs. AreGiven (T.gives task.now) (T.count task.now) outputs.items) }
 {
     let gathering = Gathering { alloc, task, pace };

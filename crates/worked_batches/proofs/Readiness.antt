@@ -11,7 +11,7 @@ use Rattle.aria_base.specs.Schemas.{Fits, IsConsistent}
 use Rattle.aria_base.specs.declared.calls.Call.{Call}
 use Rattle.aria_base.specs.declared.calls.Request.{Request}
 use Rattle.aria_base.specs.declared.keys.Key.{Key}
-use Rattle.aria_base.specs.declared.limits.TheConstants.{GREATEST_NUMBER, MOST_REQUESTS}
+use Rattle.aria_base.specs.declared.limits.TheConstants.{GREATEST_NUMBER, MOST_PERCENT, MOST_REQUESTS, MOST_WORKERS}
 use Rattle.aria_base.specs.declared.schemas.Table.{Table}
 use Rattle.aria_base.proofs.Orders.{key_cmp_total, key_cmp-IsAntisymmetric}
 use Rattle.batch_rules.proofs.Maps.{same_key}
@@ -52,7 +52,7 @@ ready_at_first plan rows carried fit none = subst (λ (l : List Request). IsRead
 
 -- what the first of engines that are alike may run, all of them may
 may_run_alike : (config : Config) (calls : List Call) (engine first : Between) → unmarked engine ≡ unmarked first
-    → HasRoom first calls → config.fallback ≤ 101 → (1 ≤ config.workers) × (config.workers ≤ 64) → MayRun config calls engine
+    → HasRoom first calls → config.fallback ≤ MOST_PERCENT → (1 ≤ config.workers) × (config.workers ≤ MOST_WORKERS) → MayRun config calls engine
 may_run_alike config calls engine first alike has percent workers = record {
   fit = subst (λ (e : Between). All (λ call. takes e.plan call ≡ true) calls) (sym alike) has.fit;
   room = subst (λ (e : Between). length e.carried + length calls ≤ MOST_REQUESTS) (sym alike) has.room;
@@ -63,5 +63,5 @@ may_run_alike config calls engine first alike has percent workers = record {
 }
 
 pub all_may_run : (config : Config) (calls : List Call) (engines : List Between) (first : Between) → All (λ engine. unmarked engine ≡ unmarked first) engines
-    → HasRoom first calls → config.fallback ≤ 101 → (1 ≤ config.workers) × (config.workers ≤ 64) → All (MayRun config calls) engines
+    → HasRoom first calls → config.fallback ≤ MOST_PERCENT → (1 ≤ config.workers) × (config.workers ≤ MOST_WORKERS) → All (MayRun config calls) engines
 all_may_run config calls engines first alike has percent workers k d h = may_run_alike config calls _ first (alike k d h) has percent workers

@@ -2,6 +2,7 @@
 ghost use Rattle.std.specs.Prelude.{◌≡◌, ◌≤◌, true};
 ghost use Rattle.std.specs.List.{All, list_all};
 ghost use Rattle.aria_base.specs.Schemas.{IsConsistent};
+ghost use Rattle.aria_base.specs.declared.limits.TheConstants.{MOST_PERCENT, MOST_REPLICAS, MOST_WORKERS};
 ghost use Rattle.proc_lang.specs.Catalogs.{takes};
 ghost use Rattle.worked_batches.specs.Rooms.{HasRoom};
 
@@ -131,8 +132,8 @@ pub fn run<P: Pace + Sync, R: Abort + Threads + Sync>(
     config: &Config,
     pace: &P,
 ) -> (Engine, Answer)
-    requires percent { config.now.fallback ≤ 101 }
-    requires workers { (1 ≤ config.now.workers) × (config.now.workers ≤ 64) }
+    requires percent { config.now.fallback ≤ MOST_PERCENT }
+    requires workers { (1 ≤ config.now.workers) × (config.now.workers ≤ MOST_WORKERS) }
 {
     assert!(rt; has_room(&engine, &calls), "the calls fit and have room");
     let run = engine.run_batch(rt, alloc, calls, config, pace);
@@ -141,7 +142,7 @@ pub fn run<P: Pace + Sync, R: Abort + Threads + Sync>(
 
 /// Replicas of a bank of these accounts before their first batch.
 pub fn replicas(rt: &impl Abort, alloc: Global, accounts: &[Account], count: u32) -> Replicas
-    requires { (1 ≤ count) × (count ≤ 8) }
+    requires { (1 ≤ count) × (count ≤ MOST_REPLICAS) }
 {
     let first = engine(rt, alloc, accounts);
     Replicas::begin(alloc, first, count).expect(rt, MEMORY)
@@ -157,8 +158,8 @@ pub fn run_replicas<P: Pace + Sync, R: Abort + Threads + Sync>(
     config: &Config,
     pace: &P,
 ) -> (Replicas, Answer)
-    requires percent { config.now.fallback ≤ 101 }
-    requires workers { (1 ≤ config.now.workers) × (config.now.workers ≤ 64) }
+    requires percent { config.now.fallback ≤ MOST_PERCENT }
+    requires workers { (1 ≤ config.now.workers) × (config.now.workers ≤ MOST_WORKERS) }
 {
     assert!(rt;
         has_room(replicas.first(), &calls),

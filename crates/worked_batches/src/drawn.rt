@@ -1,5 +1,6 @@
 // Drawn batches of a bank, and what they come to by other ways.
 ghost use Rattle.std.specs.Prelude.{◌≤◌, ◌<◌};
+ghost use Rattle.aria_base.specs.declared.limits.TheConstants.{MOST_PERCENT};
 
 use crate::banks::{MEMORY, calls, engine, run, same};
 use aria_base::{Draws, Duplicate, Free, Items, Request};
@@ -38,7 +39,7 @@ fn drawn_asks(rt: &impl Abort, alloc: Global, draws: &mut Draws, waiting: usize)
 
 /// Any settings, and in one of four batches up to three workers: to start them takes most of the time.
 fn drawn_config(draws: &mut Draws) -> Config
-    ensures { (result.fallback ≤ 101) × (1 ≤ result.workers) × (result.workers ≤ 3) }
+    ensures { (result.fallback ≤ MOST_PERCENT) × (1 ≤ result.workers) × (result.workers ≤ 3) }
 {
     let rule = drawn_rule(draws);
     let workers = if drawn(draws, 4) == 1 {
@@ -100,7 +101,7 @@ fn run_anew<R: Abort + Threads + Sync>(
     asks: &[Ask],
     config: &Config,
 ) -> Answer
-    requires { config.now.fallback ≤ 101 }
+    requires { config.now.fallback ≤ MOST_PERCENT }
 {
     let alone = Config {
         rule: config.rule,

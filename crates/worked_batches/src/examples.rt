@@ -1,5 +1,6 @@
 // Examples that were worked out by hand.
 ghost use Rattle.std.specs.Prelude.{◌≤◌};
+ghost use Rattle.aria_base.specs.declared.limits.TheConstants.{MOST_PERCENT, MOST_WORKERS};
 
 use crate::banks::{MEMORY, calls, engine, replicas, run, run_replicas, same};
 use answer_text::{append_answer, append_state};
@@ -152,8 +153,8 @@ const EXAMPLES: [Example; 14] = [
 
 /// The settings of an example on so many workers.
 fn config_of(rt: &impl Abort, example: &Example, workers: u32) -> Config
-    requires { (1 ≤ workers) × (workers ≤ 64) }
-    ensures { (result.fallback ≤ 101) × (1 ≤ result.workers) × (result.workers ≤ 64) }
+    requires { (1 ≤ workers) × (workers ≤ MOST_WORKERS) }
+    ensures { (result.fallback ≤ MOST_PERCENT) × (1 ≤ result.workers) × (result.workers ≤ MOST_WORKERS) }
 {
     let (_, _, rule, fallback, _) = *example;
     assert!(rt; fallback <= NEVER);
@@ -174,7 +175,7 @@ fn same_text(rt: &impl Abort, case: &Config, answers: &mut Vec<u8>, engine: &Eng
 
 /// Asserts that an engine on so many workers prints what the example does.
 fn engine_prints<R: Abort + Threads + Sync>(rt: &R, alloc: Global, example: &Example, workers: u32)
-    requires { (1 ≤ workers) × (workers ≤ 64) }
+    requires { (1 ≤ workers) × (workers ≤ MOST_WORKERS) }
 {
     let config = config_of(rt, example, workers);
     let (accounts, batches, _, _, wanted) = *example;

@@ -1,5 +1,6 @@
 // Slots that are laid, shown and loaded.
 ghost use Rattle.std.specs.Prelude.{◌<◌, ◌≤◌, IfOk};
+ghost use Rattle.aria_base.specs.declared.limits.TheConstants.{MOST_PERCENT};
 ghost use Rattle.slot_images.specs.Said.{checkpoint_in, IsInOrder};
 
 use crate::words::{same, slotted};
@@ -22,7 +23,7 @@ const SECOND: [u8; 223] =
 /// Lays an image in this slot of a new disk and shows it.
 fn laid(alloc: Global, slot: u8, head: &Head, body: &[u8]) -> Result<MemDisk, Fail>
     requires slot { slot < 2 }
-    requires fallback { head.now.fallback ≤ 101 }
+    requires fallback { head.now.fallback ≤ MOST_PERCENT }
 {
     let mut disk = MemDisk::new(alloc, 100, 1_000_000, Vec::new(alloc))?;
     blank(&mut disk, slot)?;

@@ -1,5 +1,5 @@
 // A run of `init` over a source, a sink and a disk in memory.
-use aria_base::{MemSink, MemSource, Memory};
+use aria_base::{MOST_PERCENT, MemSink, MemSource, Memory};
 use batch_rules::verdicts::Rule;
 use command_words::Init;
 use disk_model::MemDisk;
@@ -75,7 +75,7 @@ fn run(
     disk: &mut MemDisk,
 ) -> Result<u8, Stop> {
     let within = Init {
-        fallback: settings.fallback.min(101),
+        fallback: settings.fallback.min(MOST_PERCENT),
         ..*settings
     };
     init(alloc, &within, input, out, disk)

@@ -1,6 +1,7 @@
 // Made-up batches that are numbered, marked by several workers, and decided in both forms.
 ghost use Rattle.std.specs.Prelude.{◌≡◌, ◌≤◌, ◌*◌, length, IfOk};
 ghost use Rattle.aria_base.specs.Reserved.{AreAbove};
+ghost use Rattle.aria_base.specs.declared.limits.TheConstants.{MOST_WORKERS};
 ghost use Rattle.worked_phases.specs.declared.decisions.TheConstants.{TAG};
 
 use crate::accounts::{same, sets};
@@ -58,7 +59,7 @@ fn alike<R: Abort + Threads + Sync>(
     sets: &[Sets],
     workers: u32,
 ) -> Result<(), Fail>
-    requires { (1 ≤ workers) × (workers ≤ 64) }
+    requires { (1 ≤ workers) × (workers ≤ MOST_WORKERS) }
 {
     if !may_be_numbered(sets) {
         panic!(rt; "too many sets");

@@ -1,6 +1,6 @@
 // A batch that several workers run.
 ghost use Rattle.std.specs.Prelude.{◌≤◌, length};
-ghost use Rattle.aria_base.specs.declared.limits.TheConstants.{MOST_REQUESTS};
+ghost use Rattle.aria_base.specs.declared.limits.TheConstants.{MOST_REQUESTS, MOST_WORKERS};
 
 use crate::accounts::{accounts, bank, change, copies, same, source, tables};
 use aria_base::{Free, Memory, Request, Value};
@@ -36,7 +36,7 @@ fn executed_by<R: Abort + Threads + Sync>(
     workers: u32,
 ) -> Result<(), Fail>
     requires list { length list.now ≤ MOST_REQUESTS }
-    requires workers { (1 ≤ workers) × (workers ≤ 64) }
+    requires workers { (1 ≤ workers) × (workers ≤ MOST_WORKERS) }
 {
     let snapshot = Snapshot::of(tables);
     let outcomes = execute_all(rt, alloc, catalog, snapshot, list, workers, &Free)?;

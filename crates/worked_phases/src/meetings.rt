@@ -1,5 +1,6 @@
 // That two workers are at work at the same time in each phase, and the steps that each tells of.
 ghost use Rattle.std.specs.Prelude.{◌≤◌};
+ghost use Rattle.aria_base.specs.declared.limits.TheConstants.{MOST_WORKERS};
 
 use crate::accounts::{bank, change, copies, same, sets, tables};
 use aria_base::{Pace, Place};
@@ -40,7 +41,7 @@ fn execute_hundred<R: Threads + Sync, P: Pace + Sync>(
     workers: u32,
     pace: &P,
 ) -> Result<(), Fail>
-    requires { (1 ≤ workers) × (workers ≤ 64) }
+    requires { (1 ≤ workers) × (workers ≤ MOST_WORKERS) }
 {
     let catalog = bank(alloc)?;
     let tables = tables(alloc, 4)?;
@@ -75,7 +76,7 @@ fn mark_hundred<R: Abort + Threads + Sync, P: Pace + Sync>(
     workers: u32,
     pace: &P,
 ) -> Result<(), Fail>
-    requires { (1 ≤ workers) × (workers ≤ 64) }
+    requires { (1 ≤ workers) × (workers ≤ MOST_WORKERS) }
 {
     let sets = hundred_sets(alloc)?;
     if !may_be_numbered(&sets) {
@@ -94,7 +95,7 @@ fn install_hundred<R: Threads + Sync, P: Pace + Sync>(
     workers: u32,
     pace: &P,
 ) -> Result<(), Fail>
-    requires { (1 ≤ workers) × (workers ≤ 64) }
+    requires { (1 ≤ workers) × (workers ≤ MOST_WORKERS) }
 {
     let mut list = Vec::new(alloc);
     let mut verdicts = Vec::new(alloc);

@@ -1,5 +1,5 @@
 // Stores with a log of hand-made records, and a run of `replay` over memory.
-use aria_base::{Free, MemSink, MemSource, Memory};
+use aria_base::{Free, MOST_REPLICAS, MOST_WORKERS, MemSink, MemSource, Memory};
 use batch_rules::verdicts::Rule;
 use command_words::{Init, Listing, Replay};
 use disk_model::MemDisk;
@@ -101,8 +101,8 @@ fn status_of<R: AllocGlobal + Threads + Sync>(
     disk: &mut MemDisk,
 ) -> Result<u8, Memory> {
     let within = Replay {
-        workers: settings.workers.clamp(1, 64),
-        replicas: settings.replicas.clamp(1, 8),
+        workers: settings.workers.clamp(1, MOST_WORKERS),
+        replicas: settings.replicas.clamp(1, MOST_REPLICAS),
         ..*settings
     };
     match replay(rt, rt.alloc(), &within, out, disk, &Free) {

@@ -1,6 +1,6 @@
 // Examples that were worked out by hand.
 ghost use Rattle.std.specs.Prelude.{◌≤◌, length};
-ghost use Rattle.aria_base.specs.declared.limits.TheConstants.{MOST_REQUESTS};
+ghost use Rattle.aria_base.specs.declared.limits.TheConstants.{MOST_REQUESTS, MOST_WORKERS};
 
 use crate::makings::{ADD, Again, COPY, HOP, SET, catalog, tables, waiting};
 use crate::words::{lates_words, numbers_words, rows_words};
@@ -131,7 +131,7 @@ fn rerun_found<R: Threads + Sync>(
     workers: u32,
 ) -> Result<String, Memory>
     requires waiting { length waiting.now ≤ MOST_REQUESTS }
-    requires workers { (1 ≤ workers) × (workers ≤ 64) }
+    requires workers { (1 ≤ workers) × (workers ≤ MOST_WORKERS) }
 {
     let (tables, lates) = rerun(rt, alloc, catalog, tables, waiting, workers, &Free)?;
     let lates = lates_words(alloc, &lates)?;
@@ -147,7 +147,7 @@ fn found<R: Threads + Sync>(
     example: &Example,
     workers: u32,
 ) -> Result<String, Fail>
-    requires { (1 ≤ workers) × (workers ≤ 64) }
+    requires { (1 ≤ workers) × (workers ≤ MOST_WORKERS) }
 {
     let (rows, list, _, _, _) = *example;
     let waiting = waiting(alloc, list)?;

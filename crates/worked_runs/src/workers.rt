@@ -1,5 +1,6 @@
 // The requests of a batch by several workers, who share the catalogue and the snapshot.
 ghost use Rattle.std.specs.Prelude.{◌≤◌};
+ghost use Rattle.aria_base.specs.declared.limits.TheConstants.{MOST_WORKERS};
 
 use crate::catalogs::{Given, catalog, request, tables};
 use crate::words::{listed, outcome_words};
@@ -30,7 +31,7 @@ fn words_by<R: Threads + Sync>(
     requests: &[Request; 4],
     workers: u32,
 ) -> Result<String, Memory>
-    requires { (1 ≤ workers) × (workers ≤ 64) }
+    requires { (1 ≤ workers) × (workers ≤ MOST_WORKERS) }
 {
     let snapshot = Snapshot::of(tables);
     let outcomes = execute_all(rt, alloc, catalog, snapshot, requests, workers, &Free)?;

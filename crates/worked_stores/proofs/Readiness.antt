@@ -4,6 +4,7 @@ use Rattle.std.specs.Prelude.{Result, Ok, Err, IfErr, OnOk}
 use Rattle.std.proofs.lemmas.List.Elements.{All-nil, All-cons}
 use Rattle.aria_base.specs.Orders.{Database}
 use Rattle.aria_base.specs.declared.calls.Call.{Call}
+use Rattle.aria_base.specs.declared.limits.TheConstants.{LONGEST_LINE}
 use Rattle.batch_rules.specs.declared.verdicts.Rule.{Rule}
 use Rattle.disk_model.specs.Histories.{History}
 use Rattle.proc_lang.specs.Catalogs.{Plan}
@@ -50,17 +51,17 @@ ready_added history old new was is before plan rows bytes rule fallback ready (O
 ready_added history old new was is before plan rows bytes rule fallback ready (Err e) refused rests known =
     ready_after history old new was is before plan rows ready e refused
 
-lines_within : (plan : Plan) (calls : List Call) → length (calls_text plan calls) ≤ 4096
-    → All (λ call. length (line_of_call plan call) ≤ 4096) calls
-lines_within plan [] le = All-nil (λ call. length (line_of_call plan call) ≤ 4096)
+lines_within : (plan : Plan) (calls : List Call) → length (calls_text plan calls) ≤ LONGEST_LINE
+    → All (λ call. length (line_of_call plan call) ≤ LONGEST_LINE) calls
+lines_within plan [] le = All-nil (λ call. length (line_of_call plan call) ≤ LONGEST_LINE)
 lines_within plan (call ∷ calls) le =
     let both = length-append (line_of_call plan call ++ 10 ∷ []) (calls_text plan calls) in
     let one = length-append (line_of_call plan call) (10 ∷ []) in
-    All-cons (λ c. length (line_of_call plan c) ≤ 4096) call calls (omega (arith, le, both, one))
+    All-cons (λ c. length (line_of_call plan c) ≤ LONGEST_LINE) call calls (omega (arith, le, both, one))
     (lines_within plan calls (omega (arith, le, both, one)))
 
 pub lines_short : (plan : Plan) (bytes : List ℕ) (batch : Batch) → IsPayload plan bytes batch → length bytes ≤ 1000
-    → All (λ call. length (line_of_call plan call) ≤ 4096) batch.calls
+    → All (λ call. length (line_of_call plan call) ≤ LONGEST_LINE) batch.calls
 lines_short plan bytes batch is short =
     let same : length bytes ≡ length (payload_text plan batch) = ap (λ (l : List ℕ). length l) is.text in
     lines_within plan batch.calls (omega (arith, same, short))

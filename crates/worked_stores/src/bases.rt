@@ -1,6 +1,7 @@
 // A database of the tests: its disk, its open store, and what is written of it.
 ghost use Rattle.std.specs.Prelude.{◌≡◌, ◌≤◌, [], IfOk, OnOk};
 ghost use Rattle.aria_base.specs.Schemas.{IsConsistent};
+ghost use Rattle.aria_base.specs.declared.limits.TheConstants.{MOST_PERCENT};
 ghost use Rattle.disk_model.specs.Recorded.{history_of};
 ghost use Rattle.worked_stores.specs.Ready.{IsReady};
 
@@ -57,7 +58,7 @@ fn first_image(alloc: Global, body: &[u8]) -> Result<Image, StoreRefused>
     ensures batches { IfOk result (λ image. image.batches ≡ 0) }
     ensures requests { IfOk result (λ image. image.requests ≡ 0) }
     ensures held { IfOk result (λ image. image.held.items ≡ []) }
-    ensures fallback { IfOk result (λ image. image.fallback ≤ 101) }
+    ensures fallback { IfOk result (λ image. image.fallback ≤ MOST_PERCENT) }
     ensures rows { IfOk result (λ image. IsConsistent image.catalog.tables image.tables) }
 {
     let Some((catalog, tables, _)) = read_body(alloc, body)? else {
@@ -133,7 +134,7 @@ impl Base {
         requests: u64,
     ) -> Result<(), StoreRefused>
         requires ready { IsReady (history_of self.old.disk) self.old.store self.old.before self.old.catalog self.old.tables }
-        requires fallback { fallback ≤ 101 }
+        requires fallback { fallback ≤ MOST_PERCENT }
         requires requests { requests ≤ 1000 }
         ensures { IsReady (history_of self.new.disk) self.new.store self.new.before self.new.catalog self.new.tables }
     {

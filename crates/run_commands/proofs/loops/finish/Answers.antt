@@ -1,5 +1,6 @@
 use Rattle.std.proofs.Common.{rules, ◌≡◌, ap, subst, [], ◌∷◌, ℕ, List, ◌≤◌, length, Option, Some, None, IfSome}
 use Rattle.std.specs.Prelude.{Ok}
+use Rattle.aria_base.specs.declared.limits.TheConstants.{LONGEST_LINE}
 use Rattle.script_text.specs.Lines.{last_line}
 use Rattle.script_course.proofs.Wholes.{last_is}
 use Rattle.run_commands.specs.Onces.{doing_result, on_line}
@@ -16,7 +17,7 @@ returns-in-Some-clause-serves g c =
 pub serve-requires-clause-short : goal.serve-requires-clause-short
 serve-requires-clause-short g c κs within =
     let is : last_line c.args.lines ≡ Some c.as_slice.result.now = search rules in
-    subst (λ (o : Option (List ℕ)). IfSome o (λ line. length line ≤ 4096)) is (last_short c.args.lines c.requires.longest c.requires.begun)
+    subst (λ (o : Option (List ℕ)). IfSome o (λ line. length line ≤ LONGEST_LINE)) is (last_short c.args.lines c.requires.longest c.requires.begun)
 
 pub returns-in-Some-clause-keeps : goal.returns-in-Some-clause-keeps
 returns-in-Some-clause-keeps g c = λ first h.

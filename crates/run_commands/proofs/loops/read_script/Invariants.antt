@@ -1,4 +1,5 @@
 use Rattle.std.proofs.Common.{◌≡◌, ◌≤◌, ◌+◌, ◌-◌, ℕ, length, None}
+use Rattle.aria_base.specs.declared.limits.TheConstants.{LONGEST_LINE}
 use Rattle.script_course.specs.Courses.{told, told_whole}
 use Rattle.script_course.specs.Served.{Carries}
 use Rattle.run_commands.specs.Keeps.{IsOpen}
@@ -20,7 +21,7 @@ invariant-loop-count g l =
       sink : g.K.Sink.faults l.initial.out ≤ g.K.Sink.faults l.out;
       faults : start.faults ≤ now.faults;
       within : l.lines.taken ≤ l.lines.limit;
-      longest : l.lines.longest ≤ 4096;
+      longest : l.lines.longest ≤ LONGEST_LINE;
       begun : length l.lines.begun ≤ l.lines.longest;
       leads : Carries (told on_line l.lines l.script.doing) (told_whole on_line l.lines l.script.doing) (g.S.Source.left l.input) (g.K.Sink.given l.out)
           (told on_line no_line l.initial.script.doing) (told_whole on_line no_line l.initial.script.doing)

@@ -1,5 +1,6 @@
 use Rattle.std.proofs.Common.{sym, subst, ap, rules, ◌≡◌, ◌∙◌, List, ℕ, length, ◌≤◌, ◌++◌, map, Some}
 use Rattle.std.specs.List.{All}
+use Rattle.aria_base.specs.declared.limits.TheConstants.{LONGEST_LINE}
 use Rattle.script_course.specs.declared.stops.Stop.TheVariants as stop
 use Rattle.script_text.specs.Lines.{Feed, Scan, scan}
 use Rattle.run_commands.specs.Passes.{Line, past, turns}
@@ -10,8 +11,8 @@ use Rattle.run_commands.proofs.loops.take_piece.Goals as goal
 
 pub each_line-requires-clause-short : goal.each_line-requires-clause-short
 each_line-requires-clause-short g c κs within =
-    subst (λ (l : List (List ℕ)). All (λ line. length line ≤ 4096) l) (sym c.deref.ensures.value)
-    (subst (λ (s : Scan). All (λ line. length line ≤ 4096) s.lines) c.in-Ok.ensures.fed (scan_short c.args.lines.now c.args.piece.now c.requires.longest c.requires.begun))
+    subst (λ (l : List (List ℕ)). All (λ line. length line ≤ LONGEST_LINE) l) (sym c.deref.ensures.value)
+    (subst (λ (s : Scan). All (λ line. length line ≤ LONGEST_LINE) s.lines) c.in-Ok.ensures.fed (scan_short c.args.lines.now c.args.piece.now c.requires.longest c.requires.begun))
 
 pub returns-in-Ok-clause-keeps : goal.returns-in-Ok-clause-keeps
 returns-in-Ok-clause-keeps g c = λ first h.
@@ -27,7 +28,7 @@ pub refuse_behind-requires-clause-short : goal.refuse_behind-requires-clause-sho
 refuse_behind-requires-clause-short g c κs within =
     let same : c.deref-in-Ok-before.result.now ≡ (scan c.args.lines.now c.args.piece.now).lines =
     c.deref-in-Ok-before.ensures.value ∙ c.in-Ok-before.ensures ∙ ap (λ (f : Feed). (scan f c.args.piece.now).lines) c.in-Err-Line.ensures.kept in
-    subst (λ (l : List (List ℕ)). All (λ line. length line ≤ 4096) l) (sym same) (scan_short c.args.lines.now c.args.piece.now c.requires.longest c.requires.begun)
+    subst (λ (l : List (List ℕ)). All (λ line. length line ≤ LONGEST_LINE) l) (sym same) (scan_short c.args.lines.now c.args.piece.now c.requires.longest c.requires.begun)
 
 pub returns-in-Ok-before-clause-keeps : goal.returns-in-Ok-before-clause-keeps
 returns-in-Ok-before-clause-keeps g c = λ first h.

@@ -1,5 +1,6 @@
-use Rattle.std.proofs.Common.{rules, ◌≡◌, ◌∙◌, ◌+◌, ◌≤◌, ◌^◌, ℕ, List, None, sym, subst, ap}
+use Rattle.std.proofs.Common.{rules, ◌≡◌, ◌∙◌, ◌≤◌, ℕ, List, None, sym, subst, ap}
 use Rattle.image_text.specs.Payloads.{Batch, IsPayload}
+use Rattle.input_log.specs.declared.limits.TheConstants.{MOST_BEFORE}
 use Rattle.store_files.specs.Stores.{Stored, Rests}
 use Rattle.aria_store.specs.Reopens.{Reopens, Found}
 use Rattle.aria_store.specs.Stands.{Kept, added}
@@ -13,7 +14,7 @@ append-requires-clause-rests g c =
     subst (λ (f : Stored). f.closed ≡ None → Rests (g.D.Disk.history c.args.disk.now) f) (sym (ap (λ (s : Kept). s.files) c.self.view_is)) c.requires.rests
 
 pub append-requires-clause-short : goal.append-requires-clause-short
-append-requires-clause-short g c = subst (λ (f : Stored). f.at ≤ 2 ^ 28 + 2 ^ 26) (sym (ap (λ (s : Kept). s.files) c.self.view_is)) c.requires.short
+append-requires-clause-short g c = subst (λ (f : Stored). f.at ≤ MOST_BEFORE) (sym (ap (λ (s : Kept). s.files) c.self.view_is)) c.requires.short
 
 pub append-requires-clause-payload : goal.append-requires-clause-payload
 append-requires-clause-payload g c =

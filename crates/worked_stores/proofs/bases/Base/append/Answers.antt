@@ -1,4 +1,5 @@
 use Rattle.std.proofs.Common.{◌≤◌, Option, All, length, option_map, sym, subst, arith}
+use Rattle.aria_base.specs.declared.limits.TheConstants.{LONGEST_LINE}
 use Rattle.disk_model.specs.Recorded.{history_of}
 use Rattle.image_text.specs.Exactly.{line_of_call}
 use Rattle.image_text.specs.Payloads.{IsThat}
@@ -12,7 +13,7 @@ append-requires-clause-lines c =
     let plan = c.args.self.now.catalog in
     let is = subst (λ (o : Option Logged). IsThat plan c.args.payload.now (option_map batch_in o)) c.in-Some.is c.in_ok-logged.ensures.batch in
     let short : length c.args.payload.now ≤ 1000 = omega (arith, c.if-payload-gt1000.false) in
-    subst (All (λ call. length (line_of_call plan call) ≤ 4096)) (sym c.as_slice.ensures.value)
+    subst (All (λ call. length (line_of_call plan call) ≤ LONGEST_LINE)) (sym c.as_slice.ensures.value)
     (lines_short plan c.args.payload.now (batch_in c.in-Some.logged) is short)
 
 pub returns : goal.returns
