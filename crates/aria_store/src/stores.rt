@@ -32,10 +32,12 @@ use std::marker::Model;
 use store_files::{Files, StoreRefused, take_slot};
 use tbl_rows::Tables;
 
-/// What attaching found: the checkpoint, and the batches behind it in their order.
+/// What attaching found.
 #[derive(Drop)]
 pub struct Found {
+    /// The checkpoint that is taken.
     pub image: Image,
+    /// The batches that stand in its log, which were run behind it, in their order.
     pub later: Vec<Logged>,
 }
 
@@ -56,8 +58,12 @@ impl Model for Store {
 }
 
 impl Store {
-    /// Writes the first checkpoint. Without `over` it answers `Exists`, and has written nothing, where a
-    /// gate is open. No write was made before an answer `Memory` either.
+    /// Writes the first checkpoint: an image of format 2 and generation 1, without batches and requests,
+    /// whose fallback is at most 101 and whose rows fit its catalogue.
+    ///
+    /// `Exists`: a gate is open and `over` is not set; nothing was written. `Memory`: there was none for the
+    /// image's text; nothing was written. `DiskFault`: a call on the disk failed, and anything may stand
+    /// there.
     pub fn create<D: Disk>(
         alloc: Global,
         disk: &mut D,
@@ -90,7 +96,11 @@ impl Store {
         })
     }
 
-    /// Syncs the four files and reads what they hold.
+    /// Syncs the four files and reads what they hold: the checkpoint of the open slot (of two, that of the
+    /// greater generation) and the batches of its log. It repairs nothing.
+    ///
+    /// `NoStore`: neither gate is open. `Damaged`: what stands in this file, from 0 to 3, is wrong, first at
+    /// this offset. `DiskFault`: a call on the disk failed. `Memory`: there was none for what was read.
     pub fn attach<D: Disk>(alloc: Global, disk: &mut D) -> Result<(Store, Found), StoreRefused>
         // A stop at any moment leaves what one could have left before.
         ensures images { LeavesAll (D.history disk.old) (D.history disk.new) (MayLeave (D.history disk.old) (D.history disk.old).now) }
@@ -145,7 +155,13 @@ impl Store {
         Ok((store, Found { image, later }))
     }
 
-    /// Adds a batch to the log. It takes its memory before its first device call.
+    /// Adds a batch to the log: at most 10,000 calls that the catalogue takes, each with a line of at most
+    /// 4,096 bytes, and a fallback of at most 101. The catalogue is that of the checkpoint. The store is of
+    /// format 2, and its log has at most [`MOST_BEFORE`](input_log::MOST_BEFORE) bytes before. It takes its
+    /// memory before its first device call.
+    ///
+    /// `Memory`: nothing was done. `DiskFault`: a call on the disk failed, the batch may be there or not,
+    /// and the store is closed. `Closed`: a call failed earlier, and nothing was done.
     pub fn append<D: Disk>(
         &mut self,
         alloc: Global,
@@ -184,8 +200,14 @@ impl Store {
         Ok(())
     }
 
-    /// Writes the next checkpoint, in format 2, with an empty log. It takes its memory before its first
-    /// device call.
+    /// Writes the next checkpoint, in format 2, with an empty log: that of the state after the batches of
+    /// the log. One may come where a batch stands in the log, or where the store is of format 1. `batches`
+    /// and `requests` count all so far, each at most 2^62; the fallback is at most 101, and the rows fit the
+    /// catalogue. It takes its memory before its first device call.
+    ///
+    /// `Memory`: nothing was done. `DiskFault`: a call on the disk failed, the checkpoint from before with
+    /// its batches or this one stands there, and the store is closed. `Closed`: a call failed earlier, and
+    /// nothing was done.
     pub fn rotate<D: Disk>(
         &mut self,
         alloc: Global,

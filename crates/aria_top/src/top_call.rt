@@ -28,12 +28,17 @@ use std::alloc::Global;
 use std::thread::Threads;
 
 /// Runs the command that the arguments are, without the program's name, from the input's bytes to the
-/// output's, and answers its status: `DONE`; `REFUSED` for a line of the input; `USAGE` for the arguments;
-/// `READ_FAULT`, `WRITE_FAULT` and `DISK_FAULT` where the source, the sink or the disk failed;
-/// `STORE_REFUSED` where there is no store, one in the way or a damaged one; `NO_MEMORY`; `FAILS` where an
-/// audit or a report does not hold. Commands that the program does not have yet are refused as arguments
-/// that are none. Those on a store have it on the disk, and all others leave the disk alone. No answer
-/// depends on the pace, the workers and the replicas.
+/// output's, and answers its status; `docs/commands.md` has what each command prints and when it ends so:
+///
+/// 0 (`DONE`): all was done. 1 (`REFUSED`): a line of the input was refused, or a drained batch would pass
+/// the greatest number. 2 (`USAGE`): the arguments are no command. 3, 4 and 5 (`READ_FAULT`, `WRITE_FAULT`,
+/// `DISK_FAULT`): the source, the sink or the disk failed. 6 (`STORE_REFUSED`): there is no store, one in
+/// the way or a damaged one. 7 (`NO_MEMORY`): there was no memory. 8 (`FAILS`): an audit or a report does
+/// not hold.
+///
+/// A command that `command_words` reads and the program does not run is refused as arguments that are none.
+/// Commands on a store have it on the disk, and all others leave the disk alone. No answer depends on the
+/// pace, the workers and the replicas.
 pub fn aria<S: Source, K: Sink, D: Disk, P: Pace + Sync, R: Threads + Sync>(
     rt: &R,
     alloc: Global,

@@ -74,8 +74,9 @@ impl Engine {
     }
 
     /// Runs the next batch: the requests that wait and these calls, which get the next request numbers, by
-    /// the rule and the fallback of the settings and by so many workers. No answer depends on the workers.
-    /// Where there was no memory, the database is gone.
+    /// the rule and the fallback of the settings, from 0 to 101, and by so many workers, from 1 to 64. No
+    /// answer depends on the workers. The catalogue takes the calls; with what waits they are at most
+    /// 10,000, and no number passes 2^62. An error: there was no memory, and the database is gone.
     pub fn run_batch<P: Pace + Sync, R: Threads + Sync>(
         self,
         rt: &R,

@@ -20,24 +20,38 @@ const MAGIC: u32 = 0x4149_5241;
 /// What stands at the beginning of a checkpoint.
 #[derive(Clone, Copy, Debug, PartialEq, Eq)]
 pub struct Head {
+    /// The format of the store: 1 or 2.
     pub format: u8,
+    /// By which rule the last batch before it was run; where none was, the rule that the store was made with.
     pub rule: Rule,
+    /// The fallback that goes with the rule, in percent, from 0 to 101.
     pub fallback: u32,
+    /// The checkpoint's number, from 1. Its parity is that of the slot.
     pub generation: u64,
+    /// How many batches were run before it, at most 2^62.
     pub batches: u64,
+    /// How many requests were numbered before it, at most 2^62.
     pub requests: u64,
 }
 
-/// What the bytes at the beginning say, whether it can be or not.
+/// What the bytes at the beginning say, whether it can be or not. The ranges are those of what can be.
 #[derive(Clone, Copy)]
 pub struct Fields {
+    /// 'ARIA' as a number, the first byte the lowest, where a checkpoint stands there.
     pub magic: u32,
+    /// The format of the store: 1 or 2.
     pub format: u8,
+    /// The rule: 0 is `plain`, 1 is `reorder`.
     pub rule: u8,
+    /// The fallback in percent, from 0 to 101.
     pub fallback: u8,
+    /// The checkpoint's number, from 1. Its parity is that of the slot.
     pub generation: u64,
+    /// How many batches were run before it, at most 2^62.
     pub batches: u64,
+    /// How many requests were numbered before it, at most 2^62.
     pub requests: u64,
+    /// How many bytes the body has.
     pub body: u64,
 }
 
@@ -64,6 +78,7 @@ impl Head {
 }
 
 impl Fields {
+    /// What the first 40 bytes of a slot say. The first of them, the gate, is not looked at.
     pub fn of(front: &[u8; 40]) -> Fields
         ensures { result ≡ fields_of front.now }
     {
@@ -116,6 +131,7 @@ impl Fields {
         self.generation.saturating_sub(self.batches) > u64::from(self.format)
     }
 
+    /// The head that the fields stand for, where nothing is wrong with them.
     pub fn head(&self) -> Head
         ensures { result ≡ head_in self.now }
     {

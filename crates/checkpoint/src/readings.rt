@@ -12,7 +12,12 @@ use aria_base::{Bytes, Failed};
 use disk_model::{Disk, LogRefused, OPEN, SHUT};
 use std::alloc::Global;
 
-/// A slot's head, where its gate is open.
+/// A slot's head, where its gate is open; none where the gate is closed or the file has no bytes. Slots are
+/// 0 and 1. No memory.
+///
+/// `Damaged` has the offset of what is wrong first: the file's length where that is under 40 bytes, the
+/// offset of a field that cannot be, or 32 where the file ends within the body. `DiskFault` comes only where
+/// a call on the disk failed.
 pub fn head_of<D: Disk>(disk: &mut D, slot: u8) -> Result<Option<Head>, LogRefused>
     requires { slot < 2 }
     ensures head { IfOk result (λ found. IfSome (current (D.history disk.old) slot) (λ f. IsHead found (slot_of slot f.seen))) }
@@ -26,7 +31,12 @@ pub fn head_of<D: Disk>(disk: &mut D, slot: u8) -> Result<Option<Head>, LogRefus
     }
 }
 
-/// A slot's head and body, where its gate is open.
+/// A slot's head and body, where its gate is open; none where the gate is closed or the file has no bytes.
+/// Slots are 0 and 1.
+///
+/// `Damaged` has the offset of what is wrong first: the file's length where that is under 40 bytes, the
+/// offset of a field of the head that cannot be, or 32 where the file ends within the body. `DiskFault`
+/// comes only where a call on the disk failed, and `Memory` where there was none for the body.
 pub fn read_slot<D: Disk>(
     alloc: Global,
     disk: &mut D,

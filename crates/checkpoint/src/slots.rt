@@ -10,7 +10,8 @@ ghost use Rattle.checkpoint.specs.Gates.{IsShut, IsShutOrSame, IsShutOrOpened, s
 use crate::heads::{FRONT, Head};
 use disk_model::{Disk, LogRefused, OPEN, SHUT, write_synced};
 
-/// Closes a slot's gate, whatever the file holds.
+/// Closes a slot's gate, whatever the file holds. Slots are 0 and 1. The one refusal is `DiskFault`, where a
+/// call on the disk failed.
 pub fn blank<D: Disk>(disk: &mut D, slot: u8) -> Result<(), LogRefused>
     requires { slot < 2 }
     ensures bytes { OnOk result (current (D.history disk.new) slot ≡ option_map (λ f. untouched (closed f.seen)) (current (D.history disk.old) slot)) }
@@ -25,8 +26,9 @@ pub fn blank<D: Disk>(disk: &mut D, slot: u8) -> Result<(), LogRefused>
     Ok(())
 }
 
-/// Closes a slot's gate where it is open. A closed one is not written again: a stop could then show it
-/// open, over what an interrupted call left behind it.
+/// Closes a slot's gate where it is open. A closed one is not written again: a stop could then show it open,
+/// over what an interrupted call left behind it. The file has to have a byte, and nothing that is not
+/// synced. The one refusal is `DiskFault`, where a call on the disk failed.
 pub fn shut<D: Disk>(disk: &mut D, slot: u8) -> Result<(), LogRefused>
     requires slot { slot < 2 }
     requires some { EachImage (current (D.history disk.old) slot) (λ image. 0 < length image) }
@@ -46,7 +48,9 @@ pub fn shut<D: Disk>(disk: &mut D, slot: u8) -> Result<(), LogRefused>
     Ok(())
 }
 
-/// Writes a head and a body behind a closed gate, which every image meanwhile has.
+/// Writes a head and a body behind a closed gate, which every image meanwhile has. The gate has to be closed
+/// in every image before, so that the file has a byte; the head's fallback is at most 101. The one refusal
+/// is `DiskFault`, where a call on the disk failed.
 pub fn lay<D: Disk>(disk: &mut D, slot: u8, head: &Head, body: &[u8]) -> Result<(), LogRefused>
     requires slot { slot < 2 }
     requires shut { EachImage (current (D.history disk.old) slot) IsShut }
@@ -63,7 +67,9 @@ pub fn lay<D: Disk>(disk: &mut D, slot: u8, head: &Head, body: &[u8]) -> Result<
     Ok(())
 }
 
-/// Opens a slot's gate. Every image meanwhile has it closed, or shows what stands behind it.
+/// Opens a slot's gate. Every image meanwhile has it closed, or shows what stands behind it. What stands
+/// there has to be synced, behind a closed gate. The one refusal is `DiskFault`, where a call on the disk
+/// failed.
 pub fn show<D: Disk>(disk: &mut D, slot: u8) -> Result<(), LogRefused>
     requires slot { slot < 2 }
     requires shut { EachImage (current (D.history disk.old) slot) IsShut }

@@ -40,7 +40,7 @@ fn least_of_keys(words: &Words, tid: u32, keys: &[Key]) -> Option<u32>
     least
 }
 
-/// The same of the keys of these rows.
+/// The least TID below `tid` that the words of the keys of these rows stand for.
 fn least_of_rows(words: &Words, tid: u32, rows: &[(Key, Option<Row>)]) -> Option<u32>
     ensures { result ≡ least_told TAG (word_in words.now) tid None (keys_of rows.now) }
 {

@@ -37,7 +37,7 @@ impl Core {
         self.is_open(event)
     }
 
-    /// The same of an event that is no turn.
+    /// Whether an event that is no turn is due.
     fn is_open(&self, event: Event) -> bool
         ensures { result ≡ is_open self.now event }
     {

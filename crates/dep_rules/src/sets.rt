@@ -2,11 +2,12 @@
 use aria_base::{Duplicate, Keys, Memory};
 use std::alloc::Global;
 
-/// What a request's run on the batch's start touched: the keys that it read before it wrote them, and
-/// the keys that it wrote.
+/// What a request's run on the batch's start touched.
 #[derive(Debug, Drop, PartialEq, Eq)]
 pub struct Sets {
+    /// The keys that it read before it wrote them.
     pub reads: Keys,
+    /// The keys that it wrote.
     pub writes: Keys,
 }
 

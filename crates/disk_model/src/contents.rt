@@ -61,6 +61,7 @@ impl Roomy {
         Ok(Roomy { bytes: copy })
     }
 
+    /// The bytes.
     pub fn as_slice(&self) -> &[u8]
         ensures { result.now ≡ self.now.bytes }
     {

@@ -51,8 +51,9 @@ impl<'a> Task for Executions<'a> {
     }
 }
 
-/// What each request comes to on the snapshot, in the order of the list. The workers draw the
-/// requests one by one, so that none waits for another; no outcome is copied.
+/// What each request comes to on the snapshot, in the order of the list, which has at most 10,000. The
+/// workers, from 1 to 64, draw the requests one by one, so that none waits for another; no outcome is
+/// copied. An error: there was no memory.
 pub fn execute_all<P: Pace + Sync, R: Threads + Sync>(
     rt: &R,
     alloc: Global,

@@ -28,8 +28,9 @@ pub fn execute(
     Ok(outcome(alloc, end, overlay))
 }
 
-/// The same within declared keys: `Moved` with the key of the run's first access that they do not
-/// allow, and where they allow all of them the outcome of the run without limits.
+/// What the request comes to on the snapshot within declared keys: `Moved` with the key of the run's first
+/// access that they do not allow, and where they allow all of them the outcome of the run without limits. An
+/// error: there was no memory.
 pub fn execute_within(
     alloc: Global,
     catalog: &Catalog,

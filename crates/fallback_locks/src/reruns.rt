@@ -18,13 +18,14 @@ use std::thread::Threads;
 use tbl_rows::Tables;
 use tbl_snapshot::Snapshot;
 
-/// Runs the waiting requests again within the keys that they declared: what becomes of each, in the
-/// order of the list, and the tables that they leave. Both are as if the requests ran one after the
-/// other, each on what the ones before it left; one that moved leaves nothing.
+/// Runs the waiting requests, at most 10,000, again within the keys that they declared: what becomes of
+/// each, in the order of the list, and the tables that they leave. Both are as if the requests ran one after
+/// the other, each on what the ones before it left; one that moved leaves nothing.
 ///
-/// The requests of a wave run at once, each worker drawing the next one; then their rows are
-/// installed, and the next wave runs. `pace` is told `Rerun` before each run. Where the catalogue
-/// takes the calls and the rows fit it, they fit it afterwards.
+/// The requests of a wave run at once, each of the workers, from 1 to 64, drawing the next one; then their
+/// rows are installed, and the next wave runs. `pace` is told `Rerun` before each run. Where the catalogue
+/// takes the calls and the rows fit it, they fit it afterwards. An error: there was no memory, and the
+/// tables are gone.
 pub fn rerun<P: Pace + Sync, R: Threads + Sync>(
     rt: &R,
     alloc: Global,

@@ -16,11 +16,14 @@ use proc_lang::Catalog;
 use std::alloc::Global;
 use std::marker::Model;
 
-/// What a log record says: a batch's rule, its fallback and its new calls.
+/// What a log record says of a batch.
 #[derive(Debug, Drop)]
 pub struct Logged {
+    /// The rule that the batch is run by.
     pub rule: Rule,
+    /// Its fallback in percent, from 0 to 101.
     pub fallback: u32,
+    /// Its new calls, in their order.
     pub calls: Vec<Call>,
 }
 

@@ -19,9 +19,11 @@ const LENGTH_BYTES: usize = 4;
 /// Where a log ends: the first closed gate of a file, and how many records stand before it.
 #[derive(Clone, Copy, Debug, PartialEq, Eq)]
 pub struct LogEnd {
+    /// The file of the disk, from 0 to 3.
     pub file: u8,
     /// The offset of the closed gate.
     pub at: u64,
+    /// How many records stand before it, one for each batch.
     pub batches: u64,
 }
 
@@ -30,10 +32,12 @@ pub struct LogEnd {
 pub struct Payload {
     /// The offset of the record's gate.
     pub at: u64,
+    /// What the record holds.
     pub bytes: Bytes,
 }
 
-/// Makes a log without batches, synced.
+/// Makes a log without batches, synced, in a file from 0 to 3. The one refusal is `DiskFault`, where a call
+/// on the disk failed.
 pub fn fresh<D: Disk>(disk: &mut D, file: u8) -> Result<LogEnd, LogRefused>
     requires { file < 4 }
     ensures end { IfOk result (λ end. end ≡ record { file = file; at = 0; batches = 0 }) }
@@ -52,9 +56,13 @@ pub fn fresh<D: Disk>(disk: &mut D, file: u8) -> Result<LogEnd, LogRefused>
     })
 }
 
-/// Adds a record at the end of a log, by four device calls: the record behind the closed gate and a
-/// closed gate behind it, and once they are synced the opened gate. After a refusal the end is as
-/// before, and the payload may be there or not.
+/// Adds a record at the end of a log, by four device calls: the record behind the closed gate and a closed
+/// gate behind it, and once they are synced the opened gate. The log has at most
+/// [`MOST_BEFORE`](crate::MOST_BEFORE) bytes before, and the payload at most
+/// [`MOST_PAYLOAD`](crate::MOST_PAYLOAD).
+///
+/// After a refusal the end is as before. `Memory` comes before the first device call. `DiskFault` comes
+/// where a call on the disk failed, and the record may be there or not.
 pub fn append<D: Disk>(
     alloc: Global,
     end: &mut LogEnd,
@@ -102,7 +110,11 @@ fn behind_gate(alloc: Global, payload: &[u8]) -> Result<Vec<u8>, AllocError>
     Ok(record)
 }
 
-/// Reads all payloads up to the first closed gate. It repairs nothing.
+/// Reads all payloads up to the first closed gate, of a log in a file from 0 to 3. It repairs nothing.
+///
+/// `Damaged` has the offset of the first gate that is not there, or that is open while the file ends before
+/// the next one. `DiskFault` comes only where a call on the disk failed, and `Memory` where there was none
+/// for the payloads.
 pub fn scan<D: Disk>(
     alloc: Global,
     disk: &mut D,

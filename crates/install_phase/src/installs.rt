@@ -15,8 +15,8 @@ use std::alloc::Global;
 use std::thread::Threads;
 use tbl_rows::{Shard, Tables};
 
-/// The tables with the writes of all that finish, one request after the other. The workers are those
-/// of [`install_changes`].
+/// The tables with the writes of all that finish, one request after the other, by 1 to 64 workers, who share
+/// them as [`install_changes`] says. An error: there was no memory, and the tables are gone.
 pub fn install<P: Pace + Sync, R: Threads + Sync>(
     rt: &R,
     alloc: Global,
@@ -67,10 +67,11 @@ fn changes_of(alloc: Global, outcomes: Vec<Outcome>) -> Result<Vec<Changes>, Mem
     Ok(list)
 }
 
-/// The same where of each request its writes are handed in, and nothing else. Each worker deals the
-/// writes of some neighbours in the list, and then makes those to shards of its own. At no time are
-/// there more threads than shards, and none is started for one worker. A worker whose thread cannot be
-/// started does its part on the thread that was to start it.
+/// The tables with the writes of all that finish, one request after the other, where of each request its
+/// writes are handed in, and nothing else. Each of the workers, from 1 to 64, deals the writes of some
+/// neighbours in the list, and then makes those to shards of its own. At no time are there more threads than
+/// shards, and none is started for one worker. A worker whose thread cannot be started does its part on the
+/// thread that was to start it. An error: there was no memory, and the tables are gone.
 pub fn install_changes<P: Pace + Sync, R: Threads + Sync>(
     rt: &R,
     alloc: Global,

@@ -31,7 +31,7 @@ pub fn get<L: Limits, A: Access>(
     Ok(())
 }
 
-/// The same, but where there is no row the run fails with the code.
+/// Reads the row of a key into registers. Where there is none, the run fails with the code.
 pub fn need<L: Limits, A: Access>(
     setting: &Setting<L>,
     table: u16,
@@ -51,7 +51,8 @@ pub fn need<L: Limits, A: Access>(
     Ok(())
 }
 
-/// The same, but where there is no row the registers get blanks. The flag, set last, tells 1 or 0.
+/// Reads the row of a key into registers. Where there is none, the registers get blanks. The flag, set last,
+/// tells 1 or 0.
 pub fn find<L: Limits, A: Access>(
     setting: &Setting<L>,
     table: u16,

@@ -141,7 +141,7 @@ impl Running {
         }
     }
 
-    /// The same, and then 1 into the flag.
+    /// Puts the columns of a row into registers, as far as there are both, and then 1 into the flag.
     pub fn set_found(&mut self, registers: &Regs, row: Row, flag: u32)
         ensures { self.new ≡ set_to self.old (slice_set (set_all registers.now row self.old.regs) flag (value.Int (pos 1))) }
     {

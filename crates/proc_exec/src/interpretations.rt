@@ -31,8 +31,8 @@ pub fn interpret<A: Access>(
     }
 }
 
-/// The same within declared keys: the run stops before its first access that they do not allow, and names
-/// its key. Nothing is said of the window then, nor where there was no memory.
+/// Runs a request through the window within declared keys: the run stops before its first access that they
+/// do not allow, and names its key. Nothing is said of the window then, nor where there was no memory.
 #[tactic(auto, using(crate::proofs::Ended::ends_within))]
 pub fn interpret_within<A: Access>(
     alloc: Global,

@@ -20,7 +20,9 @@ pub struct Outcome {
 /// What a run again may touch: it may read the keys of both lists, and write those of `writes`.
 #[derive(Debug, Drop, PartialEq, Eq)]
 pub struct Declared {
+    /// The keys that the first run read before it wrote them.
     pub reads: Keys,
+    /// The keys that the first run wrote.
     pub writes: Keys,
 }
 
@@ -45,7 +47,9 @@ pub enum Ran {
 /// A request that waits, with what its first run touched.
 #[derive(Debug, Drop, PartialEq, Eq)]
 pub struct Waiting {
+    /// The request.
     pub request: Request,
+    /// What it may touch when it is run again.
     pub declared: Declared,
 }
 

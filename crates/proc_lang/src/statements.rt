@@ -21,10 +21,10 @@ pub enum Stmt {
     Let(u32, Expr),
     /// Reads the row of a key into registers. Where there is none, the trap `Absent`.
     Get(u16, Exprs, Regs),
-    /// The same, but where there is no row the run fails with this code.
+    /// Reads the row of a key into registers. Where there is none, the run fails with this code.
     Need(u16, Exprs, Regs, u16),
-    /// The same, but where there is no row the registers get 0 or the empty text. The last register is
-    /// set after the others and tells 1 or 0: whether there was one.
+    /// Reads the row of a key into registers. Where there is none, the registers get 0 or the empty text.
+    /// The last register is set after the others and tells 1 or 0: whether there was one.
     Find(u16, Exprs, Regs, u32),
     /// Writes a row: the key, then the columns.
     Put(u16, Exprs, Exprs),

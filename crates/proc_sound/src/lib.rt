@@ -51,14 +51,14 @@ pub fn stays_consistent()
         → StaysConsistent tables (script p.body p.regs request) db }
 {}
 
-/// The same of a request that a catalogue takes: its run is not stuck on a consistent database.
+/// The run of a request that a catalogue takes is not stuck on a consistent database.
 pub fn catalog_never_stuck()
     ensures { (plan : Plan) (request : Request) (db : Database)
         → IsCatalog plan → takes plan request.call ≡ true → IsConsistent plan.tables db
         → IsNeverStuck (careful_run plan request) (run_of plan request) db }
 {}
 
-/// And it leaves a consistent database consistent.
+/// The run of a request that a catalogue takes leaves a consistent database consistent.
 pub fn catalog_stays_consistent()
     ensures { (plan : Plan) (request : Request) (db : Database)
         → IsCatalog plan → takes plan request.call ≡ true → IsConsistent plan.tables db

@@ -27,7 +27,7 @@ fn keyed<'a>(scope: &CheckScope<'a>, table: u16, parts: usize) -> Typed<&'a Tabl
     Ok(found)
 }
 
-/// The same, which has so many columns too.
+/// The table, which has keys of so many parts and so many columns.
 fn shaped<'a>(scope: &CheckScope<'a>, table: u16, parts: usize, columns: usize) -> Typed<&'a Table>
     ensures { got result (λ found. Ok found.now) ≡ shaped (seen scope.now) table parts columns }
 {

@@ -51,7 +51,7 @@ impl SetRegisters {
         }
     }
 
-    /// The same registers.
+    /// A copy of them. An error: there was no memory.
     pub fn copy(&self, alloc: Global) -> Result<SetRegisters, Memory>
         ensures { IfOk result (λ copy. copy ≡ self.now) }
     {

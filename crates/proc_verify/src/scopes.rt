@@ -33,7 +33,7 @@ impl<'a> CheckScope<'a> {
         }
     }
 
-    /// That of a block inside.
+    /// The scope of a block inside.
     pub fn inside(&self) -> CheckScope<'a>
         requires { self.now.blocks < MOST_BLOCKS }
         ensures { seen result ≡ inside (seen self.now) }
@@ -46,7 +46,7 @@ impl<'a> CheckScope<'a> {
         }
     }
 
-    /// That of a block inside, which goes over tuples of so many numbers.
+    /// The scope of a block inside, which goes over tuples of so many numbers.
     pub fn inside_each(&self, width: u8) -> CheckScope<'a>
         requires { self.now.blocks < MOST_BLOCKS }
         ensures { seen result ≡ inside_each (seen self.now) width }

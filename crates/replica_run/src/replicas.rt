@@ -40,7 +40,8 @@ impl Model for Replicas {
 }
 
 impl Replicas {
-    /// This engine and copies of it, `count` engines in all.
+    /// This engine and copies of it, `count` engines in all, from 1 to 8. An error: there was no memory for
+    /// a copy.
     pub fn begin(alloc: Global, first: Engine, count: u32) -> Result<Replicas, Memory>
         requires { (1 ≤ count) × (count ≤ MOST_REPLICAS) }
         ensures first { IfOk result (λ replicas. slice_get replicas 0 ≡ Some first) }
@@ -53,9 +54,11 @@ impl Replicas {
         Ok(replicas)
     }
 
-    /// Runs the next batch on every engine, all at once, each by so many workers. Each has then run the
-    /// batch and marked it itself. The answer is that of each of them, its order is a serial run, and the
-    /// first request of the list finishes. Where there was no memory, the engines are gone.
+    /// Runs the next batch on every engine, all at once, each by so many workers as the settings say, from 1
+    /// to 64. The catalogue takes the calls; with what waits they are at most 10,000, and no number passes
+    /// 2^62. Each engine has then run the batch and marked it itself. The answer is that of each of them,
+    /// its order is a serial run, and the first request of the list finishes. An error: there was no memory,
+    /// and the engines are gone.
     pub fn run_batch<P: Pace + Sync, R: Threads + Sync>(
         self,
         rt: &R,

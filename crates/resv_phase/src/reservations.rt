@@ -15,13 +15,13 @@ use std::alloc::Global;
 use std::thread::Threads;
 use work_crew::carry_out;
 
-/// The words over the old numbers after exactly the batch's marks: each request marks each key that it
-/// reads and each that it writes, under the tag. So they are what [`decide`](dep_rules::decide) asks
-/// for. The conditions are those of [`Words::over`].
+/// The words over the old numbers after exactly the batch's marks: each request marks each key that it reads
+/// and each that it writes, under the tag. So they are what [`decide`](dep_rules::decide) asks for. The
+/// conditions are those of [`Words::over`]. An error: there was no memory.
 ///
-/// The workers draw the requests one by one, so that none waits for another. The pace is told of each
-/// draw, and of each mark before it is made. No more threads are started than there are requests, and
-/// none for one worker.
+/// The workers, from 1 to 64, draw the requests one by one, so that none waits for another. The pace is told
+/// of each draw, and of each mark before it is made. No more threads are started than there are requests,
+/// and none for one worker.
 pub fn reserve<P: Pace + Sync, R: Threads + Sync>(
     rt: &R,
     alloc: Global,

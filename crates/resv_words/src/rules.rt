@@ -4,20 +4,21 @@ use atomic_table::{Join, Play, Split, TableRule};
 use std::collections::LinkedList;
 use std::snapshot::Snapshot;
 
-// What the words were made over. The old numbers are for clauses alone.
+/// What the words were made over. The old numbers are for clauses alone.
 #[derive(Drop)]
 pub struct Origin {
     pub old: Snapshot<Vec<u64>>,
     pub tag: u64,
 }
 
-// A seat's share of the right to close, and the marks made through it. No value of it is made.
+/// A seat's share of the right to close, and the marks made through it. No value of it is made.
 pub struct View {
     pub share: u64,
     pub marks: LinkedList<Mark>,
 }
 
-// Where all marks are made, a word has come down to the least number that was put on it, or kept its start value if that is less.
+/// Where all marks are made, a word has come down to the least number that was put on it, or kept its start
+/// value if that is less.
 pub struct LeastNumbers;
 
 impl TableRule<(), View, Origin> for LeastNumbers {
@@ -28,6 +29,7 @@ impl TableRule<(), View, Origin> for LeastNumbers {
     ghost first = { λ _. first_view };
 }
 
+/// A step on the word of a key's writers: the seat has made a mark more, of one that writes.
 pub struct MarksWrite;
 
 impl Play<(), View> for MarksWrite {
@@ -37,6 +39,7 @@ impl Play<(), View> for MarksWrite {
     ghost then = { marked true };
 }
 
+/// A step on the word of a key's readers: the seat has made a mark more, of one that reads.
 pub struct MarksRead;
 
 impl Play<(), View> for MarksRead {
@@ -46,7 +49,7 @@ impl Play<(), View> for MarksRead {
     ghost then = { marked false };
 }
 
-// A new seat has one share, and begins with the marks of the seat that it comes from.
+/// A new seat has one share, and begins with the marks of the seat that it comes from.
 pub struct OneShare;
 
 impl Split<View> for OneShare {
@@ -57,6 +60,7 @@ impl Split<View> for OneShare {
     ghost right = { one };
 }
 
+/// Of two seats one gets the shares and the marks of both, and the other has none left.
 pub struct Together;
 
 impl Join<View> for Together {

@@ -205,7 +205,8 @@ impl Closed {
         self.words.as_slice()
     }
 
-    /// The same words by value.
+    /// The words by value, two a key number k: at 2k for the requests that write the key, at 2k + 1 for
+    /// those that read it.
     pub fn into_words(self) -> Vec<u64>
         ensures { Tells self result.items }
     {

@@ -9,10 +9,15 @@ use std::mem;
 /// The commands that read a script.
 #[derive(Clone, Copy, Debug, PartialEq, Eq)]
 pub enum Mode {
+    /// Batches, run in memory.
     Once,
+    /// The head of a new store.
     Init,
+    /// Batches, run over a store.
     Run,
+    /// A script, and behind it a report of `once` on it.
     Check,
+    /// Rows of order entry.
     Audit,
 }
 

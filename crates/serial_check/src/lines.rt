@@ -87,7 +87,7 @@ pub(crate) fn wait_line(alloc: Global, q: u64) -> Result<Vec<u8>, Memory>
     Ok(line)
 }
 
-/// The same with the space.
+/// What the line of a request that waits has before the cause, with the space there.
 pub(crate) fn wait_front(alloc: Global, q: u64) -> Result<Vec<u8>, Memory>
     ensures { IfOk result (λ line. line.items ≡ wait_front q) }
 {

@@ -33,8 +33,9 @@ pub struct Live {
 }
 
 impl Live {
-    /// The database with these rows, requests that wait, and counts, in so many replicas and by these
-    /// settings. It has no store, and lays no checkpoints.
+    /// The database with these rows, requests that wait, and counts, in 1 to 8 replicas and by these
+    /// settings: a fallback from 0 to 101, and 1 to 64 workers. It has no store, and lays no checkpoints. An
+    /// error: there was no memory.
     pub fn begin(
         alloc: Global,
         catalog: Catalog,
@@ -71,7 +72,8 @@ impl Live {
     }
 
     /// Runs the next batch, of what waits and these calls, on all replicas. The text is the answer and,
-    /// where each answer has one, the listing. Where there was no memory, the database is gone.
+    /// where each answer has one, the listing. The catalogue takes the calls; with what waits they are at
+    /// most 10,000, and no number passes 2^62. An error: there was no memory, and the database is gone.
     pub fn next<P: Pace + Sync, R: Threads + Sync>(
         self,
         rt: &R,
@@ -89,7 +91,9 @@ impl Live {
         Ok((next, text))
     }
 
-    /// That batch alone, and its answer.
+    /// Runs the next batch, of what waits and these calls, on all replicas, and gives its answer as a value.
+    /// The catalogue takes the calls; with what waits they are at most 10,000, and no number passes 2^62. An
+    /// error: there was no memory, and the database is gone.
     pub fn run<P: Pace + Sync, R: Threads + Sync>(
         self,
         rt: &R,

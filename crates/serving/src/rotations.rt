@@ -49,8 +49,9 @@ pub(crate) fn rotate_where_due<D: Disk>(
     rotate(store, alloc, engine, &live.config, disk)
 }
 
-/// Lays the next checkpoint with an empty log, where there is a store that can take no batch as it is:
-/// one of format 1, or with a log longer than `MOST_LOG`.
+/// Lays the next checkpoint with an empty log, where there is a store that can take no batch as it is: one
+/// of format 1, or with a log longer than [`MOST_LOG`]. It answers `NoMemory` where there was no memory, and
+/// `NoDisk` where a call on the disk failed, and nothing else; the store is closed after `NoDisk`.
 pub fn renew_where_stale<D: Disk>(live: &mut Live, alloc: Global, disk: &mut D) -> Result<(), Given>
     requires runnable { IsRunnable live.old }
     requires kept { IfSome live.old.store (MayRenew (D.history disk.old) (state_of live.old).batches) }

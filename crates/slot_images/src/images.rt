@@ -23,18 +23,21 @@ use tbl_rows::Tables;
 pub struct Image {
     /// The format of the store: 1 or 2.
     pub format: u8,
+    /// By which rule the last batch before it was run; where none was, the rule that the store was made with.
     pub rule: Rule,
-    /// The fallback in percent, from 0 to 101.
+    /// The fallback that goes with the rule, in percent, from 0 to 101.
     pub fallback: u32,
     /// The checkpoint's number, from 1. Its parity is that of the slot.
     pub generation: u64,
-    /// How many batches were run before it.
+    /// How many batches were run before it, at most 2^62.
     pub batches: u64,
-    /// How many requests were numbered before it.
+    /// How many requests were numbered before it, at most 2^62.
     pub requests: u64,
+    /// The tables and the procedures.
     pub catalog: Catalog,
+    /// The rows.
     pub tables: Tables,
-    /// The requests that wait for the next batch, by rising numbers.
+    /// The requests that wait for the next batch, by rising numbers, at most 10,000.
     pub held: Vec<Request>,
 }
 

@@ -12,7 +12,7 @@ use aria_base::Failed;
 use checkpoint::{Head, head_of};
 use disk_model::{Disk, OPEN, SHUT};
 
-/// Whether one of the two gates is open.
+/// Whether one of the two gates is open. `Failed` comes only where a call on the disk failed.
 pub fn is_taken<D: Disk>(disk: &mut D) -> Result<bool, Failed>
     ensures taken { IfOk result (IsTaken (D.history disk.old)) }
     ensures still { Still (D.history disk.old) (D.history disk.new) }
@@ -41,7 +41,11 @@ fn gate_open<D: Disk>(disk: &mut D, slot: u8) -> Result<bool, Failed>
     Ok(gate[0] == OPEN)
 }
 
-/// Syncs the four files and looks which slot is taken. The other slot's file is not empty then.
+/// Syncs the four files and looks which slot is taken: the open one (of two, that of the greater
+/// generation). The other slot's file is not empty then. No memory.
+///
+/// `NoStore`: neither gate is open. `Damaged`: the head of an open slot is wrong, with the first offset that
+/// is, or the other slot's file has no bytes, with offset 0. `DiskFault`: a call on the disk failed.
 pub fn take_slot<D: Disk>(disk: &mut D) -> Result<(u8, Head), StoreRefused>
     ensures images { LeavesAll (D.history disk.old) (D.history disk.new) (MayLeave (D.history disk.old) (D.history disk.old).now) }
     ensures reads { ReadsAlike (D.history disk.old) (D.history disk.new) }

@@ -25,8 +25,9 @@ fn sync_one<D: Disk>(disk: &mut D, file: u8) -> Result<(), Failed>
     disk.sync(file)
 }
 
-/// Syncs the four files: every image meanwhile is one from before, and afterwards the only image of
-/// each file is what a read gives, which is what it gave before.
+/// Syncs the four files: every image meanwhile is one from before, and afterwards the only image of each
+/// file is what a read gives, which is what it gave before. `Failed` comes only where a call on the disk
+/// failed.
 pub fn sync_all<D: Disk>(disk: &mut D) -> Result<(), Failed>
     ensures images { LeavesAll (D.history disk.old) (D.history disk.new) (MayLeave (D.history disk.old) (D.history disk.old).now) }
     ensures reads { ReadsAlike (D.history disk.old) (D.history disk.new) }
@@ -40,7 +41,8 @@ pub fn sync_all<D: Disk>(disk: &mut D) -> Result<(), Failed>
     Ok(())
 }
 
-/// Shuts both gates, whatever the files hold.
+/// Shuts both gates, whatever the files hold. The one refusal is `DiskFault`, where a call on the disk
+/// failed.
 pub fn shut_both<D: Disk>(disk: &mut D) -> Result<(), LogRefused>
     requires { IsSettled (D.history disk.old) }
     ensures settled { OnOk result (IsSettled (D.history disk.new)) }
@@ -53,7 +55,8 @@ pub fn shut_both<D: Disk>(disk: &mut D) -> Result<(), LogRefused>
     blank(disk, 1)
 }
 
-/// Puts the first checkpoint into slot 1, where both gates are shut.
+/// Puts the first checkpoint into slot 1, where both gates are shut. The one refusal is `DiskFault`, where a
+/// call on the disk failed.
 pub fn put_first<D: Disk>(disk: &mut D, head: &Head, body: &[u8]) -> Result<LogEnd, LogRefused>
     requires settled { IsSettled (D.history disk.old) }
     requires first { EachImage (current (D.history disk.old) 0) IsShut }

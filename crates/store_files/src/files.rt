@@ -83,7 +83,9 @@ impl Files {
         self.closed
     }
 
-    /// Writes the first checkpoint, whatever the files hold.
+    /// Writes the first checkpoint into slot 1, whatever the files hold. The head has generation 1 and may
+    /// stand there. The one refusal is `DiskFault`, where a call on the disk failed: then anything may stand
+    /// there. No memory.
     pub fn create<D: Disk>(disk: &mut D, head: Head, body: &[u8]) -> Result<Files, LogRefused>
         requires generation { head.generation ≡ 1 }
         requires sound { IsSound 1 head }
@@ -99,7 +101,13 @@ impl Files {
         Ok(Files::known(head, end))
     }
 
-    /// Adds a record to the log. The payload is copied before the first device call.
+    /// Adds a record to the log, which has at most [`MOST_BEFORE`](input_log::MOST_BEFORE) bytes before; the
+    /// payload has at most [`MOST_PAYLOAD`](input_log::MOST_PAYLOAD). The payload is copied before the first
+    /// device call.
+    ///
+    /// `Memory`: there was none for the copy, and nothing was done. `DiskFault`: a call on the disk failed,
+    /// the record may be there or not, and the files are closed. `Closed`: a call failed earlier, and
+    /// nothing was done.
     pub fn append<D: Disk>(
         &mut self,
         alloc: Global,
@@ -138,7 +146,12 @@ impl Files {
         }
     }
 
-    /// Writes the next checkpoint into the other slot, in format 2, with an empty log. No memory.
+    /// Writes the next checkpoint into the other slot, in format 2, with an empty log. One may come where a
+    /// batch stands in the log, or where the store is of format 1. No number is above 2^62, and the fallback
+    /// is at most 101. No memory.
+    ///
+    /// `DiskFault`: a call on the disk failed, what was there or the next checkpoint stands there, and the
+    /// files are closed. `Closed`: a call failed earlier, and nothing was done.
     pub fn rotate<D: Disk>(
         &mut self,
         disk: &mut D,

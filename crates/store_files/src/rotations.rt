@@ -12,7 +12,8 @@ use checkpoint::{Head, lay, show, shut};
 use disk_model::{Disk, LogRefused};
 use input_log::{LogEnd, fresh};
 
-/// Puts a checkpoint into the slot that is not taken, with an empty log.
+/// Puts a checkpoint into the slot that is not taken, with an empty log. The one refusal is `DiskFault`,
+/// where a call on the disk failed: then what was held or the new checkpoint stands there.
 pub fn replace<D: Disk>(
     disk: &mut D,
     slot: u8,

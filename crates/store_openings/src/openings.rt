@@ -28,7 +28,13 @@ use std::alloc::Global;
 use std::thread::Threads;
 
 /// Opens the store on a disk: the database of its checkpoint and of the batches behind it, each run by its
-/// own settings. Where the store takes no batches as it is, the next checkpoint is written at once.
+/// own settings, with 1 to 64 workers in each of 1 to 8 replicas. Where the store takes no batches as it is,
+/// the next checkpoint is written at once: where it is of format 1, or its log has more than
+/// [`MOST_LOG`](serving::MOST_LOG) bytes.
+///
+/// `NoStore`: neither gate is open. `Damaged`: what stands in this file, from 0 to 3, is wrong, first at
+/// this offset; or the record there is of a batch that has no room beside what waits. Both write nothing.
+/// `NoDisk`: a call on the disk failed. `NoMemory`: there was no memory.
 pub fn open<D: Disk, P: Pace + Sync, R: Threads + Sync>(
     rt: &R,
     alloc: Global,

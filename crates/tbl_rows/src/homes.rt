@@ -30,7 +30,7 @@ pub fn shard_of(key: &Key) -> u8
     shard_at(hash_of(key), key)
 }
 
-/// The same, where the key's hash is known.
+/// The number of the shard that a key with this hash belongs to.
 #[tactic(auto, unfolding(crate::specs::Shards::home))]
 pub(crate) fn shard_at(hash: u64, key: &Key) -> u8
     requires { hash ≡ hash_of key.now }

@@ -87,7 +87,7 @@ impl Pool {
         self.put_here(hash, key, row)
     }
 
-    /// The same, in the buckets that there are.
+    /// Sets the row at the key of this hash, in the buckets that there are. `Refused` means out of memory.
     fn put_here(&mut self, hash: u64, key: Key, row: Row) -> Result<(), Refused>
         requires { hash ≡ hash_of key }
         ensures put { OnOk result (self.new ≡ fin.insert self.old key row) }

@@ -8,7 +8,9 @@ use std::fmt;
 /// There was no memory for a row that was to be put. The pair comes back, and nothing has changed.
 #[derive(Debug, Drop)]
 pub struct Refused {
+    /// The key of the row.
     pub key: Key,
+    /// The row that was to be put there.
     pub row: Row,
 }
 

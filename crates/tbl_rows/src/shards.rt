@@ -73,7 +73,7 @@ impl Shard {
         self.put_at(hash_of(&key), key, row)
     }
 
-    /// The same, where the key's hash is known.
+    /// Sets the row at a key with this hash. `Refused` means out of memory.
     pub(crate) fn put_at(&mut self, hash: u64, key: Key, row: Row) -> Result<(), Refused>
         requires hash { hash ≡ hash_of key }
         requires home { home key ≡ self.old.number }
@@ -97,7 +97,7 @@ impl Shard {
         self.delete_at(hash_of(key), key)
     }
 
-    /// The same, where the key's hash is known.
+    /// Removes the row at a key with this hash, and tells whether there was one.
     pub(crate) fn delete_at(&mut self, hash: u64, key: &Key) -> bool
         requires hash { hash ≡ hash_of key.now }
         requires home { home key.now ≡ self.old.number }

@@ -11,10 +11,10 @@ use std::alloc::Global;
 use std::thread::{Threads, join};
 use work_claim::{ClaimSeat, Claims};
 
-/// The first hand after the work, with all that the workers made: each place was run once. The pace is
-/// told of each draw, and by the work of what a run does. No more threads are started than there are
-/// places, and none for one worker. A worker whose thread cannot be started does its part on the thread
-/// that was to start it.
+/// The first hand after the work, with all that the workers made: each place was run once. There are 1 to 64
+/// workers. The pace is told of each draw, and by the work of what a run does. No more threads are started
+/// than there are places, and none for one worker. A worker whose thread cannot be started does its part on
+/// the thread that was to start it. An error: there was no memory.
 pub fn carry_out<W: Work + Sync, P: Pace + Sync, R: Threads + Sync>(
     rt: &R,
     alloc: Global,

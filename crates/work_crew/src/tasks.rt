@@ -73,8 +73,8 @@ impl<'a, T: Task, P: Pace> Work for Gathering<'a, T, P> {
     }
 }
 
-/// What all places come to, in their order. The workers are those of [`carry_out`], and the pace is told
-/// of each run as the step that the task names.
+/// What all places come to, in their order. The workers, from 1 to 64, draw the places as [`carry_out`]
+/// says, and the pace is told of each run as the step that the task names. An error: there was no memory.
 pub fn gather<T: Task + Sync, P: Pace + Sync, R: Threads + Sync>(
     rt: &R,
     alloc: Global,
