@@ -14,7 +14,7 @@ use crate::readers::{FromToken, read_tokens};
 use crate::refusals::{Kind8, LinesRefused, Refusal};
 use aria_base::{
     Args, Bytes, FEWEST_PARTS, MOST_ARGS, MOST_COLUMNS, MOST_PARTS, Memory, Part, Parts, Row, Txt,
-    is_word,
+    TxtRefused, is_word,
 };
 use std::alloc::Global;
 
@@ -123,13 +123,15 @@ fn only_token(line: &[u8]) -> Option<&[u8]>
 }
 
 /// A word as a text.
+#[tactic(auto, using(crate::proofs::WordsRead::word_is_short, crate::proofs::WordsRead::word_has_no_bad_byte))]
 fn word(alloc: Global, bytes: &[u8]) -> Result<Txt, Memory>
     requires { is_word bytes.now ≡ true }
     ensures { IfOk result (λ text. text ≡ bytes.now) }
 {
     match Txt::of(alloc, bytes) {
         Ok(text) => Ok(text),
-        Err(_) => Err(Memory),
+        Err(TxtRefused::Memory) => Err(Memory),
+        Err(TxtRefused::TooLong { .. } | TxtRefused::BadByte { .. }) => unreachable!(),
     }
 }
 

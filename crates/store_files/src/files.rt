@@ -139,10 +139,7 @@ impl Files {
                 self.closed = Some(disk.faults());
                 Err(StoreRefused::DiskFault)
             }
-            Err(LogRefused::Damaged { .. }) => {
-                self.closed = Some(disk.faults());
-                Err(StoreRefused::DiskFault)
-            }
+            Err(LogRefused::Damaged { .. }) => unreachable!(),
         }
     }
 
@@ -199,10 +196,11 @@ impl Files {
                 self.end = end;
                 Ok(())
             }
-            Err(_) => {
+            Err(LogRefused::DiskFault) => {
                 self.closed = Some(disk.faults());
                 Err(StoreRefused::DiskFault)
             }
+            Err(LogRefused::Memory | LogRefused::Damaged { .. }) => unreachable!(),
         }
     }
 }
