@@ -13,10 +13,12 @@
 //!     Codes       a state as a value of a model
 //! ```
 //!
-//! The definitions stand in specs/, and there is no code but the types of `answers`.
+//! The definitions stand in specs/, and the code is the types of `answers` and the list of a batch in `lists`.
 #![tactic(auto)]
 
 pub mod answers;
 pub mod laws;
+mod lists;
 
 pub use answers::{Answer, Line, Order, Replies, Reply, Wait};
+pub use lists::number_calls;

@@ -12,11 +12,10 @@ ghost use Rattle.batch_engine.specs.Marks.{HasMarked};
 
 use crate::commits::commit;
 use crate::lasts::Last;
-use crate::lists::number_calls;
 use crate::marks::Marked;
 use crate::settlements::settle;
 use aria_base::{Call, Duplicate, Items, MOST_REQUESTS, Memory, Pace, Request};
-use batch_core::Answer;
+use batch_core::{Answer, number_calls};
 use dep_rules::Config;
 use proc_lang::Catalog;
 use std::alloc::Global;

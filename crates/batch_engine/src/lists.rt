@@ -1,34 +1,14 @@
 // The list of a batch, and what its requests come to, apart by who needs it.
-ghost use Rattle.std.specs.Prelude.{◌≡◌, ◌+◌, ◌<◌, ◌^◌, ◌++◌, ◌∷◌, [], length, map, IfOk, OnOk};
-ghost use Rattle.batch_core.specs.Steps.{numbered};
+ghost use Rattle.std.specs.Prelude.{◌≡◌, ◌++◌, ◌∷◌, [], map, IfOk, OnOk};
 ghost use Rattle.batch_rules.specs.Touches.{keys_of};
 ghost use Rattle.batch_engine.specs.Lists.{sets_in, waiting_among};
 
-use aria_base::{Call, Changes, Duplicate, Items, Keys, Memory, Request};
+use aria_base::{Changes, Duplicate, Items, Keys, Memory, Request};
 use batch_rules::verdicts::Verdict;
 use dep_rules::Sets;
 use proc_exec::{Declared, Outcome, Waiting};
 use proc_lang::End;
 use std::alloc::Global;
-
-/// The list of a batch: what was carried, then the new calls with the next request numbers.
-pub(crate) fn number_calls(
-    carried: Vec<Request>,
-    new: Vec<Call>,
-    requests: u64,
-) -> Result<Vec<Request>, Memory>
-    requires { requests + length new.items < 2 ^ 64 }
-    ensures { IfOk result (λ list. list.items ≡ carried.items ++ numbered requests new.items) }
-{
-    let mut list = carried;
-    let mut q = requests;
-    list.reserve(new.len())?;
-    for call in new {
-        q += 1;
-        list.push(Request { q, call })?;
-    }
-    Ok(list)
-}
 
 /// The request numbers of a list.
 pub(crate) fn numbers_of(alloc: Global, list: &[Request]) -> Result<Vec<u64>, Memory>

@@ -1,9 +1,8 @@
 // Answers.
-ghost use Rattle.std.specs.Prelude.{◌≡◌, ◌+◌, ◌≤◌, ◌<◌, ◌^◌, ◌++◌, length, not, is_some, IfOk, option_copied, false};
+ghost use Rattle.std.specs.Prelude.{◌≡◌, ◌+◌, ◌≤◌, ◌<◌, ◌^◌, length, not, is_some, IfOk, option_copied, false};
 ghost use Rattle.std.specs.BTreeMap as tree;
 ghost use Rattle.std.specs.List.{filter};
 ghost use Rattle.std.specs.Ordering.{nat_cmp};
-ghost use Rattle.batch_core.specs.Steps.{numbered};
 ghost use Rattle.serial_check.specs.Halts.{Decides, DecidesBy};
 ghost use Rattle.serial_check.specs.Reports.{IsWithin, answer, answer_lines, ran_at, replies, reply, told_at};
 
@@ -14,6 +13,7 @@ use crate::reports::{expect, expect_wait};
 use crate::serial_runs::{Ends, run_in_order};
 use crate::standings::{Reading, Standing};
 use aria_base::{Bytes, Call, Items, Memory, Request};
+use batch_core::number_calls;
 use proc_lang::{Catalog, End};
 use std::alloc::Global;
 use tbl_rows::Tables;
@@ -92,25 +92,6 @@ fn expect_run(
     let order = expect_order(alloc, report, list, at)?;
     let ends = run_in_order(alloc, catalog, tables, &order)?;
     Ok(ends)
-}
-
-/// The list of a batch: what is carried, then the new calls with the next request numbers.
-fn number_calls(
-    carried: Vec<Request>,
-    new: Vec<Call>,
-    requests: u64,
-) -> Result<Vec<Request>, Memory>
-    requires { requests + length new.items < 2 ^ 64 }
-    ensures list { IfOk result (λ list. list.items ≡ carried.items ++ numbered requests new.items) }
-    ensures count { IfOk result (λ list. length list.items ≡ length carried.items + length new.items) }
-{
-    let mut list = carried;
-    let mut q = requests;
-    for call in new {
-        q += 1;
-        list.push(Request { q, call })?;
-    }
-    Ok(list)
 }
 
 /// The place behind the lines of an answer that stand behind its first one. Its order line is passed over.

@@ -1,7 +1,7 @@
 use Rattle.std.proofs.Common.{◌≡◌, ◌+◌, ◌++◌, length}
 use Rattle.std.specs.Vec.Iter.{into_iter_items}
 use Rattle.batch_core.specs.Steps.{numbered}
-use Rattle.serial_check.proofs.answers.number_calls.Given as goal
+use Rattle.batch_core.proofs.lists.number_calls.Given as goal
 
 abbrev pub invariant-loop-call : goal.invariant-loop-call
 invariant-loop-call l =
