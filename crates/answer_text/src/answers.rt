@@ -72,8 +72,8 @@ fn append_reply(out: &mut Vec<u8>, tables: &Schema, reply: &Reply) -> Result<(),
     }
 }
 
-/// Appends how a request ended, behind a space.
-fn append_end(out: &mut Vec<u8>, end: &End) -> Result<(), Memory>
+/// Appends how a request ended, behind a space. Where there was no memory, a part of it may stand in `out`.
+pub fn append_end(out: &mut Vec<u8>, end: &End) -> Result<(), Memory>
     ensures { OnOk result (out.new.items ≡ out.old.items ++ end_text end.now) }
 {
     match end {

@@ -23,7 +23,7 @@ mod notices;
 mod refusals;
 mod states;
 
-pub use answers::{append_answer, print_answer};
+pub use answers::{append_answer, append_end, print_answer};
 pub use notices::{
     Refused, append_at, append_counted, append_damaged, append_kept, ready_line, refused_line,
 };

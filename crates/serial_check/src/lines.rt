@@ -1,12 +1,12 @@
 // How the lines of a report are written, each into a buffer of its own and without its line feed.
-ghost use Rattle.std.specs.Prelude.{◌≡◌, ◌++◌, IfOk, OnOk};
-ghost use Rattle.answer_text.specs.Answers.{end_text, trap_word};
+ghost use Rattle.std.specs.Prelude.{◌≡◌, IfOk};
 ghost use Rattle.script_text.specs.Written.{row_line};
 ghost use Rattle.serial_check.specs.Lines.{counted, batch_line, end_line, kept_line, ended_line, wait_line, wait_front, state_line, end_state_line, order_word};
 
+use answer_text::append_end;
 use aria_base::{Key, Memory, Row, Schema};
-use proc_lang::{End, Trap};
-use script_text::{append_number, append_row, append_tokens};
+use proc_lang::End;
+use script_text::{append_number, append_row};
 use std::alloc::Global;
 
 /// The first line of an answer.
@@ -103,38 +103,4 @@ fn counted(alloc: Global, word: &[u8], number: u64) -> Result<Vec<u8>, Memory>
     let mut line = Vec::from_slice(alloc, word)?;
     append_number(&mut line, number)?;
     Ok(line)
-}
-
-/// Appends how a request ended, behind a space.
-fn append_end(line: &mut Vec<u8>, end: &End) -> Result<(), Memory>
-    ensures { OnOk result (line.new.items ≡ line.old.items ++ end_text end.now) }
-{
-    match end {
-        End::Done(gives) => {
-            line.extend_from_slice(b" ok")?;
-            append_tokens(line, gives.as_slice())
-        }
-        End::Back(code) => {
-            line.extend_from_slice(b" back ")?;
-            append_number(line, *code)
-        }
-        End::Trap(trap) => {
-            line.extend_from_slice(b" trap ")?;
-            line.extend_from_slice(word_of(*trap))?;
-            Ok(())
-        }
-    }
-}
-
-/// The word of a trap.
-fn word_of(trap: Trap) -> &'static [u8]
-    ensures { result.now ≡ trap_word trap }
-{
-    match trap {
-        Trap::Overflow => b"overflow",
-        Trap::Zero => b"zero",
-        Trap::Absent => b"absent",
-        Trap::Long => b"long",
-        Trap::Many => b"many",
-    }
 }
