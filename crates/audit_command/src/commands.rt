@@ -9,8 +9,7 @@ ghost use Rattle.script_course.specs.declared.statuses.TheConstants as status;
 
 use crate::audits::Auditing;
 use aria_base::{LONGEST_LINE, Sink, Source};
-use run_commands::MOST_BYTES;
-use script_course::{Stop, read_through};
+use script_course::{MOST_BYTES, Stop, read_through};
 use std::alloc::Global;
 
 /// Reads the head that the source gives to its end, and then prints whether the audit of its rows holds, or

@@ -1,9 +1,10 @@
 -- The output of `check`.
 use Rattle.std.specs.Prelude.{ℕ, List}
 use Rattle.script_course.specs.Courses.{Course, Out, told, whole}
+use Rattle.script_course.specs.declared.readings.TheConstants.{MOST_BYTES}
 use Rattle.script_text.specs.Lines.{Feed, blank}
 use Rattle.check_command.specs.Checks.{Doing, on_line, on_end, start}
-use Rattle.check_command.specs.declared.commands.TheConstants.{MOST_BYTES, LONGEST_CHECKED}
+use Rattle.check_command.specs.declared.commands.TheConstants.{LONGEST_CHECKED}
 
 -- no byte was read
 abbrev pub no_line : Feed

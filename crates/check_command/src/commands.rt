@@ -10,11 +10,8 @@ ghost use Rattle.script_course.specs.declared.statuses.TheConstants as status;
 use crate::ends::end_of;
 use crate::readings::Reading;
 use aria_base::{Sink, Source};
-use script_course::{Stop, read_through};
+use script_course::{MOST_BYTES, Stop, read_through};
 use std::alloc::Global;
-
-/// The most bytes of an input.
-pub const MOST_BYTES: u64 = 2_147_483_648;
 
 /// The most bytes of a line, of the script and of the report.
 pub const LONGEST_CHECKED: u32 = 262_144;

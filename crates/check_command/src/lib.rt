@@ -17,5 +17,5 @@ mod readings;
 mod texts;
 mod works;
 
-pub use commands::{LONGEST_CHECKED, MOST_BYTES, check_report};
+pub use commands::{LONGEST_CHECKED, check_report};
 pub use laws::crowded_is_ended;

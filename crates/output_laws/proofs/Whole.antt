@@ -19,9 +19,9 @@ use Rattle.report_laws.specs.Scripts.{AreDrains, calls_of, drain_lines, ends_lis
 use Rattle.run_commands.specs.Bases.{plan_in}
 use Rattle.run_commands.specs.Onces as once
 use Rattle.run_commands.specs.Outs as outs
-use Rattle.run_commands.specs.declared.loops.TheConstants as limits
-use Rattle.check_command.specs.declared.commands.TheConstants as bounds
+use Rattle.check_command.specs.declared.commands.TheConstants.{LONGEST_CHECKED}
 use Rattle.script_course.specs.Courses.{Course, Goes, Stops, Out, behind, ended, out_behind, told_whole, with_lines}
+use Rattle.script_course.specs.declared.readings.TheConstants.{MOST_BYTES}
 use Rattle.script_course.specs.declared.statuses.TheConstants.{DONE, FAILS, REFUSED}
 use Rattle.script_places.proofs.Allowed.{closes}
 use Rattle.script_places.specs.Places.{asked, closing}
@@ -214,7 +214,7 @@ module _ (own : (plan : Plan) (rule : Rule) (percent : ℕ) (rows : Database) �
       judged : IsInput text Bytes → checked.out_of (reported text Bytes) ≡ check.out_of_finding c.ends (serial.finding plan (c.report ++ whole_report) c.rows c.script)
       judged within =
           ap (ended check.on_end)
-          (whole_lines check.on_line bounds.MOST_BYTES bounds.LONGEST_CHECKED check.start (reported text Bytes) within
+          (whole_lines check.on_line MOST_BYTES LONGEST_CHECKED check.start (reported text Bytes) within
           ∙ ap (with_lines check.on_line (Goes [] check.start)) joint_lines ∙ all_read)
           ∙ ap (out_behind []) (told_end begins whole_report closed.1.settled closed.1.calls)
           ∙ behind_none (check.out_of_finding c.ends (serial.finding plan (c.report ++ whole_report) c.rows c.script))
@@ -248,7 +248,7 @@ module _ (own : (plan : Plan) (rule : Rule) (percent : ℕ) (rows : Database) �
   by_course (Goes bytes o) e =
       let none = goes_within once.on_line outs.no_line start o text bytes e in
       let run_so : with_lines once.on_line (Goes [] start) (lines_of text) ≡ Goes bytes o =
-      sym (whole_lines once.on_line limits.MOST_BYTES LONGEST_LINE start text none) ∙ e in
+      sym (whole_lines once.on_line MOST_BYTES LONGEST_LINE start text none) ∙ e in
       let beside = subst (λ (k : Course once.Doing). LinesOn lines each settings.rule settings.fallback k (with_lines check.on_line (Goes [] check.start) (lines_of text))) run_so
       (lines_beside lines each settings.rule settings.fallback (lines_of text) start check.start [] [] begun) in
       by_closed o bytes beside.1 beside.0 beside.2 beside.3 (closing o.place) refl

@@ -7,12 +7,12 @@ use Rattle.command_words.specs.declared.settings.Listing.{Listing}
 use Rattle.command_words.specs.declared.settings.Listing.TheVariants.{Each, Last}
 use Rattle.command_words.specs.declared.settings.Once.{Once}
 use Rattle.script_course.specs.Courses.{Course, Out, told, told_whole, whole}
+use Rattle.script_course.specs.declared.readings.TheConstants.{MOST_BYTES}
 use Rattle.script_places.specs.Places.{start}
 use Rattle.script_places.specs.declared.places.Mode.TheVariants as mode
 use Rattle.script_text.specs.Lines.{Feed, blank, scan}
 use Rattle.run_commands.specs.Onces.{Doing, on_line, on_end}
 use Rattle.run_commands.specs.Passes.{Turn, ending_behind, turns_whole}
-use Rattle.run_commands.specs.declared.loops.TheConstants.{MOST_BYTES}
 
 abbrev pub is_each : Listing → Bool
 is_each Each = true

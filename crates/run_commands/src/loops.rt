@@ -18,13 +18,10 @@ ghost use Rattle.run_commands.specs.Turns.{HoldsScript, KeepsTurns, Stays};
 use crate::scripts::Script;
 use aria_base::{Bytes, LONGEST_LINE, Memory, Pace, Sink, Source};
 use disk_model::Disk;
-use script_course::{PIECE, Stop, refuse};
+use script_course::{MOST_BYTES, PIECE, Stop, refuse};
 use script_text::{Lines, LinesRefused, Refusal};
 use std::alloc::Global;
 use std::thread::Threads;
-
-/// The most bytes of an input.
-pub const MOST_BYTES: u64 = 2_147_483_648;
 
 /// Reads the source to its end, and takes each line as soon as it is whole. The answer is the script behind
 /// the last line, the one at the end that no line feed completes included.

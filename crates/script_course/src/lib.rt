@@ -25,7 +25,7 @@ mod stops;
 pub use courses::Reads;
 pub use gives::{end_with, give, refuse};
 pub use laws::ends_of;
-pub use readings::{PIECE, read_through};
+pub use readings::{MOST_BYTES, PIECE, read_through};
 pub use statuses::{
     DISK_FAULT, DONE, FAILS, NO_MEMORY, READ_FAULT, REFUSED, STORE_REFUSED, USAGE, WRITE_FAULT,
 };

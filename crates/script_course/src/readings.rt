@@ -14,6 +14,9 @@ use aria_base::{Bytes, Memory, Sink, Source};
 use script_text::{Lines, LinesRefused, Refusal};
 use std::alloc::Global;
 
+/// The most bytes of an input.
+pub const MOST_BYTES: u64 = 2_147_483_648;
+
 /// How many bytes are asked for at a time.
 pub const PIECE: usize = 65_536;
 

@@ -18,7 +18,7 @@ use Rattle.run_commands.specs.Onces.{Doing, on_end, on_line}
 use Rattle.run_commands.specs.Outs.{is_each, no_line}
 use Rattle.run_commands.specs.Passes.{Line, last, on_turn}
 use Rattle.run_commands.specs.Resumes.{resumed}
-use Rattle.run_commands.specs.declared.loops.TheConstants.{MOST_BYTES}
+use Rattle.script_course.specs.declared.readings.TheConstants.{MOST_BYTES}
 use Rattle.store_commands.specs.Drafts as drafts
 use Rattle.store_commands.specs.declared.drafts.Draft.{Draft}
 use Rattle.store_commands.specs.Drafts.{said_by, values_of}

@@ -23,7 +23,7 @@ use Rattle.run_commands.specs.Onces.{Doing, on_end, on_line}
 use Rattle.run_commands.specs.Outs.{is_each, no_line, start_of}
 use Rattle.run_commands.specs.Passes.{Line, Turn, last, on_turn, past, turns_whole}
 use Rattle.run_commands.specs.Resumes.{resumed}
-use Rattle.run_commands.specs.declared.loops.TheConstants.{MOST_BYTES}
+use Rattle.script_course.specs.declared.readings.TheConstants.{MOST_BYTES}
 use Rattle.resume_laws.specs.Resumptions.{answers, answers_of, run_from}
 use Rattle.store_commands.specs.Drafts as drafts
 use Rattle.store_commands.specs.declared.drafts.Draft.{Draft}

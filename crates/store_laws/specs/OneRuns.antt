@@ -19,7 +19,7 @@ use Rattle.run_commands.specs.Onces.{Doing, on_line}
 use Rattle.run_commands.specs.Outs.{is_each, no_line, out_of, start_of}
 use Rattle.run_commands.specs.Passes.{turns_whole}
 use Rattle.run_commands.specs.Resumes.{held_over_all, out_from, out_over, resumed, start_over}
-use Rattle.run_commands.specs.declared.loops.TheConstants.{MOST_BYTES}
+use Rattle.script_course.specs.declared.readings.TheConstants.{MOST_BYTES}
 use Rattle.resume_laws.specs.Resumptions.{AreStopped, answers, answers_of, later_than, run_from}
 use Rattle.store_commands.specs.Drafts.{said_by}
 use Rattle.store_commands.specs.Inits.{IsMadeOf, first_checkpoint}

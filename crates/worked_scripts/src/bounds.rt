@@ -1,7 +1,8 @@
 // Scripts at their limits.
 ghost use Rattle.std.specs.Prelude.{◌<◌};
 
-use crate::outcomes::{FIRST, LIMIT, outcome_within, same, start};
+use crate::outcomes::{FIRST, outcome_within, same, start};
+use script_course::MOST_BYTES;
 use script_places::{Counts, Mode};
 use std::alloc::Global;
 use std::process::Abort;
@@ -40,7 +41,7 @@ fn ends_with(
     wanted: &str,
 ) -> Result<(), Fail> {
     let echo = start(alloc, mode, counts)?;
-    let found = outcome_within(alloc, LIMIT, echo, text.as_bytes(), 4096)?;
+    let found = outcome_within(alloc, MOST_BYTES, echo, text.as_bytes(), 4096)?;
     let last = &found[found.len().saturating_sub(wanted.len())..];
     same(rt, &wanted, &last, &wanted.as_bytes());
     Ok(())

@@ -5,7 +5,7 @@ use crate::echoes::Echo;
 use answer_text::print_refusal;
 use aria_base::{MemSink, MemSource};
 use cat_builtin::builtin;
-use script_course::{Stop, read_through};
+use script_course::{MOST_BYTES, Stop, read_through};
 use script_places::{Counts, Mode, Place};
 use script_text::{LinesRefused, Refusal};
 use std::alloc::Global;
@@ -38,9 +38,6 @@ pub fn start(alloc: Global, mode: Mode, counts: Counts) -> Result<Echo, Fail> {
     Ok(Echo { place, counts })
 }
 
-/// The most bytes of a script.
-pub const LIMIT: u64 = 2_147_483_648;
-
 /// What the script prints, where source and sink fail at these calls, and then how it ends.
 pub fn outcome(
     alloc: Global,
@@ -55,7 +52,7 @@ pub fn outcome(
     let text = Vec::from_slice(alloc, text)?;
     let mut input = MemSource::new(text, piece, Vec::from_slice(alloc, source_fails)?);
     let mut out = MemSink::new(alloc, 100_000, Vec::from_slice(alloc, sink_fails)?)?;
-    read_within(alloc, LIMIT, echo, &mut input, &mut out)
+    read_within(alloc, MOST_BYTES, echo, &mut input, &mut out)
 }
 
 /// What a script of at most so many bytes prints, and then how it ends.
