@@ -2,8 +2,8 @@
 ghost use Rattle.std.specs.Prelude.{◌≡◌};
 ghost use Rattle.tpcc_audit.specs.Facts as facts;
 
-use crate::tables::{DISTRICTS, OPEN_ORDERS, ORDER_LINES, ORDERS, WAREHOUSES};
 use aria_base::{Key, Part, Row, Value};
+use tpcc_load::tables::{DISTRICTS, OPEN_ORDERS, ORDER_LINES, ORDERS, WAREHOUSES};
 
 /// A district, by its warehouse's number and its own.
 #[derive(Clone, Copy, Debug, PartialEq, Eq, PartialOrd, Ord)]

@@ -15,7 +15,6 @@ mod conditions;
 mod facts;
 mod findings;
 mod laws;
-mod tables;
 mod tallies;
 
 pub use audits::audit;

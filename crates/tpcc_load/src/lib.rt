@@ -22,7 +22,7 @@ mod rows;
 mod settings;
 mod shuffles;
 mod stocks;
-mod tables;
+pub mod tables;
 #[cfg(test)]
 mod tests;
 
