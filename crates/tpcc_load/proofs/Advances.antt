@@ -2,6 +2,7 @@
 use Rattle.std.proofs.Common.{refl, ℕ, zero, suc, ◌+◌, Bool, true, false, List, nat_lt, if◌then◌else◌, ◌&&◌, ◌==◌}
 use Rattle.load_gen.specs.Draws.{Drawn, random}
 use Rattle.load_gen.proofs.Advances.{Advances, past-refl, past-trans}
+use Rattle.tpcc_load.specs.declared.districts.TheConstants.{DISTRICTS_EACH}
 use Rattle.tpcc_load.specs.declared.requests.Start.{Start}
 use Rattle.tpcc_load.specs.declared.settings.Tpcc.{Tpcc}
 use Rattle.tpcc_load.specs.Draws.{over, other_warehouse}
@@ -58,7 +59,7 @@ pub payment-advances : (s : Tpcc) (number : ℕ) → Advances (payment s number)
 unfolding payment
 payment-advances s number g =
     let w = random 1 s.warehouses g in
-    let d = random 1 10 w.1 in
+    let d = random 1 DISTRICTS_EACH w.1 in
     let at = home s w.0 d.0 d.1 in
     past-trans g d.1 _ (2, refl)
     (past-trans d.1 at.1 _ (home-advances s w.0 d.0 d.1) (past-trans at.1 (payer s at.1).1 _ (payer-advances s at.1) (1, refl)))

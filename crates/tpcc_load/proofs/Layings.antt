@@ -6,6 +6,7 @@ use Rattle.rand_pcg.specs.Lcg.{Lcg}
 use Rattle.aria_base.specs.Orders.{Database}
 use Rattle.cat_builtin.specs.Warehouses as table
 use Rattle.load_gen.specs.Draws.{random}
+use Rattle.tpcc_load.specs.declared.districts.TheConstants.{DISTRICTS_EACH}
 use Rattle.tpcc_load.specs.declared.settings.Tpcc.{Tpcc}
 use Rattle.tpcc_load.specs.declared.names.Rank.{Rank}
 use Rattle.tpcc_load.specs.declared.customers.Person.{Person}
@@ -76,11 +77,11 @@ district-laid s w d tax ranks places t0 t1 t2 t3 t4 g0 g1 g2 g3 g4 p1 q1 p2 q2 q
 pub warehouse-laid : (s : Tpcc) (w tax : ℕ) (t0 t1 t2 t3 : Database) (g0 g1 g2 g3 : Lcg)
     → (tax, g1) ≡ random 0 2000 g0 → t1 ≡ laid t0 (row_of table.warehouses (w ∷ []) (pos tax ∷ pos 30000000 ∷ []) ∷ [])
     → (t2, g2) ≡ laid_drawn t1 (over s.items (stock w) g1)
-    → (t3, g3) ≡ laid_drawn t2 (over 10 (district s w) g2)
+    → (t3, g3) ≡ laid_drawn t2 (over DISTRICTS_EACH (district s w) g2)
     → (t3, g3) ≡ laid_drawn t0 (warehouse s w g0)
 warehouse-laid s w tax t0 t1 t2 t3 g0 g1 g2 g3 p1 q1 q2 q3 =
     let stocks : Lcg → List Row × Lcg = λ g. over s.items (stock w) g in
-    let districts : Lcg → List Row × Lcg = λ g. over 10 (district s w) g in
+    let districts : Lcg → List Row × Lcg = λ g. over DISTRICTS_EACH (district s w) g in
     let row : ℕ → Row = λ n. row_of table.warehouses (w ∷ []) (pos n ∷ pos 30000000 ∷ []) in
     q3
     ∙ ap (λ x. (laid x.0 (districts x.1).0, (districts x.1).1)) q2

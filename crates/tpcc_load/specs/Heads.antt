@@ -8,6 +8,7 @@ use Rattle.aria_base.specs.declared.values.Value.TheVariants as value
 use Rattle.cat_builtin.specs.Warehouses as table
 use Rattle.load_gen.specs.Draws.{Drawn, known, ◌>>=◌, random, percent}
 use Rattle.tpcc_load.specs.declared.customers.Person.{Person}
+use Rattle.tpcc_load.specs.declared.districts.TheConstants.{DISTRICTS_EACH}
 use Rattle.tpcc_load.specs.declared.names.Rank.{Rank}
 use Rattle.tpcc_load.specs.declared.settings.Tpcc.{Tpcc}
 use Rattle.tpcc_load.specs.Draws.{over, drawn_name}
@@ -155,7 +156,7 @@ abbrev pub warehouse : Tpcc → ℕ → Drawn (List Row)
 warehouse s w = do
   tax ← random 0 2000
   stocks ← over s.items (stock w)
-  districts ← over 10 (district s w)
+  districts ← over DISTRICTS_EACH (district s w)
   known (row_of table.warehouses (w ∷ []) (pos tax ∷ pos 30000000 ∷ []) ∷ stocks ++ districts)
 
 -- all rows, in the order in which they are drawn

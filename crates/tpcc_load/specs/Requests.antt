@@ -3,6 +3,7 @@ use Rattle.std.specs.Prelude.{ℕ, ◌+◌, ◌==◌, ◌&&◌, Bool, nat_lt, na
 use Rattle.aria_base.specs.declared.calls.Arg.TheVariants as arg
 use Rattle.aria_base.specs.declared.calls.Call.{Call}
 use Rattle.load_gen.specs.Draws.{Drawn, known, ◌>>=◌, random}
+use Rattle.tpcc_load.specs.declared.districts.TheConstants.{DISTRICTS_EACH}
 use Rattle.tpcc_load.specs.declared.requests.Start.{Start}
 use Rattle.tpcc_load.specs.declared.settings.Tpcc.{Tpcc}
 use Rattle.tpcc_load.specs.Draws.{over, drawn_name, drawn_customer, drawn_item, other_warehouse}
@@ -40,7 +41,7 @@ order_lines s start = over start.count (line_at s start)
 unfoldable pub order_start : Tpcc → Drawn Start
 order_start s = do
   w ← random 1 s.warehouses
-  d ← random 1 10
+  d ← random 1 DISTRICTS_EACH
   c ← drawn_customer s.customers
   count ← random 5 15
   chance ← random 1 100
@@ -64,7 +65,7 @@ new_order s number = do
 abbrev pub distant_home : Tpcc → ℕ → Drawn (ℕ × ℕ)
 distant_home s w = do
   cw ← other_warehouse s.warehouses w
-  cd ← random 1 10
+  cd ← random 1 DISTRICTS_EACH
   known (cw, cd)
 
 abbrev pub maybe_distant : Tpcc → ℕ → ℕ → ℕ → Drawn (ℕ × ℕ)
@@ -89,7 +90,7 @@ payment_call number w d at by amount = record {
 unfoldable pub payment : Tpcc → ℕ → Drawn Call
 payment s number = do
   w ← random 1 s.warehouses
-  d ← random 1 10
+  d ← random 1 DISTRICTS_EACH
   at ← home s w d
   by ← payer s
   amount ← random 100 500000

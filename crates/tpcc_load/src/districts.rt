@@ -1,6 +1,7 @@
 // Warehouses and their districts.
 ghost use Rattle.std.specs.Prelude.{◌≡◌, ◌≤◌, ◌<◌, OnOk};
 ghost use Rattle.tpcc_load.specs.Draws.{over};
+ghost use Rattle.tpcc_load.specs.declared.districts.TheConstants.{DISTRICTS_EACH};
 ghost use Rattle.tpcc_load.specs.Rows.{laid_drawn};
 ghost use Rattle.tpcc_load.specs.Heads as heads;
 
@@ -71,7 +72,7 @@ fn districts(
 ) -> Result<(), Memory>
     requires { heads.IsWithin settings.now }
     ensures { OnOk result ((tables.new, draws.new)
-        ≡ laid_drawn tables.old (over 10 (heads.district settings.now w) draws.old)) }
+        ≡ laid_drawn tables.old (over DISTRICTS_EACH (heads.district settings.now w) draws.old)) }
 {
     for d in 0..DISTRICTS_EACH {
         district(alloc, settings, draws, tables, District { w, d: d + 1 })?;

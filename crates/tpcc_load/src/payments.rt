@@ -6,6 +6,7 @@ ghost use Rattle.tpcc_load.specs.Heads.{IsWithin};
 ghost use Rattle.tpcc_load.specs.Requests as requests;
 
 use crate::chances::{drawn_customer, drawn_name, other_warehouse};
+use crate::districts::DISTRICTS_EACH;
 use crate::names::names;
 use crate::settings::Tpcc;
 use aria_base::{Arg, Args, Call, Draws, Memory};
@@ -25,7 +26,7 @@ pub(crate) fn payment(
     ensures past { draws.new ≡ (requests.payment settings.now number draws.old).1 }
 {
     let w = random(draws, 1, settings.warehouses);
-    let d = random(draws, 1, 10);
+    let d = random(draws, 1, DISTRICTS_EACH);
     let (cw, cd) = home(settings, draws, w, d);
     let (by, id) = payer(settings, draws);
     let amount = random(draws, 100, 500_000);
@@ -58,7 +59,7 @@ fn home(settings: &Tpcc, draws: &mut Draws, w: u32, d: u32) -> (u32, u32)
         return (w, d);
     }
     let cw = other_warehouse(draws, settings.warehouses, w);
-    (cw, random(draws, 1, 10))
+    (cw, random(draws, 1, DISTRICTS_EACH))
 }
 
 /// Whether the customer is told by name, 1, or by number, 0, and which name or number.

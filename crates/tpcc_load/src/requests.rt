@@ -9,6 +9,7 @@ ghost use Rattle.tpcc_load.specs.Heads.{IsWithin};
 ghost use Rattle.tpcc_load.specs.Requests as requests;
 
 use crate::chances::{drawn_customer, drawn_item, other_warehouse};
+use crate::districts::DISTRICTS_EACH;
 use crate::payments::{numbers, payment};
 use crate::settings::Tpcc;
 use aria_base::{Arg, Args, Call, Draws, Memory, Tuple, Tuples};
@@ -85,7 +86,7 @@ fn order_start(settings: &Tpcc, draws: &mut Draws) -> Start
     ensures count { result.count ≤ 15 }
 {
     let w = random(draws, 1, settings.warehouses);
-    let d = random(draws, 1, 10);
+    let d = random(draws, 1, DISTRICTS_EACH);
     let c = drawn_customer(draws, settings.customers);
     let count = random(draws, 5, 15);
     let fails = random(draws, 1, 100) == 1;
