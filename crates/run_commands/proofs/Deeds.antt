@@ -21,7 +21,8 @@ use Rattle.script_places.specs.declared.heads.Head.TheVariants as head
 use Rattle.script_places.specs.declared.places.Place.{Place}
 use Rattle.serving.specs.Lives.{IsNext, IsRunnable, MayServe, batch_text, first_state, handed_at, next_handed, next_state, next_text, plan_of, state_of}
 use Rattle.serving.specs.declared.lives.Live.{Live}
-use Rattle.run_commands.specs.Bases.{IsBegun, IsBounded, IsHead, IsListed, IsUnder, plan_in, put_in, set_in, settings_with, state_in}
+use Rattle.store_openings.specs.Runs.{settings_with}
+use Rattle.run_commands.specs.Bases.{IsBegun, IsBounded, IsHead, IsListed, IsUnder, plan_in, put_in, set_in, state_in}
 use Rattle.run_commands.specs.Onces.{behind_batch, text_of}
 use Rattle.run_commands.specs.Standing.{HasEnded, IsOf, MayClose, MayPut, MayRun, MaySet, Stands, doing_of}
 use Rattle.run_commands.specs.declared.bases.Base.{Base}

@@ -16,6 +16,7 @@ use Rattle.script_places.specs.declared.heads.Head.TheVariants as head
 use Rattle.script_places.specs.declared.places.Counts.{Counts}
 use Rattle.serving.specs.Lives.{IsRunnable, blank, no_plan, plan_of, state_of}
 use Rattle.serving.specs.declared.lives.Live.{Live}
+use Rattle.store_openings.specs.Runs.{settings_with}
 use Rattle.run_commands.specs.declared.bases.Base.{Base}
 use Rattle.run_commands.specs.declared.bases.Base.TheVariants as base
 
@@ -48,9 +49,6 @@ plan_in (head.Ready plan) = plan
 abbrev pub put_in : Base → Key → Cells → Base
 put_in (base.Rows tables config) key row = base.Rows (fin.insert tables key row) config
 put_in (base.Runs live) key row = base.Runs live
-
-abbrev pub settings_with : Config → Rule → ℕ → Config
-settings_with config rule percent = record config { rule = rule; fallback = percent }
 
 abbrev pub set_in : Base → Rule → ℕ → Base
 set_in (base.Rows tables config) rule percent = base.Rows tables (settings_with config rule percent)

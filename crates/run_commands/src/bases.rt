@@ -4,7 +4,7 @@ ghost use Rattle.aria_base.specs.declared.limits.TheConstants.{MOST_REPLICAS};
 ghost use Rattle.script_places.specs.Follows.{IsReadyWith};
 ghost use Rattle.answer_text.specs.States.{state_text};
 ghost use Rattle.serving.specs.Lives.{listing, no_plan, plan_of};
-ghost use Rattle.run_commands.specs.Bases.{IsBegun, IsBounded, IsHead, IsListed, IsNamed, IsUnder, counts_of, plan_in, put_in, set_in, settings_with, state_in};
+ghost use Rattle.run_commands.specs.Bases.{IsBegun, IsBounded, IsHead, IsListed, IsNamed, IsUnder, counts_of, plan_in, put_in, set_in, state_in};
 
 use answer_text::print_state;
 use aria_base::{Key, Memory, Row, Schema};
@@ -14,6 +14,7 @@ use proc_lang::Catalog;
 use script_places::{Counts, Head};
 use serving::Live;
 use std::alloc::Global;
+use store_openings::{settings_with, with_settings};
 use tbl_rows::Tables;
 
 /// A database before its first batch, and from then on.
@@ -63,11 +64,8 @@ impl Base {
         ensures { result ≡ set_in self rule percent }
     {
         match self {
-            Base::Rows(tables, config) => Base::Rows(tables, with_settings(config, rule, percent)),
-            Base::Runs(live) => {
-                let config = with_settings(live.config, rule, percent);
-                Base::Runs(Live { config, ..live })
-            }
+            Base::Rows(tables, config) => Base::Rows(tables, settings_with(config, rule, percent)),
+            Base::Runs(live) => Base::Runs(with_settings(live, rule, percent)),
         }
     }
 
@@ -117,17 +115,6 @@ fn list_rows(alloc: Global, tables: &Tables, head: &Head) -> Result<Vec<u8>, Mem
             let catalog = no_catalog(alloc);
             print_state(alloc, &catalog, tables, 0)
         }
-    }
-}
-
-/// The settings with this rule and this percentage.
-fn with_settings(config: Config, rule: Rule, fallback: u32) -> Config
-    ensures { result ≡ settings_with config rule fallback }
-{
-    Config {
-        rule,
-        fallback,
-        workers: config.workers,
     }
 }
 

@@ -3,6 +3,8 @@ use Rattle.std.specs.Prelude.{◌≡◌, ◌⊎◌, ℕ, ◌+◌, IsSome, List, 
 use Rattle.aria_base.specs.Faults.{Rose}
 use Rattle.aria_store.specs.Stands.{Kept}
 use Rattle.batch_core.specs.Steps.{State, step, run}
+use Rattle.batch_rules.specs.declared.verdicts.Rule.{Rule}
+use Rattle.dep_rules.specs.declared.configs.Config.{Config}
 use Rattle.disk_model.specs.Histories.{History, MayLeave, current}
 use Rattle.image_text.specs.Payloads.{Batch}
 use Rattle.input_log.specs.Layout.{log_of}
@@ -18,6 +20,10 @@ use Rattle.store_openings.specs.declared.refusals.NotOpened.{NotOpened}
 use Rattle.store_openings.specs.declared.refusals.NotOpened.TheVariants as refusal
 use Rattle.store_openings.specs.declared.steps.Halt.{Halt}
 use Rattle.store_openings.specs.declared.steps.Halt.TheVariants as halt
+
+-- these settings with this rule and this percentage
+abbrev pub settings_with : Config → Rule → ℕ → Config
+settings_with config rule percent = record config { rule = rule; fallback = percent }
 
 -- ---- batches, run one after the other
 

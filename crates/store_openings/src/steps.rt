@@ -4,7 +4,7 @@ ghost use Rattle.aria_store.specs.Stands.{batch_in, batches_in};
 ghost use Rattle.serving.specs.Lives.{IsRunnable, plan_of, state_of};
 ghost use Rattle.serving.specs.Stored.{is_crowded};
 ghost use Rattle.store_openings.specs.Openings.{AreRunnable, MayFollow};
-ghost use Rattle.store_openings.specs.Runs.{IsHalt, IsRerun, IsStepped};
+ghost use Rattle.store_openings.specs.Runs.{IsHalt, IsRerun, IsStepped, settings_with};
 
 use aria_base::{MOST_REQUESTS, Memory, Pace};
 use aria_store::Logged;
@@ -23,16 +23,22 @@ pub(crate) enum Halt {
     Crowded { place: usize },
 }
 
-/// The database with these settings of its next batch.
-pub fn with_settings(live: Live, rule: Rule, fallback: u32) -> Live
-    ensures { result ≡ record live { config = record live.config { rule = rule; fallback = fallback } } }
+/// The settings with this rule and this percentage.
+pub fn settings_with(config: Config, rule: Rule, fallback: u32) -> Config
+    ensures { result ≡ settings_with config rule fallback }
 {
-    let workers = live.config.workers;
-    let config = Config {
+    Config {
         rule,
         fallback,
-        workers,
-    };
+        workers: config.workers,
+    }
+}
+
+/// The database with these settings of its next batch.
+pub fn with_settings(live: Live, rule: Rule, fallback: u32) -> Live
+    ensures { result ≡ record live { config = settings_with live.config rule fallback } }
+{
+    let config = settings_with(live.config, rule, fallback);
     Live { config, ..live }
 }
 
