@@ -2,5 +2,5 @@ mod Batching
 mod Committing
 mod Deciding
 mod Judging
-mod Readying
+pub mod Readying
 mod Settling

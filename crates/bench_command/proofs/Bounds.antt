@@ -12,8 +12,9 @@ use Rattle.aria_base.specs.declared.keys.Key.{Key}
 use Rattle.aria_base.specs.declared.limits.TheConstants.{MOST_REQUESTS}
 use Rattle.batch_core.proofs.Serial.{list-is}
 use Rattle.batch_core.specs.Serial.{is_wait}
-use Rattle.batch_core.specs.Steps.{State, Handed, answer, line_of, list_of, numbered, outcome, step}
+use Rattle.batch_core.specs.Steps.{State, Handed, answer, line_of, list_of, outcome, step}
 use Rattle.batch_core.specs.declared.answers.Line.{Line}
+use Rattle.batch_engine.proofs.Readying.{length-list}
 use Rattle.batch_rules.specs.Trees.{Tree}
 use Rattle.proc_lang.specs.declared.ends.End.{End}
 use Rattle.proc_lang.specs.Catalogs.{Plan, run_of, takes}
@@ -32,18 +33,13 @@ use Rattle.bench_command.specs.declared.courses.TheConstants.{MOST_BATCHES}
 use Rattle.bench_command.specs.declared.tallies.Tally.{Tally}
 use Rattle.bench_command.specs.declared.turns.Turn.{Turn}
 
-length-numbered : (n : ℕ) (calls : List Call) → length (numbered n calls) ≡ length calls
-length-numbered n [] = refl
-length-numbered n (call ∷ calls) = ap suc (length-numbered (n + 1) calls)
-
 -- a line for each request of the list
 pub lines_are : (tree : Request → Tree Key Cells End) (state : State) (handed : Handed) → length (answer tree state handed).lines ≡ length state.waiting + length handed.calls
 lines_are tree state handed =
     length-map (outcome tree state handed).entries (line_of (λ request. request) (list_of state handed))
     ∙ sym (length-map (outcome tree state handed).entries (λ e. e.judged.request))
     ∙ ap length (list-is tree state handed)
-    ∙ length-append state.waiting (numbered state.requests handed.calls)
-    ∙ ap (λ n. length state.waiting + n) (length-numbered state.requests handed.calls)
+    ∙ length-list state handed
 
 -- and no more than a batch may have requests
 pub few_lines : (before : Turn) (calls : List Call) → MayServe before.live calls → length (next_answer before.live calls).lines ≤ MOST_REQUESTS

@@ -1,6 +1,5 @@
 -- The bounds of a database stay from batch to batch, and fewer wait where no new calls come.
-use Rattle.std.proofs.Common.{◌≡◌, ◌∙◌, sym, ap, subst, refl, ℕ, suc, ◌+◌, ◌<◌, ◌≤◌, List, [], ◌∷◌, length, not, arith}
-use Rattle.std.proofs.lemmas.List.{length-append}
+use Rattle.std.proofs.Common.{◌≡◌, sym, ap, subst, ◌<◌, ◌≤◌, List, length, not, arith}
 use Rattle.std.proofs.lemmas.List.Filters.{length-filter_both}
 use Rattle.aria_base.specs.declared.calls.Call.{Call}
 use Rattle.aria_base.specs.declared.calls.Request.{Request}
@@ -8,22 +7,16 @@ use Rattle.aria_base.specs.declared.limits.TheConstants.{GREATEST_NUMBER, MOST_R
 use Rattle.aria_base.specs.Orders.{Cells, Database}
 use Rattle.aria_base.specs.declared.keys.Key.{Key}
 use Rattle.batch_core.specs.Serial.{IsSerialAnswer, is_named}
-use Rattle.batch_core.specs.Steps.{State, Handed, numbered, list_of, step}
+use Rattle.batch_core.specs.Steps.{State, list_of, step}
 use Rattle.batch_core.specs.declared.answers.Answer.{Answer}
 use Rattle.batch_core.proofs.Progress.{progress}
+use Rattle.batch_engine.proofs.Readying.{length-list}
 use Rattle.batch_rules.specs.Trees.{Tree}
 use Rattle.proc_lang.specs.declared.ends.End.{End}
 use Rattle.proc_lang.specs.Catalogs.{run_of}
 use Rattle.serving.specs.Drains.{no_calls}
 use Rattle.serving.specs.Lives.{IsRunnable, MayServe, next_handed, next_state, plan_of, state_of}
 use Rattle.serving.specs.declared.lives.Live.{Live}
-
-length-numbered : (n : ℕ) (calls : List Call) → length (numbered n calls) ≡ length calls
-length-numbered n [] = refl
-length-numbered n (call ∷ calls) = ap suc (length-numbered (n + 1) calls)
-
-length-list : (state : State) (handed : Handed) → length (list_of state handed) ≡ length state.waiting + length handed.calls
-length-list state handed = length-append state.waiting (numbered state.requests handed.calls) ∙ ap (λ n. length state.waiting + n) (length-numbered state.requests handed.calls)
 
 -- no more wait than the list has
 few-wait : (tree : Request → Tree Key Cells End) (start : Database) (list : List Request) (found : Answer) (next : State)
