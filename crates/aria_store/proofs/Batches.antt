@@ -12,7 +12,7 @@ use Rattle.aria_base.specs.declared.limits.TheConstants.{GREATEST_NUMBER}
 use Rattle.proc_lang.specs.Catalogs.{IsCatalog}
 use Rattle.aria_base.specs.declared.calls.Call.{Call}
 use Rattle.image_text.specs.Payloads.{Batch, IsThat, IsCalls, AreCalls}
-use Rattle.aria_store.proofs.Payloads.{one_calls, one_payload}
+use Rattle.image_text.proofs.PayloadsOnce.{one_calls, one_payload}
 use Rattle.slot_images.specs.Images.{Checkpoint}
 use Rattle.aria_store.specs.Records.{SaysIn, Says, IsThatBatch, IsWithin, Follows, IsNext, AreBatches, FirstWrong, requests_after}
 use Rattle.aria_store.specs.Stands.{batches_in, rule_after, fallback_after}

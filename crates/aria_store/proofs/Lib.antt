@@ -3,5 +3,4 @@ pub mod Batches
 pub mod Coursed
 pub mod Founds
 pub mod Lines
-pub mod Payloads
 pub mod Written

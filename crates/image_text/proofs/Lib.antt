@@ -7,5 +7,6 @@ pub mod HeldsAgain
 pub mod LinesTaken
 pub mod LinesWritten
 pub mod NoFeeds
+pub mod PayloadsOnce
 pub mod PayloadsRead
 pub mod RowsRise

@@ -23,12 +23,12 @@ pushed : (read : List ℕ → Option Call) (calls before : List Call) → pushes
 pushed read [] before = ap Some (sym (append-nil before))
 pushed read (call ∷ calls) before = pushed read calls (before ++ call ∷ []) ∙ ap Some (append_assoc before (call ∷ []) calls)
 
-calls_taken : (plan : Plan) (bytes : List ℕ) (calls : List Call) → IsCatalog plan → IsCalls plan bytes calls → read_calls plan bytes ≡ Some calls
+pub calls_taken : (plan : Plan) (bytes : List ℕ) (calls : List Call) → IsCatalog plan → IsCalls plan bytes calls → read_calls plan bytes ≡ Some calls
 calls_taken plan bytes calls is h =
     ap (read_calls plan) h.text
     ∙ items_again (line_of_call plan) (exact_call plan) push (IsCallOf plan) (λ call k. call_written plan call is k) (λ call k. call_lacks plan call is k) calls [] calls h.fit (pushed (exact_call plan) calls [])
 
-some_is : (a b : List Call) → Some a ≡ Some b → a ≡ b
+pub some_is : (a b : List Call) → Some a ≡ Some b → a ≡ b
 some_is a b e = cc
 
 calls_read : (plan : Plan) (bytes : List ℕ) (calls : List Call) → read_calls plan bytes ≡ Some calls → (bytes ≡ calls_text plan calls) × All (λ call. takes plan call ≡ true) calls
