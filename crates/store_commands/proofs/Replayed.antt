@@ -1,5 +1,5 @@
 -- What stands in a store, run again and printed: where one stands between two batches, and what is printed where there is no batch to run.
-use Rattle.std.proofs.Common.{◌≡◌, ◌∙◌, sym, ap, subst, refl, ℕ, ◌+◌, ◌≤◌, ◌<◌, Bool, true, false, cond, List, [], ◌∷◌, Option, Some, None, arith}
+use Rattle.std.proofs.Common.{◌≡◌, ◌∙◌, sym, ap, subst, refl, ℕ, ◌+◌, ◌≤◌, Bool, true, false, List, [], ◌∷◌, Option, Some, None, arith}
 use Rattle.std.specs.Prelude.{Result, Ok, Err, IfErr, IfOk, IfSome}
 use Rattle.std.specs.Io.KnownBytes.{Appends}
 use Rattle.std.specs.Option.{IsSomeAnd}
@@ -37,6 +37,8 @@ use Rattle.store_files.specs.declared.refusals.StoreRefused.TheVariants as of_st
 use Rattle.store_openings.specs.Openings.{AreRunnable, MayFollow, ReadsAs, log_in, offset_in}
 use Rattle.store_openings.specs.Runs.{IsStepped}
 use Rattle.store_openings.proofs.Fits.{settled}
+use Rattle.store_openings.proofs.Readings.{log_low}
+use Rattle.store_openings.proofs.Ways.{below_here, chosen, may_follow_here, other}
 use Rattle.store_commands.specs.Replays.{IsAnswered, IsCut, IsHalt, IsOutOf, LeadsTo, crowded_out, out_of, replayed}
 use Rattle.run_commands.specs.Resumes.{damaged_out}
 use Rattle.store_commands.specs.declared.steps.Halt.TheVariants as halt
@@ -59,14 +61,6 @@ finishes_cut out old new stop.NoRead cut h = absurd cut
 finishes_cut out old new stop.NoMemory cut h = h
 finishes_cut out old new stop.NoWrite cut h = h
 finishes_cut out old new stop.NoDisk cut h = h
-
-chosen : {X : Type 0} (b : Bool) (x y : X) → b ≡ true → cond b x y ≡ x
-chosen true x y on = refl
-chosen false x y on = absurd cc
-
-other : {X : Type 0} (b : Bool) (x y : X) → b ≡ false → cond b x y ≡ y
-other true x y off = absurd cc
-other false x y off = refl
 
 -- ---- where one stands between two batches
 
@@ -103,11 +97,10 @@ module _ (start : Live) (all : List Batch) (old : Option (List ℕ)) (live : Liv
   Behind crowd = replayed (plan_of start) start.each crowd (place + 1) After rest
 
   pub may_follow : MayFollow (plan_of live) (state_of live).batches (state_of live).requests batch
-  may_follow = subst (λ (plan : Plan). MayFollow plan (state_of live).batches (state_of live).requests batch) (sym on.plan) on.fit.0
+  may_follow = may_follow_here (plan_of start) live batch rest on.plan on.fit
 
-  -- there is still a number for it
   pub below : place + 1 ≤ GREATEST_NUMBER
-  below = omega (arith, on.counted, on.fit.0.within.batches)
+  below = below_here (plan_of start) (state_of start).batches place (state_of live).batches (state_of live).requests batch rest on.counted on.fit
 
   pub crowd_here : is_crowded (state_of live) batch ≡ true → LeadsTo start all old (λ crowd. crowd place) now
   crowd_here here crowd new result h =
@@ -214,9 +207,6 @@ out_is settings images before disk of_store.Exists found left cause reopens = ab
 out_is settings images before disk (of_store.Closed faults) found left cause reopens = absurd cause
 
 -- what was found is replayed as what the files read as
-log_low : (c : Checkpoint) → log_in c < 4
-log_low c = omega arith
-
 pub found_finishes : (settings : Replay) (images : ℕ → List ℕ) (disk : History) (c : Checkpoint) (later : List Batch) (found : Reopened) (old new : Option (List ℕ)) (result : Result ℕ Stop)
     → ReadsAs disk images → found ≡ Found c later
     → ((bytes : List ℕ) → IsSomeAnd (current disk (log_in c)) (λ f. f.seen ≡ bytes)

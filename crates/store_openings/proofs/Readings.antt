@@ -83,7 +83,7 @@ module _ (disk : History) (images : ℕ → List ℕ) (reads : ReadsAs disk imag
 
 -- ---- what is opened
 
-log_low : (c : Checkpoint) → log_in c < 4
+pub log_low : (c : Checkpoint) → log_in c < 4
 log_low c = omega arith
 
 pub opened_roomy : (images : ℕ → List ℕ) (c : Checkpoint) (later : List Batch) → crowded c later ≡ None → opened images (Found c later) ≡ Found c later

@@ -41,24 +41,32 @@ alike_then a b c first second = record {
   workers = second.workers ∙ first.workers;
 }
 
-chosen : {X : Type 0} (b : Bool) (x y : X) → b ≡ true → cond b x y ≡ x
+pub chosen : {X : Type 0} (b : Bool) (x y : X) → b ≡ true → cond b x y ≡ x
 chosen true x y on = refl
 chosen false x y on = absurd cc
 
-other : {X : Type 0} (b : Bool) (x y : X) → b ≡ false → cond b x y ≡ y
+pub other : {X : Type 0} (b : Bool) (x y : X) → b ≡ false → cond b x y ≡ y
 other true x y off = absurd cc
 other false x y off = refl
+
+-- whatever else is told of the way: the next batch may be run, and there is still a number for it
+pub may_follow_here : (plan : Plan) (live : Live) (batch : Batch) (rest : List Batch) → plan_of live ≡ plan
+    → AreRunnable plan (state_of live).batches (state_of live).requests (batch ∷ rest) → MayFollow (plan_of live) (state_of live).batches (state_of live).requests batch
+may_follow_here plan live batch rest same fit = subst (λ (p : Plan). MayFollow p (state_of live).batches (state_of live).requests batch) (sym same) fit.0
+
+pub below_here : (plan : Plan) (first place batches requests : ℕ) (batch : Batch) (rest : List Batch) → batches ≡ first + place
+    → AreRunnable plan batches requests (batch ∷ rest) → place + 1 ≤ GREATEST_NUMBER
+below_here plan first place batches requests batch rest counted fit = omega (arith, counted, fit.0.within.batches)
 
 module _ (start : Live) (all : List Batch) (live : Live) (place : ℕ) (batch : Batch) (rest : List Batch) (on : IsOnWay start all live place (batch ∷ rest)) where
   abbrev After : State
   After = step (run_of (plan_of start)) (state_of live) (handed_in batch)
 
   pub may_follow : MayFollow (plan_of live) (state_of live).batches (state_of live).requests batch
-  may_follow = subst (λ (plan : Plan). MayFollow plan (state_of live).batches (state_of live).requests batch) (sym on.plan) on.fit.0
+  may_follow = may_follow_here (plan_of start) live batch rest on.plan on.fit
 
-  -- there is still a number for it
   pub below : place + 1 ≤ GREATEST_NUMBER
-  below = omega (arith, on.counted, on.fit.0.within.batches)
+  below = below_here (plan_of start) (state_of start).batches place (state_of live).batches (state_of live).requests batch rest on.counted on.fit
 
   pub crowd_here : is_crowded (state_of live) batch ≡ true → crowded_from (plan_of start) 0 (state_of start) all ≡ Some place
   crowd_here here = on.crowds ∙ chosen (is_crowded (state_of live) batch) (Some place) (crowded_from (plan_of start) (place + 1) After rest) here
