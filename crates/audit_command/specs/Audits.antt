@@ -1,7 +1,7 @@
 -- The command `audit`: what each line of its input does, what the end prints, and with that the output of an input.
 use Rattle.std.specs.Prelude.{◌≡◌, ℕ, List, [], Result, Ok, Err}
 use Rattle.std.specs.FinMap as fin
-use Rattle.script_course.specs.Courses.{Course, Goes, Stops, Out, status_of, told, whole}
+use Rattle.script_course.specs.Courses.{Course, Goes, Stops, Out, refused_after, status_of, told, whole}
 use Rattle.script_course.specs.declared.stops.Stop.TheVariants as stop
 use Rattle.script_places.specs.Places.{Asked, asked, closing}
 use Rattle.script_places.specs.Places as places
@@ -14,7 +14,6 @@ use Rattle.script_text.specs.declared.refusals.Kind8.{Kind8}
 use Rattle.script_text.specs.declared.refusals.LinesRefused.{LinesRefused}
 use Rattle.script_text.specs.declared.refusals.LinesRefused.TheVariants.{Memory, Line}
 use Rattle.answer_text.specs.Refusals.{refusal_text}
-use Rattle.run_commands.specs.Onces.{refused_behind}
 use Rattle.run_commands.specs.Outs.{no_line}
 use Rattle.tpcc_audit.specs.Conditions.{audited}
 use Rattle.tpcc_audit.specs.declared.findings.Audit.{Audit}
@@ -40,7 +39,7 @@ done a deed.Tell = a
 -- nothing is printed before the end but the line of a refusal
 abbrev pub done_by : Auditing → Asked → Course Auditing
 done_by a (Ok asked) = Goes [] (done (record a { place = asked.0 }) asked.1)
-done_by a (Err kind) = Stops (refused_behind a.place kind)
+done_by a (Err kind) = Stops (refused_after a.place.lines kind)
 
 abbrev pub on_line : Auditing → List ℕ → Course Auditing
 on_line a line = done_by a (asked a.place no_counts line)
@@ -53,7 +52,7 @@ finding_out found = record { bytes = findings.finding_text found; status = findi
 -- the finding on the rows, unless the end of the input is refused
 abbrev pub closed_by : Auditing → Result Place Kind8 → Out
 closed_by a (Ok place) = finding_out (audited a.tables)
-closed_by a (Err kind) = record { bytes = refused_behind a.place kind; status = status_of stop.Refused }
+closed_by a (Err kind) = record { bytes = refused_after a.place.lines kind; status = status_of stop.Refused }
 
 abbrev pub on_end : Auditing → Out
 on_end a = closed_by a (closing a.place)

@@ -5,19 +5,15 @@ use Rattle.aria_base.specs.Orders.{Cells, Database}
 use Rattle.aria_base.specs.declared.calls.Call.{Call}
 use Rattle.aria_base.specs.declared.keys.Key.{Key}
 use Rattle.answer_text.specs.Refusals.{refusal_text}
-use Rattle.proc_lang.specs.Catalogs.{Plan}
-use Rattle.script_course.specs.Courses.{Course, Goes, Stops, Out, status_of}
+use Rattle.script_course.specs.Courses.{Course, Goes, Stops, Out, refused_after, status_of}
 use Rattle.script_course.specs.declared.stops.Stop.TheVariants as stop
-use Rattle.script_places.specs.Places.{Asked, asked, closing}
+use Rattle.script_places.specs.Places.{Asked, asked, closing, plan_in}
 use Rattle.script_places.specs.Places as places
 use Rattle.script_places.specs.declared.deeds.Deed.{Deed}
 use Rattle.script_places.specs.declared.deeds.Deed.TheVariants as deed
-use Rattle.script_places.specs.declared.heads.Head.{Head}
-use Rattle.script_places.specs.declared.heads.Head.TheVariants as head
 use Rattle.script_places.specs.declared.places.Counts.{Counts}
 use Rattle.script_places.specs.declared.places.Mode.TheVariants as mode
 use Rattle.script_places.specs.declared.places.Place.{Place}
-use Rattle.script_text.specs.Lines.{line_after}
 use Rattle.script_text.specs.declared.refusals.Kind8.{Kind8}
 use Rattle.script_text.specs.declared.refusals.Kind8.TheVariants as kind
 use Rattle.serial_check.specs.Reports.{finding}
@@ -43,12 +39,6 @@ start = record { place = places.start mode.Check; rows = fin.empty; calls = []; 
 -- nothing is known of what waits, so that the room of a list is looked at when the report is
 abbrev pub counts_of : Doing → Counts
 counts_of d = record { batches = length d.ends; requests = d.requests; waiting = 0 }
-
--- the catalogue of a head; where there is none, the one without tables and procedures
-abbrev pub plan_in : Head → Plan
-plan_in head.Unnamed = record { tables = []; procs = [] }
-plan_in (head.Text text) = record { tables = []; procs = [] }
-plan_in (head.Ready plan) = plan
 
 -- ---- a line
 
@@ -84,12 +74,9 @@ done d line (deed.Keep number) = Goes [] (with_kept d number)
 done d line deed.Run = Goes [] (with_run d)
 done d line deed.Tell = Goes [] (with_told d line)
 
-abbrev pub refused_behind : Place → Kind8 → List ℕ
-refused_behind place kind = refusal_text (record { line = line_after place.lines; kind = kind })
-
 abbrev pub done_by : Doing → List ℕ → Asked → Course Doing
 done_by d line (Ok asked) = done (record d { place = asked.0 }) line asked.1
-done_by d line (Err kind) = Stops (refused_behind d.place kind)
+done_by d line (Err kind) = Stops (refused_after d.place.lines kind)
 
 abbrev pub on_line : Doing → List ℕ → Course Doing
 on_line d line = done_by d line (asked d.place (counts_of d) line)
@@ -108,7 +95,7 @@ judged d = out_of_finding d.ends (finding (plan_in d.place.head) d.report d.rows
 
 abbrev pub closed_by : Doing → Result Place Kind8 → Out
 closed_by d (Ok place) = judged (record d { place = place })
-closed_by d (Err kind) = record { bytes = refused_behind d.place kind; status = status_of stop.Refused }
+closed_by d (Err kind) = record { bytes = refused_after d.place.lines kind; status = status_of stop.Refused }
 
 abbrev pub on_end : Doing → Out
 on_end d = closed_by d (closing d.place)

@@ -4,7 +4,7 @@ ghost use Rattle.aria_base.specs.Faults.{Rose};
 ghost use Rattle.script_course.specs.Causes.{IsCause};
 ghost use Rattle.script_course.specs.Served.{Finishes};
 ghost use Rattle.script_course.specs.declared.stops.Stop.TheVariants as stop;
-ghost use Rattle.check_command.specs.Checks.{judged, on_end, out_of_finding, plan_in};
+ghost use Rattle.check_command.specs.Checks.{judged, on_end, out_of_finding};
 ghost use Rattle.check_command.specs.Standing.{HasEnds, doing_of};
 ghost use Rattle.script_course.specs.declared.statuses.TheConstants as status;
 ghost use Rattle.serial_check.specs.Crowds.{IsOneOf};
@@ -12,10 +12,9 @@ ghost use Rattle.serial_check.specs.Crowds.{IsOneOf};
 use crate::readings::Reading;
 use crate::texts::{fails_text, line_of};
 use crate::works::Work;
-use aria_base::{Memory, Schema, Sink};
-use proc_lang::Catalog;
+use aria_base::{Memory, Sink};
 use script_course::{DONE, FAILS, Stop, end_with, refuse};
-use script_places::{Head, Place};
+use script_places::{Place, catalog_in};
 use script_text::{Kind8, LinesRefused, Refusal};
 use serial_check::{Finding, check, crowded_is_run};
 use std::alloc::Global;
@@ -78,18 +77,6 @@ fn tell<K: Sink>(alloc: Global, ends: &[u64], finding: Finding, out: &mut K) -> 
                 kind: Kind8::Batch,
             };
             refuse(alloc, &refusal, out)
-        }
-    }
-}
-
-/// The catalogue of the head; where there is none, the one without tables and procedures.
-fn catalog_in(alloc: Global, head: Head) -> Catalog
-    ensures { result ≡ plan_in head }
-{
-    match head {
-        Head::Ready(catalog) => catalog,
-        Head::Unnamed | Head::Text(_) => {
-            Catalog::of(Schema::from_vec(Vec::new(alloc)), Vec::new(alloc))
         }
     }
 }

@@ -12,13 +12,13 @@ use Rattle.check_command.proofs.Asked.{kept_before}
 use Rattle.check_command.specs.Checks as check
 use Rattle.report_laws.specs.Laws.{PrintedLines}
 use Rattle.report_laws.specs.Scripts.{calls_of}
-use Rattle.run_commands.specs.Bases.{counts_of, plan_in}
+use Rattle.run_commands.specs.Bases.{counts_of}
 use Rattle.run_commands.specs.Onces as once
 use Rattle.script_course.proofs.Turns.{stopped_lines}
 use Rattle.script_course.specs.Courses.{Course, Goes, Stops, behind, with_lines}
 use Rattle.script_places.proofs.Allowed.{follows}
 use Rattle.script_places.specs.Follows.{Follows, HeadStays}
-use Rattle.script_places.specs.Places.{Asked, asked, is_check, is_ready}
+use Rattle.script_places.specs.Places.{Asked, asked, is_check, is_ready, plan_in}
 use Rattle.script_places.specs.declared.deeds.Deed.{Deed}
 use Rattle.script_places.specs.declared.deeds.Deed.TheVariants as deed
 use Rattle.script_places.specs.declared.places.Counts.{Counts}

@@ -3,9 +3,8 @@ use Rattle.std.proofs.Common.{◌≡◌, ◌⊎◌, inl, inr, sym, ap, subst, �
 use Rattle.aria_base.specs.Orders.{Database}
 use Rattle.batch_core.specs.Steps.{Handed, State}
 use Rattle.batch_rules.specs.declared.verdicts.Rule.{Rule}
-use Rattle.run_commands.specs.Bases.{plan_in}
 use Rattle.script_places.specs.Follows.{HeadStays}
-use Rattle.script_places.specs.Places.{is_ready}
+use Rattle.script_places.specs.Places.{is_ready, plan_in}
 use Rattle.script_places.specs.declared.heads.Head.{Head}
 use Rattle.script_places.specs.declared.heads.Head.TheVariants as head
 use Rattle.output_laws.proofs.Asks.{PrintedHead}

@@ -2,9 +2,8 @@
 use Rattle.std.proofs.Common.{◌≡◌, ◌∙◌, sym, ap, subst, refl, ℕ, Bool, true, cond, ◌==◌, List, [], ◌∷◌, ◌++◌, Ok, Err, append_assoc, append-nil}
 use Rattle.check_command.specs.Checks as check
 use Rattle.proc_lang.specs.Catalogs.{Plan}
-use Rattle.run_commands.specs.Bases.{plan_in}
 use Rattle.script_course.specs.Courses.{Course, Goes, behind, with_lines}
-use Rattle.script_places.specs.Places.{by_head, closing, next_line}
+use Rattle.script_places.specs.Places.{by_head, closing, next_line, plan_in}
 use Rattle.script_places.specs.Places as places
 use Rattle.script_places.specs.declared.deeds.Deed.TheVariants as deed
 use Rattle.script_places.specs.declared.heads.Head.{Head}
@@ -51,11 +50,6 @@ close_check p settled none = by p.head settled
     by (head.Ready plan) is = shuts
     by (head.Text text) is = absurd is
 
-same_plan : (h : Head) → check.plan_in h ≡ plan_in h
-same_plan head.Unnamed = refl
-same_plan (head.Text text) = refl
-same_plan (head.Ready plan) = refl
-
 -- the end tells what is found of the report
 pub told_end : (c : check.Doing) (lines : List (List ℕ)) → IsSettled c.place.head → (c.place.open_calls == 0) ≡ true
     → check.on_end (record c { place = passed lines c.place; report = c.report ++ lines })
@@ -65,6 +59,6 @@ told_end c lines settled none =
     let last : check.Doing = record c { place = p; report = c.report ++ lines } in
     let settled_there = subst (λ (q : Place). IsSettled q.head) (sym (passed_is lines c.place)) settled in
     let none_there = subst (λ (q : Place). (q.open_calls == 0) ≡ true) (sym (passed_is lines c.place)) none in
-    let plan : check.plan_in p.head ≡ plan_in c.place.head = same_plan p.head ∙ ap (λ (q : Place). plan_in q.head) (passed_is lines c.place) in
+    let plan : plan_in p.head ≡ plan_in c.place.head = ap (λ (q : Place). plan_in q.head) (passed_is lines c.place) in
     ap (check.closed_by last) (close_check p settled_there none_there)
     ∙ ap (λ (x : Plan). check.out_of_finding c.ends (serial.finding x (c.report ++ lines) c.rows c.script)) plan

@@ -16,7 +16,6 @@ use Rattle.proc_lang.specs.Catalogs.{Plan, run_of}
 use Rattle.report_laws.specs.Laws.{OpenReport, OwnReport, PrintedLines}
 use Rattle.report_laws.specs.Printed.{fed, state_lines}
 use Rattle.report_laws.specs.Scripts.{AreDrains, calls_of, drain_lines, ends_listed, fresh, left, report, script_lines}
-use Rattle.run_commands.specs.Bases.{plan_in}
 use Rattle.run_commands.specs.Onces as once
 use Rattle.run_commands.specs.Outs as outs
 use Rattle.check_command.specs.declared.commands.TheConstants.{LONGEST_CHECKED}
@@ -24,7 +23,7 @@ use Rattle.script_course.specs.Courses.{Course, Goes, Stops, Out, behind, ended,
 use Rattle.script_course.specs.declared.readings.TheConstants.{MOST_BYTES}
 use Rattle.script_course.specs.declared.statuses.TheConstants.{DONE, FAILS, REFUSED}
 use Rattle.script_places.proofs.Allowed.{closes}
-use Rattle.script_places.specs.Places.{asked, closing}
+use Rattle.script_places.specs.Places.{asked, closing, plan_in}
 use Rattle.script_places.specs.declared.deeds.Deed.TheVariants as deed
 use Rattle.script_places.specs.declared.places.Mode.TheVariants as mode
 use Rattle.script_places.specs.declared.places.Place.{Place}

@@ -11,7 +11,7 @@ use Rattle.disk_model.specs.Histories.{History}
 use Rattle.proc_lang.specs.Catalogs.{Plan}
 use Rattle.cat_text.specs.Texts.{catalog_of}
 use Rattle.script_places.specs.Follows.{HeadStays}
-use Rattle.script_places.specs.Places.{closed_by, closing, next_line, shut, without_head}
+use Rattle.script_places.specs.Places.{closed_by, closing, next_line, plan_in, shut, without_head}
 use Rattle.script_places.specs.declared.heads.Head.{Head}
 use Rattle.script_places.specs.declared.heads.Head.TheVariants as head
 use Rattle.script_places.specs.declared.places.Place.{Place}
@@ -23,7 +23,7 @@ use Rattle.script_text.specs.declared.refusals.Refusal.{Refusal}
 use Rattle.serving.specs.Lives.{IsLike, plan_of, state_of}
 use Rattle.serving.specs.Stored.{Holds, stored_state}
 use Rattle.serving.specs.declared.lives.Live.{Live}
-use Rattle.run_commands.specs.Bases.{IsListed, IsNamed, checkpoint_in, plan_in, state_in, store_in}
+use Rattle.run_commands.specs.Bases.{IsListed, IsNamed, checkpoint_in, state_in, store_in}
 use Rattle.run_commands.specs.Endings.{HoldsBase, HoldsLive, IsEnd, closing_turns, drains_of, held_in}
 use Rattle.run_commands.specs.Keeps.{HoldsState, Keeps, LeavesLaid}
 use Rattle.run_commands.specs.Onces.{Doing}

@@ -7,7 +7,7 @@ use Rattle.batch_core.specs.Steps.{State}
 use Rattle.disk_model.specs.Histories.{History}
 use Rattle.proc_lang.specs.Catalogs.{Plan}
 use Rattle.script_course.proofs.Turns.{front_all}
-use Rattle.script_course.specs.Courses.{Course, Goes, Out, Stops, printed}
+use Rattle.script_course.specs.Courses.{Course, Goes, Out, Stops, printed, refused_after}
 use Rattle.script_course.specs.Served.{Finishes, IsGoing}
 use Rattle.script_course.specs.declared.stops.Stop.{Stop}
 use Rattle.script_course.specs.declared.stops.Stop.TheVariants as stop
@@ -18,7 +18,7 @@ use Rattle.serving.specs.Drains.{drains}
 use Rattle.serving.specs.Stored.{LeavesState}
 use Rattle.run_commands.specs.Endings.{IsEnd, closing_turns, drains_of}
 use Rattle.run_commands.specs.Keeps.{Keeps, LeavesLaid}
-use Rattle.run_commands.specs.Onces.{Doing, listed, refused_behind}
+use Rattle.run_commands.specs.Onces.{Doing, listed}
 use Rattle.run_commands.specs.Passes.{Close, Listed, PassesTurns, Turn, as_doing, held_behind, held_by_step, held_over, held_then, on_close, on_turn}
 use Rattle.run_commands.proofs.Draining.{going_is}
 use Rattle.run_commands.proofs.Endings.{drains_are, held_listed, held_still}
@@ -112,15 +112,15 @@ module _ (d : Doing) (held : State) (steps : List Turn) where
     close_laid first checkpoint disk plan laid = subst (λ (s : State). LeavesLaid first checkpoint disk plan s) (sym close_held) laid
 
   module _ (kind : Kind8) (is : closing d.place ≡ Err kind) where
-    stops_on : on_turn d Close ≡ Stops (refused_behind d.place kind)
+    stops_on : on_turn d Close ≡ Stops (refused_after d.place.lines kind)
     stops_on = ap (λ (r : Result Place Kind8). on_close d r) is
 
-    pub refused_keeps : (plan : Plan) (disk : History) (ga gb : Option (List ℕ)) → AppendsFront ga gb (refused_behind d.place kind) → LeavesState disk plan held
+    pub refused_keeps : (plan : Plan) (disk : History) (ga gb : Option (List ℕ)) → AppendsFront ga gb (refused_after d.place.lines kind) → LeavesState disk plan held
         → Keeps (PassesTurns (Close ∷ steps) d held) plan disk disk ga gb
     refused_keeps plan disk ga gb front leaves =
         keeps_cut on_turn held_then plan Close steps d held disk disk ga gb
         (keeps_quiet on_turn held_then plan Close d held disk ga gb (Err stop.NoMemory)
-        (λ bytes next e. absurd (let no : Stops (refused_behind d.place kind) ≡ Goes bytes next = sym stops_on ∙ e in cc))
+        (λ bytes next e. absurd (let no : Stops (refused_after d.place.lines kind) ≡ Goes bytes next = sym stops_on ∙ e in cc))
         (subst (λ (c : Course Doing). AppendsFront ga gb (printed c)) (sym stops_on) front) leaves)
 
     pub refused_laid : (first checkpoint : ℕ) (disk : History) (plan : Plan) → LeavesLaid first checkpoint disk plan held

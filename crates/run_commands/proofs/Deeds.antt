@@ -14,7 +14,7 @@ use Rattle.batch_rules.specs.declared.verdicts.Rule.{Rule}
 use Rattle.dep_rules.specs.declared.configs.Config.{Config}
 use Rattle.proc_lang.specs.Catalogs.{Plan, takes, run_of}
 use Rattle.script_places.specs.Follows.{IsReadyWith}
-use Rattle.script_places.specs.Places.{start_with}
+use Rattle.script_places.specs.Places.{plan_in, start_with}
 use Rattle.script_places.specs.declared.places.Mode.TheVariants as mode
 use Rattle.script_places.specs.declared.heads.Head.{Head}
 use Rattle.script_places.specs.declared.heads.Head.TheVariants as head
@@ -22,7 +22,7 @@ use Rattle.script_places.specs.declared.places.Place.{Place}
 use Rattle.serving.specs.Lives.{IsNext, IsRunnable, MayServe, batch_text, first_state, handed_at, next_handed, next_state, next_text, plan_of, state_of}
 use Rattle.serving.specs.declared.lives.Live.{Live}
 use Rattle.store_openings.specs.Runs.{settings_with}
-use Rattle.run_commands.specs.Bases.{IsBegun, IsBounded, IsHead, IsListed, IsUnder, plan_in, put_in, set_in, state_in}
+use Rattle.run_commands.specs.Bases.{IsBegun, IsBounded, IsHead, IsListed, IsUnder, put_in, set_in, state_in}
 use Rattle.run_commands.specs.Onces.{behind_batch, text_of}
 use Rattle.run_commands.specs.Standing.{HasEnded, IsOf, MayClose, MayPut, MayRun, MaySet, Stands, doing_of}
 use Rattle.run_commands.specs.declared.bases.Base.{Base}

@@ -10,11 +10,12 @@ use Rattle.script_course.specs.Served.{Finishes, Serves, ServesCut}
 use Rattle.script_course.specs.declared.stops.Stop.{Stop}
 use Rattle.script_course.specs.declared.stops.Stop.TheVariants as stop
 use Rattle.script_places.specs.Follows.{HeadStays}
+use Rattle.script_places.specs.Places.{plan_in}
 use Rattle.script_places.specs.declared.heads.Head.{Head}
 use Rattle.script_places.specs.declared.heads.Head.TheVariants as head
 use Rattle.serving.specs.Drains.{drains}
 use Rattle.serving.specs.Lives.{plan_of}
-use Rattle.run_commands.specs.Bases.{IsNamed, plan_in}
+use Rattle.run_commands.specs.Bases.{IsNamed}
 use Rattle.run_commands.specs.Onces.{drained, listed}
 use Rattle.run_commands.specs.Standing.{IsOf}
 use Rattle.run_commands.specs.declared.bases.Base.{Base}

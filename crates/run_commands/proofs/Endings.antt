@@ -14,7 +14,6 @@ use Rattle.script_course.specs.declared.stops.Stop.TheVariants as stop
 use Rattle.script_course.proofs.Turns.{behind_nothing}
 use Rattle.serving.specs.Drains.{drained, drains, goes_on, one_drained}
 use Rattle.serving.specs.Stored.{LeavesState, ReopensToEither}
-use Rattle.run_commands.specs.Bases.{plan_in}
 use Rattle.run_commands.specs.Endings.{IsEnd, drains_of}
 use Rattle.run_commands.specs.Keeps.{HoldsState, Keeps, LeavesLaid}
 use Rattle.run_commands.specs.Onces.{Doing}
@@ -22,6 +21,7 @@ use Rattle.run_commands.specs.Passes.{Drain, Listed, PassesTurns, Turn, as_doing
 use Rattle.run_commands.proofs.Kept.{keeps_batch, keeps_quiet, keeps_told}
 use Rattle.run_commands.proofs.Overs.{onward, over}
 use Rattle.run_commands.proofs.Ran.{held_leaves_all}
+use Rattle.script_places.specs.Places.{plan_in}
 
 -- ---- what is held
 

@@ -11,7 +11,7 @@ use Rattle.aria_base.specs.declared.limits.TheConstants.{GREATEST_NUMBER, LONGES
 use Rattle.cat_builtin.specs.Builtins.{builtin_named}
 use Rattle.image_text.specs.Exactly.{line_of_call}
 use Rattle.proc_lang.specs.Catalogs.{Plan}
-use Rattle.script_places.specs.Places.{Asked, asked, at_call, at_catalog, at_end, at_item, at_row, at_settings, behind_text, by_head, calls, closed, ends, found, goes_on, has_batches, has_catalog, in_text, is_audit, is_byte, is_check, is_unnamed, next_line, puts, read_text, runs, sets, under, within_text, without_head}
+use Rattle.script_places.specs.Places.{Asked, asked, at_call, at_catalog, at_end, at_item, at_row, at_settings, behind_text, by_head, calls, closed, ends, found, goes_on, has_batches, has_catalog, in_text, is_audit, is_byte, is_check, is_unnamed, next_line, plan_in, puts, read_text, runs, sets, under, within_text, without_head}
 use Rattle.script_places.specs.declared.deeds.Deed.{Deed}
 use Rattle.script_places.specs.declared.deeds.Deed.TheVariants as deed
 use Rattle.script_places.specs.declared.heads.Head.{Head}
@@ -29,7 +29,6 @@ use Rattle.script_text.specs.declared.items.Item.TheVariants as item
 use Rattle.script_text.specs.declared.refusals.CatFault.TheVariants as fault
 use Rattle.script_text.specs.declared.refusals.Kind8.{Kind8}
 use Rattle.script_text.specs.declared.refusals.Kind8.TheVariants as kind
-use Rattle.run_commands.specs.Bases.{plan_in}
 use Rattle.run_commands.specs.Keeps.{IsShort}
 use Rattle.run_commands.proofs.Spelled.{call_within, placed_within, weight}
 

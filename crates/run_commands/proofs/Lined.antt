@@ -13,7 +13,7 @@ use Rattle.script_course.specs.Served.{Serves}
 use Rattle.script_course.specs.declared.stops.Stop.{Stop}
 use Rattle.script_places.proofs.Allowed.{follows}
 use Rattle.script_places.specs.Follows.{HeadStays}
-use Rattle.script_places.specs.Places.{asked}
+use Rattle.script_places.specs.Places.{asked, plan_in}
 use Rattle.script_places.specs.declared.deeds.Deed.{Deed}
 use Rattle.script_places.specs.declared.deeds.Deed.TheVariants as deed
 use Rattle.script_places.specs.declared.heads.Head.{Head}
@@ -24,7 +24,7 @@ use Rattle.serving.specs.Lives.{IsNext, next_state, plan_of}
 use Rattle.serving.specs.Stored.{HasLines, Holds, HoldsTurned, next_due, next_store, stored_state, told_by}
 use Rattle.serving.specs.declared.lives.Live.{Live}
 use Rattle.slot_images.specs.Images.{Checkpoint}
-use Rattle.run_commands.specs.Bases.{IsBegun, IsHead, checkpoint_in, counts_of, plan_in, state_in, store_in}
+use Rattle.run_commands.specs.Bases.{IsBegun, IsHead, checkpoint_in, counts_of, state_in, store_in}
 use Rattle.run_commands.specs.Keeps.{HoldsState, IsOpen, Keeps, held_of}
 use Rattle.run_commands.specs.Onces.{Doing, Running, doing_result, done, on_line, with_call, with_settings, without_calls}
 use Rattle.run_commands.specs.Passes.{Line, PassesTurns, held_then, on_turn}

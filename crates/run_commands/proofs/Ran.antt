@@ -13,6 +13,7 @@ use Rattle.image_text.specs.Exactly.{line_of_call}
 use Rattle.image_text.specs.Payloads.{Batch}
 use Rattle.proc_lang.specs.Catalogs.{Plan}
 use Rattle.script_course.specs.Courses.{Goes}
+use Rattle.script_places.specs.Places.{plan_in}
 use Rattle.script_places.specs.declared.places.Place.{Place}
 use Rattle.serving.specs.Given.{IsAnswered, Tells}
 use Rattle.serving.specs.Lives.{IsNext, next_state, next_text, plan_of, state_of}
@@ -21,7 +22,7 @@ use Rattle.serving.specs.declared.batches.Given.{Given}
 use Rattle.serving.specs.declared.lives.Live.{Live}
 use Rattle.serving.proofs.Storing.{held_leaves}
 use Rattle.slot_images.specs.Images.{Checkpoint}
-use Rattle.run_commands.specs.Bases.{IsBegun, plan_in, state_in, store_in}
+use Rattle.run_commands.specs.Bases.{IsBegun, state_in, store_in}
 use Rattle.run_commands.specs.Keeps.{IsOpen, Keeps, held_of}
 use Rattle.run_commands.specs.Onces.{Doing, Running, behind_batch, on_line, text_of}
 use Rattle.run_commands.specs.Passes.{Line, PassesTurns, held_then, on_turn}

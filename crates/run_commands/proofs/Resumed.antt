@@ -25,7 +25,6 @@ use Rattle.slot_images.specs.Images.{Checkpoint}
 use Rattle.store_openings.specs.Openings.{IsOpenedAs, IsRefusalOf, ReopensToOpened}
 use Rattle.store_openings.specs.declared.refusals.NotOpened.{NotOpened}
 use Rattle.store_openings.specs.declared.refusals.NotOpened.TheVariants as refusal
-use Rattle.run_commands.specs.Bases.{plan_in}
 use Rattle.run_commands.specs.Endings.{HoldsLive}
 use Rattle.run_commands.specs.Keeps.{IsOpen, Keeps, LeavesLaid, ReopensAsGiven, ReopensToPassed, held_of}
 use Rattle.run_commands.specs.Onces.{Doing, Running, on_end, on_line}
@@ -36,6 +35,7 @@ use Rattle.run_commands.specs.Turns.{HoldsScript}
 use Rattle.run_commands.proofs.Endings.{held_still, holds_leave}
 use Rattle.run_commands.proofs.Kept.{keeps_cut, keeps_on, keeps_quiet}
 use Rattle.run_commands.proofs.Ran.{no_lines}
+use Rattle.script_places.specs.Places.{plan_in}
 
 -- the script over a database
 pub script_is : (live : Live) (script : Running) → script.doing ≡ over live → script.store ≡ live.store → script.checkpoint ≡ live.checkpoint → script ≡ running_over live

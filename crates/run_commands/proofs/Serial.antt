@@ -12,7 +12,7 @@ use Rattle.input_log.specs.Layout.{Log, Breaks, Ends}
 use Rattle.command_words.specs.declared.settings.Once.{Once}
 use Rattle.proc_lang.specs.Catalogs.{Plan, run_of}
 use Rattle.script_course.specs.Courses.{Course, Goes, Stops, behind, told, with_fault, with_line, with_lines, whole}
-use Rattle.script_places.specs.Places.{Asked, asked}
+use Rattle.script_places.specs.Places.{Asked, asked, plan_in}
 use Rattle.script_places.specs.declared.deeds.Deed.{Deed}
 use Rattle.script_places.specs.declared.deeds.Deed.TheVariants as deed
 use Rattle.script_text.specs.Lines.{scan}
@@ -21,7 +21,7 @@ use Rattle.slot_images.specs.Images as images
 use Rattle.slot_images.specs.Images.{BodyReads, Checkpoint, IsBodyFor, Reading, values_in}
 use Rattle.store_files.specs.Openings.{Damage, NoGate, Opened, Taken, opened_of}
 use Rattle.script_text.specs.declared.refusals.Refusal.{Refusal}
-use Rattle.run_commands.specs.Bases.{counts_of, plan_in}
+use Rattle.run_commands.specs.Bases.{counts_of}
 use Rattle.run_commands.specs.Onces.{Doing, done, done_by, handed_in, on_end, on_line}
 use Rattle.run_commands.specs.Outs.{AreOne, IsAlike, is_each, no_line, start_by, start_of, told_of}
 use Rattle.run_commands.specs.Resumes.{start_over, told_from}

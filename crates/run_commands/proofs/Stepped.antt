@@ -14,11 +14,11 @@ use Rattle.script_course.specs.Courses.{Course, Goes, Stops}
 use Rattle.script_course.specs.Served.{Serves}
 use Rattle.script_course.specs.declared.stops.Stop.{Stop}
 use Rattle.script_course.specs.declared.stops.Stop.TheVariants as stop
+use Rattle.script_places.specs.Places.{plan_in}
 use Rattle.script_places.specs.declared.deeds.Deed.{Deed}
 use Rattle.script_places.specs.declared.deeds.Deed.TheVariants as deed
 use Rattle.script_places.specs.declared.places.Place.{Place}
 use Rattle.serving.specs.Stored.{HasLines, LeavesState}
-use Rattle.run_commands.specs.Bases.{plan_in}
 use Rattle.run_commands.specs.Keeps.{IsOpen, IsShort, Keeps}
 use Rattle.run_commands.specs.Onces.{Doing, Running, behind_batch, doing_result, done, on_line, text_of}
 use Rattle.run_commands.specs.Passes.{Line, PassesTurns, held_then, on_turn}

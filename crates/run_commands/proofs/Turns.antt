@@ -17,7 +17,6 @@ use Rattle.script_course.specs.declared.stops.Stop.TheVariants as stop
 use Rattle.script_course.proofs.Turns.{behind-behind, behind_nothing, stopped_lines, with_lines-behind}
 use Rattle.script_text.specs.Lines.{Scan}
 use Rattle.script_text.specs.declared.refusals.Refusal.{Refusal}
-use Rattle.run_commands.specs.Bases.{plan_in}
 use Rattle.run_commands.specs.Keeps.{Keeps, LeavesLaid, held_of}
 use Rattle.run_commands.specs.Onces.{Doing, Running, doing_result, on_line}
 use Rattle.run_commands.specs.Passes.{Line, Past, PassesTurns, Turn, held_behind, held_by_step, held_over, held_then, on_turn, past, turns}
@@ -25,6 +24,7 @@ use Rattle.run_commands.specs.Turns.{HoldsScript, KeepsTurns, Stays}
 use Rattle.run_commands.proofs.Endings.{holds_laid, holds_leave}
 use Rattle.run_commands.proofs.Kept.{keeps_none, keeps_quiet}
 use Rattle.run_commands.proofs.Overs.{keeps_append, keeps_front, onward, over}
+use Rattle.script_places.specs.Places.{plan_in}
 
 -- ---- steps, and more of them
 

@@ -11,7 +11,6 @@ use Rattle.script_course.specs.declared.statuses.TheConstants.{DONE}
 use Rattle.script_course.specs.declared.stops.Stop.{Stop}
 use Rattle.script_course.specs.declared.stops.Stop.TheVariants as stop
 use Rattle.script_text.specs.Lines.{last_line, scan}
-use Rattle.run_commands.specs.Bases.{plan_in}
 use Rattle.run_commands.specs.Keeps.{Keeps, LeavesLaid, held_of}
 use Rattle.run_commands.specs.Onces.{Doing, Running, on_line}
 use Rattle.run_commands.specs.Outs.{no_line, text_turns}
@@ -19,6 +18,7 @@ use Rattle.run_commands.specs.Passes.{PassesTurns, Turn, ending_behind, ending_o
 use Rattle.run_commands.specs.Turns.{HoldsScript, KeepsTurns}
 use Rattle.run_commands.proofs.Overs.{keeps_append, keeps_front, onward, over}
 use Rattle.run_commands.proofs.Turns.{held_goes, held_stops, onward_none, over_append, scan_over}
+use Rattle.script_places.specs.Places.{plan_in}
 
 -- ---- a text as turns
 

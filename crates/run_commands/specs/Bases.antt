@@ -11,10 +11,10 @@ use Rattle.batch_rules.specs.declared.verdicts.Rule.{Rule}
 use Rattle.dep_rules.specs.declared.configs.Config.{Config}
 use Rattle.proc_lang.specs.Catalogs.{Plan}
 use Rattle.script_course.specs.declared.stops.Stop.{Stop}
+use Rattle.script_places.specs.Places.{plan_in}
 use Rattle.script_places.specs.declared.heads.Head.{Head}
-use Rattle.script_places.specs.declared.heads.Head.TheVariants as head
 use Rattle.script_places.specs.declared.places.Counts.{Counts}
-use Rattle.serving.specs.Lives.{IsRunnable, blank, no_plan, plan_of, state_of}
+use Rattle.serving.specs.Lives.{IsRunnable, blank, plan_of, state_of}
 use Rattle.serving.specs.declared.lives.Live.{Live}
 use Rattle.store_openings.specs.Runs.{settings_with}
 use Rattle.run_commands.specs.declared.bases.Base.{Base}
@@ -37,12 +37,6 @@ checkpoint_in (base.Runs live) = live.checkpoint
 -- what decides about the end of a batch
 abbrev pub counts_of : State → Counts
 counts_of state = record { batches = state.batches; requests = state.requests; waiting = length state.waiting }
-
--- the catalogue of a head; where there is none yet, the one without tables and procedures
-abbrev pub plan_in : Head → Plan
-plan_in head.Unnamed = no_plan
-plan_in (head.Text text) = no_plan
-plan_in (head.Ready plan) = plan
 
 -- ---- what is done to it
 

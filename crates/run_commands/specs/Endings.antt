@@ -6,11 +6,12 @@ use Rattle.proc_lang.specs.Catalogs.{Plan}
 use Rattle.serving.specs.Lives.{plan_of}
 use Rattle.serving.specs.Stored.{stored_state, told_by}
 use Rattle.serving.specs.declared.lives.Live.{Live}
-use Rattle.run_commands.specs.Bases.{checkpoint_in, plan_in, state_in, store_in}
+use Rattle.run_commands.specs.Bases.{checkpoint_in, state_in, store_in}
 use Rattle.run_commands.specs.Keeps.{HoldsState}
 use Rattle.run_commands.specs.Onces.{Doing}
 use Rattle.run_commands.specs.Passes.{Drain, Listed, Turn}
 use Rattle.run_commands.specs.declared.bases.Base.{Base}
+use Rattle.script_places.specs.Places.{plan_in}
 
 -- a script behind the end of its input: its catalogue, whether each answer has a listing, the number of its last line, and its state
 pub record IsEnd (plan : Plan) (each : Bool) (line : ℕ) (state : State) (d : Doing) : Type 0 where

@@ -9,11 +9,11 @@ use Rattle.disk_model.specs.Histories.{History, LeavesAll, MayLeave}
 use Rattle.image_text.specs.Exactly.{line_of_call}
 use Rattle.image_text.specs.Payloads.{Batch}
 use Rattle.proc_lang.specs.Catalogs.{Plan}
+use Rattle.script_places.specs.Places.{plan_in}
 use Rattle.script_places.specs.declared.deeds.Deed.{Deed}
 use Rattle.script_places.specs.declared.deeds.Deed.TheVariants as deed
 use Rattle.serving.specs.Stored.{GoesOn, HasLines, Holds, ReopensTo, crowded, state_behind, told_by}
 use Rattle.slot_images.specs.Images.{Checkpoint}
-use Rattle.run_commands.specs.Bases.{plan_in}
 use Rattle.run_commands.specs.Onces.{Running}
 
 -- these four files are the text of a state that passes, whatever was given then

@@ -6,15 +6,14 @@ use Rattle.aria_base.specs.declared.calls.Call.{Call}
 use Rattle.aria_base.specs.declared.keys.Key.{Key}
 use Rattle.aria_store.specs.Stands.{Kept}
 use Rattle.answer_text.specs.Notices.{kept_text}
-use Rattle.answer_text.specs.Refusals.{refusal_text}
 use Rattle.batch_core.specs.Steps.{State, Handed, step}
 use Rattle.batch_rules.specs.declared.verdicts.Rule.{Rule}
 use Rattle.proc_lang.specs.Catalogs.{Plan, run_of}
-use Rattle.script_course.specs.Courses.{Course, Goes, Stops, Out, ended, status_of}
+use Rattle.script_course.specs.Courses.{Course, Goes, Stops, Out, ended, refused_after, status_of}
 use Rattle.script_course.specs.declared.statuses.TheConstants.{DONE}
 use Rattle.script_course.specs.declared.stops.Stop.{Stop}
 use Rattle.script_course.specs.declared.stops.Stop.TheVariants as stop
-use Rattle.script_places.specs.Places.{Asked, asked, closing}
+use Rattle.script_places.specs.Places.{Asked, asked, closing, plan_in}
 use Rattle.script_places.specs.declared.deeds.Deed.{Deed}
 use Rattle.script_places.specs.declared.deeds.Deed.TheVariants as deed
 use Rattle.script_places.specs.declared.places.Place.{Place}
@@ -22,7 +21,7 @@ use Rattle.script_text.specs.Lines.{line_after}
 use Rattle.script_text.specs.declared.refusals.Kind8.{Kind8}
 use Rattle.serving.specs.Drains.{drains}
 use Rattle.serving.specs.Lives.{batch_text, handed_at, listing}
-use Rattle.run_commands.specs.Bases.{counts_of, plan_in}
+use Rattle.run_commands.specs.Bases.{counts_of}
 
 -- a script between two lines: its place, the calls of the open batch, the state that its batches left, and whether each answer has a
 -- listing behind it
@@ -77,13 +76,9 @@ done d (deed.Keep number) = Goes (kept_text number) (without_calls d)
 done d deed.Run = Goes (text_of d) (behind_batch d)
 done d deed.Tell = Goes [] d
 
--- the refusal of the line behind this place
-abbrev pub refused_behind : Place → Kind8 → List ℕ
-refused_behind place kind = refusal_text (record { line = line_after place.lines; kind = kind })
-
 abbrev pub done_by : Doing → Asked → Course Doing
 done_by d (Ok asked) = done (record d { place = asked.0 }) asked.1
-done_by d (Err kind) = Stops (refused_behind d.place kind)
+done_by d (Err kind) = Stops (refused_after d.place.lines kind)
 
 abbrev pub on_line : Doing → List ℕ → Course Doing
 on_line d line = done_by d (asked d.place (counts_of d.state) line)
@@ -100,7 +95,7 @@ drained drain plan each line state = ended (listed plan each) (if drain then dra
 
 abbrev pub closed_by : Bool → Doing → Result Place Kind8 → Out
 closed_by drain d (Ok place) = drained drain (plan_in place.head) d.each (line_after d.place.lines) d.state
-closed_by drain d (Err kind) = record { bytes = refused_behind d.place kind; status = status_of stop.Refused }
+closed_by drain d (Err kind) = record { bytes = refused_after d.place.lines kind; status = status_of stop.Refused }
 
 abbrev pub on_end : Bool → Doing → Out
 on_end drain d = closed_by drain d (closing d.place)

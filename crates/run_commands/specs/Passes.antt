@@ -4,16 +4,15 @@ use Rattle.std.specs.Prelude.{Option, Some, None, Result, Ok, Err}
 use Rattle.answer_text.specs.Notices.{at_text}
 use Rattle.answer_text.specs.Refusals.{refusal_text}
 use Rattle.batch_core.specs.Steps.{State}
-use Rattle.script_course.specs.Courses.{Course, Goes, Stops}
+use Rattle.script_course.specs.Courses.{Course, Goes, Stops, refused_after}
 use Rattle.script_text.specs.Lines.{Scan, last_line}
 use Rattle.script_text.specs.declared.refusals.Kind8.{Kind8}
 use Rattle.script_text.specs.declared.refusals.Refusal.{Refusal}
-use Rattle.script_places.specs.Places.{closing}
+use Rattle.script_places.specs.Places.{closing, plan_in}
 use Rattle.script_places.specs.declared.places.Place.{Place}
 use Rattle.serving.specs.Lives.{listing}
-use Rattle.run_commands.specs.Bases.{plan_in}
 use Rattle.serving.specs.Drains.{one_drained}
-use Rattle.run_commands.specs.Onces.{Doing, on_line, refused_behind}
+use Rattle.run_commands.specs.Onces.{Doing, on_line}
 
 -- ---- steps that print, one after the other
 
@@ -71,7 +70,7 @@ pub data Turn : Type 0 where
 -- the end of the input at a place
 abbrev pub on_close : Doing → Result Place Kind8 → Course Doing
 on_close d (Ok place) = Goes [] (record d { place = place })
-on_close d (Err kind) = Stops (refused_behind d.place kind)
+on_close d (Err kind) = Stops (refused_after d.place.lines kind)
 
 -- the state that a course leaves, as that of a script
 abbrev pub as_doing : Doing → Course State → Course Doing

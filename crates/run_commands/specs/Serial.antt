@@ -10,10 +10,10 @@ use Rattle.proc_lang.specs.Catalogs.{run_of}
 use Rattle.script_course.specs.Courses.{Course, Goes, Stops}
 use Rattle.serving.specs.Stored.{handed_in, state_at}
 use Rattle.slot_images.specs.Images.{Checkpoint}
-use Rattle.run_commands.specs.Bases.{plan_in}
 use Rattle.run_commands.specs.Onces.{Doing}
 use Rattle.run_commands.specs.Outs.{told_of}
 use Rattle.run_commands.specs.Resumes.{start_over, told_from}
+use Rattle.script_places.specs.Places.{plan_in}
 
 -- the batches that follow on a script, as many as come and whatever they are handed, are each serialised by the order that its answer
 -- prints: one after the other from the batch's start, the requests that it names end as printed and leave the next state's rows, and

@@ -3,10 +3,10 @@ use Rattle.std.specs.Prelude.{◌≡◌, ℕ, List, Option, Result, Err, IfOk}
 use Rattle.disk_model.specs.Histories.{History}
 use Rattle.script_course.specs.declared.stops.Stop.{Stop}
 use Rattle.script_course.specs.declared.stops.Stop.TheVariants as stop
-use Rattle.run_commands.specs.Bases.{plan_in}
 use Rattle.run_commands.specs.Keeps.{HoldsState, Keeps, LeavesLaid, held_of}
 use Rattle.run_commands.specs.Onces.{Running}
 use Rattle.run_commands.specs.Passes.{PassesTurns, Turn, held_behind}
+use Rattle.script_places.specs.Places.{plan_in}
 
 -- what the disk holds of a script over its store; nothing where it has none
 abbrev pub HoldsScript : ℕ → History → Running → Type 0

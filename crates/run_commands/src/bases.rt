@@ -2,16 +2,17 @@
 ghost use Rattle.std.specs.Prelude.{◌≡◌, ◌≤◌, IfOk};
 ghost use Rattle.aria_base.specs.declared.limits.TheConstants.{MOST_REPLICAS};
 ghost use Rattle.script_places.specs.Follows.{IsReadyWith};
+ghost use Rattle.script_places.specs.Places.{plan_in};
 ghost use Rattle.answer_text.specs.States.{state_text};
-ghost use Rattle.serving.specs.Lives.{listing, no_plan, plan_of};
-ghost use Rattle.run_commands.specs.Bases.{IsBegun, IsBounded, IsHead, IsListed, IsNamed, IsUnder, counts_of, plan_in, put_in, set_in, state_in};
+ghost use Rattle.serving.specs.Lives.{listing, plan_of};
+ghost use Rattle.run_commands.specs.Bases.{IsBegun, IsBounded, IsHead, IsListed, IsNamed, IsUnder, counts_of, put_in, set_in, state_in};
 
 use answer_text::print_state;
-use aria_base::{Key, Memory, Row, Schema};
+use aria_base::{Key, Memory, Row};
 use batch_rules::verdicts::Rule;
 use dep_rules::Config;
 use proc_lang::Catalog;
-use script_places::{Counts, Head};
+use script_places::{Counts, Head, catalog_copy, no_catalog};
 use serving::Live;
 use std::alloc::Global;
 use store_openings::{settings_with, with_settings};
@@ -85,7 +86,7 @@ impl Base {
     {
         match self {
             Base::Rows(tables, config) => {
-                let catalog = catalog_in(alloc, head)?;
+                let catalog = catalog_copy(alloc, head)?;
                 let none = Vec::new(alloc);
                 Live::begin(alloc, catalog, tables, none, 0, 0, config, replicas, each)
             }
@@ -118,26 +119,9 @@ fn list_rows(alloc: Global, tables: &Tables, head: &Head) -> Result<Vec<u8>, Mem
     }
 }
 
-/// A copy of the head's catalogue.
-fn catalog_in(alloc: Global, head: &Head) -> Result<Catalog, Memory>
-    ensures { IfOk result (λ catalog. catalog ≡ plan_in head.now) }
-{
-    match head {
-        Head::Ready(catalog) => catalog.copy(alloc),
-        Head::Unnamed | Head::Text(_) => Ok(no_catalog(alloc)),
-    }
-}
-
 /// A copy of the catalogue of a database that runs.
 pub(crate) fn catalog_of(alloc: Global, live: &Live) -> Result<Catalog, Memory>
     ensures { IfOk result (λ catalog. catalog ≡ plan_of live.now) }
 {
     live.replicas.first().catalog().copy(alloc)
-}
-
-/// The catalogue without tables and procedures.
-fn no_catalog(alloc: Global) -> Catalog
-    ensures { result ≡ no_plan }
-{
-    Catalog::of(Schema::from_vec(Vec::new(alloc)), Vec::new(alloc))
 }

@@ -7,11 +7,12 @@ ghost use Rattle.script_course.specs.declared.statuses.TheConstants.{DONE};
 ghost use Rattle.script_course.specs.declared.stops.Stop.TheVariants as stop;
 ghost use Rattle.serving.specs.Drains.{drains};
 ghost use Rattle.serving.specs.Stored.{GoesOn};
-ghost use Rattle.run_commands.specs.Bases.{IsBounded, IsListed, IsNamed, base_result, checkpoint_in, plan_in, state_in, store_in};
+ghost use Rattle.run_commands.specs.Bases.{IsBounded, IsListed, IsNamed, base_result, checkpoint_in, state_in, store_in};
 ghost use Rattle.run_commands.specs.Endings.{HoldsBase, IsEnd, closing_turns, drains_of, held_in};
 ghost use Rattle.run_commands.specs.Keeps.{HoldsState, IsOpen, Keeps, LeavesLaid, held_of};
 ghost use Rattle.run_commands.specs.Onces.{Doing, drained, listed, on_end};
 ghost use Rattle.run_commands.specs.Passes.{PassesTurns, ending_of, held_behind};
+ghost use Rattle.script_places.specs.Places.{plan_in};
 
 use crate::bases::Base;
 use crate::drains::drain;

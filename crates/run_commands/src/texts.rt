@@ -7,12 +7,12 @@ ghost use Rattle.script_course.specs.Courses.{told, whole};
 ghost use Rattle.script_course.specs.Served.{Completes};
 ghost use Rattle.script_course.specs.declared.statuses.TheConstants.{DONE};
 ghost use Rattle.script_course.specs.declared.stops.Stop.TheVariants as stop;
-ghost use Rattle.run_commands.specs.Bases.{plan_in};
 ghost use Rattle.run_commands.specs.Keeps.{IsOpen, Keeps, LeavesLaid, held_of};
 ghost use Rattle.run_commands.specs.Onces.{on_end, on_line};
 ghost use Rattle.run_commands.specs.Outs.{no_line, text_turns};
 ghost use Rattle.run_commands.specs.Passes.{PassesTurns, held_behind};
 ghost use Rattle.run_commands.specs.Turns.{HoldsScript};
+ghost use Rattle.script_places.specs.Places.{plan_in};
 
 use crate::ends::end_of;
 use crate::loops::read_script;

@@ -86,6 +86,12 @@ is_ready head.Unnamed = false
 is_ready (head.Text text) = false
 is_ready (head.Ready plan) = true
 
+-- the catalogue of a head; where there is none yet, the one without tables and procedures
+abbrev pub plan_in : Head → Plan
+plan_in head.Unnamed = record { tables = []; procs = [] }
+plan_in (head.Text text) = record { tables = []; procs = [] }
+plan_in (head.Ready plan) = plan
+
 -- what needs a catalogue may not stand before there is one
 abbrev pub under : Head → (Plan → Asked) → Asked
 under head.Unnamed ask = Err kind.Site

@@ -1,9 +1,10 @@
 // The catalogue of a script, as far as it is known.
-ghost use Rattle.std.specs.Prelude.{◌≡◌};
-ghost use Rattle.script_places.specs.Places.{is_unnamed, is_ready};
+ghost use Rattle.std.specs.Prelude.{◌≡◌, [], IfOk};
+ghost use Rattle.script_places.specs.Places.{is_unnamed, is_ready, plan_in};
 
-use aria_base::Bytes;
+use aria_base::{Bytes, Memory, Schema};
 use proc_lang::Catalog;
+use std::alloc::Global;
 
 /// The catalogue of a script, as far as it is known.
 #[derive(Drop)]
@@ -30,4 +31,31 @@ impl Head {
     {
         matches!(self, Head::Ready(_))
     }
+}
+
+/// The catalogue of a head; where there is none, the one without tables and procedures. No memory.
+pub fn catalog_in(alloc: Global, head: Head) -> Catalog
+    ensures { result ≡ plan_in head }
+{
+    match head {
+        Head::Ready(catalog) => catalog,
+        Head::Unnamed | Head::Text(_) => no_catalog(alloc),
+    }
+}
+
+/// A copy of the catalogue of a head; where there is none, the one without tables and procedures.
+pub fn catalog_copy(alloc: Global, head: &Head) -> Result<Catalog, Memory>
+    ensures { IfOk result (λ catalog. catalog ≡ plan_in head.now) }
+{
+    match head {
+        Head::Ready(catalog) => catalog.copy(alloc),
+        Head::Unnamed | Head::Text(_) => Ok(no_catalog(alloc)),
+    }
+}
+
+/// The catalogue without tables and procedures. No memory.
+pub fn no_catalog(alloc: Global) -> Catalog
+    ensures { result ≡ record { tables = []; procs = [] } }
+{
+    Catalog::of(Schema::from_vec(Vec::new(alloc)), Vec::new(alloc))
 }

@@ -23,7 +23,7 @@ mod limits;
 mod places;
 
 pub use deeds::Deed;
-pub use heads::Head;
+pub use heads::{Head, catalog_copy, catalog_in, no_catalog};
 pub use laws::{closes, follows};
 pub use limits::MOST_CATALOG;
 pub use places::{Counts, Mode, Place};

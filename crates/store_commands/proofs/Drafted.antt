@@ -7,6 +7,7 @@ use Rattle.aria_base.specs.Schemas.{Fits, IsConsistent}
 use Rattle.aria_base.specs.declared.keys.Key.{Key}
 use Rattle.proc_lang.specs.Catalogs.{Plan}
 use Rattle.script_places.specs.Follows.{Follows, HeadStays, IsReadyWith}
+use Rattle.script_places.specs.Places.{plan_in}
 use Rattle.script_places.specs.declared.deeds.Deed.{Deed}
 use Rattle.script_places.specs.declared.deeds.Deed.TheVariants as deed
 use Rattle.script_places.specs.declared.heads.Head.{Head}
@@ -14,7 +15,6 @@ use Rattle.script_places.specs.declared.heads.Head.TheVariants as head
 use Rattle.script_places.specs.declared.places.Counts.{Counts}
 use Rattle.script_places.specs.declared.places.Place.{Place}
 use Rattle.serving.specs.Lives.{no_plan}
-use Rattle.run_commands.specs.Bases.{plan_in}
 use Rattle.run_commands.proofs.Standing.{consistent_with}
 use Rattle.store_commands.specs.Drafts.{AreUnder, IsFitting, MayDo, done}
 use Rattle.store_commands.specs.declared.drafts.Draft.{Draft}

@@ -5,12 +5,10 @@ use Rattle.aria_base.specs.Orders.{Database}
 use Rattle.aria_base.specs.Schemas.{Fits, IsConsistent}
 use Rattle.answer_text.specs.Refusals.{refusal_text}
 use Rattle.proc_lang.specs.Catalogs.{Plan}
-use Rattle.run_commands.specs.Bases.{plan_in}
-use Rattle.run_commands.specs.Onces.{refused_behind}
 use Rattle.run_commands.specs.Outs.{no_line}
-use Rattle.script_course.specs.Courses.{Course, Goes, Stops, told, told_whole}
+use Rattle.script_course.specs.Courses.{Course, Goes, Stops, refused_after, told, told_whole}
 use Rattle.script_places.specs.Follows.{IsReadyWith}
-use Rattle.script_places.specs.Places.{Asked, asked, closing}
+use Rattle.script_places.specs.Places.{Asked, asked, closing, plan_in}
 use Rattle.script_places.specs.Places as places
 use Rattle.script_places.specs.declared.deeds.Deed.{Deed}
 use Rattle.script_places.specs.declared.deeds.Deed.TheVariants as deed
@@ -43,7 +41,7 @@ done d deed.Tell = d
 -- nothing is printed before the end but the line of a refusal
 abbrev pub done_by : Draft → Asked → Course Draft
 done_by d (Ok asked) = Goes [] (done (record d { place = asked.0 }) asked.1)
-done_by d (Err kind) = Stops (refused_behind d.place kind)
+done_by d (Err kind) = Stops (refused_after d.place.lines kind)
 
 abbrev pub on_line : Draft → List ℕ → Course Draft
 on_line d line = done_by d (asked d.place no_counts line)

@@ -6,9 +6,8 @@ use Rattle.answer_text.specs.declared.notices.Refused.TheVariants.{StoreExists}
 use Rattle.command_words.specs.declared.settings.Init.{Init}
 use Rattle.disk_model.specs.Histories.{History, Still}
 use Rattle.proc_lang.specs.Catalogs.{Plan}
-use Rattle.run_commands.specs.Onces.{refused_behind}
 use Rattle.run_commands.specs.Outs.{no_line}
-use Rattle.script_course.specs.Courses.{Out, status_of, whole}
+use Rattle.script_course.specs.Courses.{Out, refused_after, status_of, whole}
 use Rattle.script_course.specs.Served.{Completes, Finishes}
 use Rattle.script_course.specs.declared.stops.Stop.{Stop}
 use Rattle.script_course.specs.declared.stops.Stop.TheVariants as stop
@@ -33,7 +32,7 @@ store_out settings taken =
 -- the end of the head, unless it is refused
 abbrev pub closed_by : Init → Bool → Draft → Result Place Kind8 → Out
 closed_by settings taken d (Ok place) = store_out settings taken
-closed_by settings taken d (Err kind) = record { bytes = refused_behind d.place kind; status = status_of stop.Refused }
+closed_by settings taken d (Err kind) = record { bytes = refused_after d.place.lines kind; status = status_of stop.Refused }
 
 abbrev pub on_end : Init → Bool → Draft → Out
 on_end settings taken d = closed_by settings taken d (closing d.place)

@@ -5,24 +5,22 @@ ghost use Rattle.std.specs.Io.KnownBytes.{Appends, IsAtEnd};
 ghost use Rattle.aria_base.specs.Faults.{Rose};
 ghost use Rattle.aria_base.specs.Schemas.{IsConsistent};
 ghost use Rattle.aria_base.specs.declared.limits.TheConstants.{MOST_PERCENT};
-ghost use Rattle.run_commands.specs.Bases.{plan_in};
 ghost use Rattle.script_course.specs.Causes.{IsCause, IsReadCause};
 ghost use Rattle.script_course.specs.declared.stops.Stop.TheVariants as stop;
 ghost use Rattle.slot_images.specs.Said.{checkpoint_in};
-ghost use Rattle.script_places.specs.Places.{closing};
+ghost use Rattle.script_places.specs.Places.{closing, plan_in};
 ghost use Rattle.store_commands.specs.Drafts.{IsFitting, values_by};
 ghost use Rattle.store_commands.specs.Inits.{Ends, Inits, IsMade, IsMadeOf, IsUngiven, Leaves, first_checkpoint, on_end, store_out};
 ghost use Rattle.script_course.specs.declared.statuses.TheConstants as status;
 
 use crate::drafts::Draft;
 use answer_text::{Refused, ready_line, refused_line};
-use aria_base::{LONGEST_LINE, Schema, Sink, Source};
+use aria_base::{LONGEST_LINE, Sink, Source};
 use aria_store::{Image, Store, StoreRefused};
 use command_words::Init;
 use disk_model::Disk;
-use proc_lang::Catalog;
 use script_course::{DONE, MOST_BYTES, STORE_REFUSED, Stop, end_with, read_through, refuse};
-use script_places::{Head, closes};
+use script_places::{Head, catalog_in, closes};
 use script_text::LinesRefused;
 use std::alloc::Global;
 use tbl_rows::Tables;
@@ -153,17 +151,5 @@ fn first_image(alloc: Global, settings: &Init, head: Head, tables: Tables) -> Im
         catalog: catalog_in(alloc, head),
         tables,
         held: Vec::new(alloc),
-    }
-}
-
-/// The catalogue of a head; where there is none, the one without tables and procedures. No memory.
-fn catalog_in(alloc: Global, head: Head) -> Catalog
-    ensures { result ≡ plan_in head }
-{
-    match head {
-        Head::Ready(catalog) => catalog,
-        Head::Unnamed | Head::Text(_) => {
-            Catalog::of(Schema::from_vec(Vec::new(alloc)), Vec::new(alloc))
-        }
     }
 }

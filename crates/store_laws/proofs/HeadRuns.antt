@@ -7,7 +7,7 @@ use Rattle.cat_text.specs.Texts.{catalog_of}
 use Rattle.proc_lang.specs.Catalogs.{Plan}
 use Rattle.script_course.proofs.Turns.{behind_nothing, stopped_lines}
 use Rattle.script_course.specs.Courses.{Course, Goes, Stops, behind, with_fault, with_last, with_lines}
-use Rattle.script_places.specs.Places.{Asked, asked, closed_by, closing, next_line, shut, without_head}
+use Rattle.script_places.specs.Places.{Asked, asked, closed_by, closing, next_line, plan_in, shut, without_head}
 use Rattle.script_places.specs.declared.deeds.Deed.{Deed}
 use Rattle.script_places.specs.declared.deeds.Deed.TheVariants as deed
 use Rattle.script_places.specs.declared.heads.Head.{Head}
@@ -21,7 +21,6 @@ use Rattle.script_text.specs.declared.refusals.Refusal.{Refusal}
 use Rattle.serving.specs.Lives.{no_plan}
 use Rattle.run_commands.proofs.Overs.{onward, over}
 use Rattle.run_commands.proofs.Turns.{not_both}
-use Rattle.run_commands.specs.Bases.{plan_in}
 use Rattle.run_commands.specs.Onces.{Doing}
 use Rattle.run_commands.specs.Onces as onces
 use Rattle.run_commands.specs.Outs.{no_line}

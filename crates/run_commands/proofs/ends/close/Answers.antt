@@ -3,7 +3,7 @@ use Rattle.std.specs.Prelude.{IsSomeAnd}
 use Rattle.aria_base.specs.Faults.{Rose}
 use Rattle.batch_core.specs.Steps.{State}
 use Rattle.script_course.specs.declared.stops.Stop.TheVariants as stop
-use Rattle.run_commands.specs.Bases.{checkpoint_in, plan_in, state_in, store_in}
+use Rattle.run_commands.specs.Bases.{checkpoint_in, state_in, store_in}
 use Rattle.run_commands.specs.Endings.{drains_of, held_in}
 use Rattle.run_commands.specs.Keeps.{LeavesLaid}
 use Rattle.run_commands.specs.Passes.{held_behind}
@@ -12,6 +12,7 @@ use Rattle.run_commands.proofs.Ending.{drained_by, drained_cut}
 use Rattle.run_commands.proofs.Endings.{holds_laid, holds_leave}
 use Rattle.run_commands.proofs.Stepped.{causes_more}
 use Rattle.run_commands.proofs.ends.close.Goals as goal
+use Rattle.script_places.specs.Places.{plan_in}
 
 -- ---- where nothing is drained
 

@@ -1,7 +1,6 @@
 use Rattle.std.proofs.Common.{◌≡◌, sym, subst}
 use Rattle.std.proofs.KnownBytes.{Appends-nil}
 use Rattle.script_text.specs.Lines.{line_after}
-use Rattle.run_commands.specs.Bases.{plan_in}
 use Rattle.run_commands.specs.Endings.{HoldsBase}
 use Rattle.run_commands.specs.Keeps.{HoldsState, Keeps, LeavesLaid, held_of}
 use Rattle.run_commands.specs.Onces.{Running}
@@ -11,6 +10,7 @@ use Rattle.run_commands.proofs.Closed.{close_refused, close_refused_laid, closed
 use Rattle.run_commands.proofs.Endings.{holds_leave}
 use Rattle.run_commands.proofs.Kept.{keeps_none}
 use Rattle.run_commands.proofs.ends.end_of.Goals as goal
+use Rattle.script_places.specs.Places.{plan_in}
 
 -- ---- where nothing is refused
 

@@ -2,9 +2,9 @@ use Rattle.std.proofs.Common.{rules, ◌≡◌, ◌∙◌, refl, sym, ap, subst,
 use Rattle.std.specs.Prelude.{Ok, Err}
 use Rattle.answer_text.specs.Refusals.{refusal_text}
 use Rattle.script_course.specs.declared.stops.Stop.TheVariants as stop
-use Rattle.script_places.specs.Places.{asked}
+use Rattle.script_places.specs.Places.{asked, plan_in}
 use Rattle.script_text.specs.Lines.{line_after}
-use Rattle.run_commands.specs.Bases.{plan_in, store_in}
+use Rattle.run_commands.specs.Bases.{store_in}
 use Rattle.run_commands.specs.Keeps.{IsOpen, IsShort}
 use Rattle.run_commands.specs.Onces.{Running, doing_result, done, on_line}
 use Rattle.run_commands.specs.Passes.{Line}

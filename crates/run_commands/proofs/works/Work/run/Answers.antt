@@ -6,7 +6,7 @@ use Rattle.script_course.specs.Courses.{Goes}
 use Rattle.script_course.specs.Served.{Serves}
 use Rattle.serving.specs.Lives.{IsNext, next_state, next_text, plan_of}
 use Rattle.run_commands.specs.Onces.{behind_batch}
-use Rattle.run_commands.specs.Bases.{plan_in, store_in}
+use Rattle.run_commands.specs.Bases.{store_in}
 use Rattle.run_commands.specs.Keeps.{held_of}
 use Rattle.run_commands.specs.Passes.{Line, held_then, on_turn}
 use Rattle.run_commands.specs.Standing.{doing_of, running_of}
@@ -23,6 +23,7 @@ use Rattle.run_commands.proofs.Lined.{ran_held, ran_stays}
 use Rattle.run_commands.proofs.Ran.{begun_holds, held_leaves_all, may_log, open_behind, ran_cut, ran_told}
 use Rattle.run_commands.proofs.Told.{cut_serves, if_told, told_all}
 use Rattle.run_commands.proofs.works.Work.run.Goals as goal
+use Rattle.script_places.specs.Places.{plan_in}
 
 pub returns-in-Some-clause-serves : goal.returns-in-Some-clause-serves
 returns-in-Some-clause-serves g c =

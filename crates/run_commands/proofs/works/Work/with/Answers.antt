@@ -2,7 +2,7 @@ use Rattle.std.proofs.Common.{◌≡◌, ◌∙◌, sym, true, false}
 use Rattle.aria_base.specs.Faults.{Rose}
 use Rattle.std.specs.Prelude.{IsSomeAnd}
 use Rattle.script_course.specs.Courses.{Goes}
-use Rattle.run_commands.specs.Bases.{checkpoint_in, plan_in, store_in}
+use Rattle.run_commands.specs.Bases.{checkpoint_in, store_in}
 use Rattle.run_commands.specs.Keeps.{held_of}
 use Rattle.run_commands.specs.Onces.{behind_batch, doing_result, done, text_of}
 use Rattle.run_commands.specs.Standing.{doing_of, running_of, runs_batch}
@@ -11,6 +11,7 @@ use Rattle.run_commands.proofs.Lined.{quiet_held, quiet_stays}
 use Rattle.run_commands.proofs.Ran.{held_leaves_all}
 use Rattle.run_commands.proofs.Stepped.{causes_more, quiet_keeps, quiet_opens, run_done, run_may, store_on}
 use Rattle.run_commands.proofs.works.Work.with.Goals as goal
+use Rattle.script_places.specs.Places.{plan_in}
 
 pub run-requires-clause-may : goal.run-requires-clause-may
 run-requires-clause-may g c κs within =
