@@ -14,7 +14,6 @@ use cat_read::{CatRefused, read_catalog};
 use dir_disk::DirDisk;
 use disk_model::Disk;
 use image_text::read_calls;
-use replica_run::Replicas;
 use serving::{Given, Live, serve_batch};
 use std::alloc::Global;
 use std::fs::Files;
@@ -63,8 +62,14 @@ enum Fault {
     Store(#[from] StoreRefused),
     #[error("the store is not opened: {0:?}")]
     NotOpened(NotOpened),
-    #[error("the batch is not taken")]
-    NotTaken,
+    #[error("the lines are not calls of the catalogue")]
+    NoCalls,
+    #[error("the lines of a batch are together longer than a line may be")]
+    TooLong,
+    #[error("too many calls wait")]
+    NoRoom,
+    #[error("no numbers are left")]
+    NoNumbers,
     #[error("the answer is not given: {0:?}")]
     NotGiven(Given),
 }
@@ -77,7 +82,7 @@ fn main(rt: HostRuntime) -> ExitCode {
     ExitCode::FAILURE
 }
 
-/// Runs the batches on a new ledger, and prints what its store then holds.
+/// Runs the batches on a new ledger, and prints what each replica has once its store is opened again.
 fn run<R: AllocGlobal + Files + Print + Threads + Sync>(rt: &R) -> Result<(), Fault> {
     let alloc = rt.alloc();
     let mut out = FileSink::new(writer(rt));
@@ -88,7 +93,12 @@ fn run<R: AllocGlobal + Files + Print + Threads + Sync>(rt: &R) -> Result<(), Fa
         ledger = serve(rt, alloc, ledger, lines, &mut out, &mut disk)?;
     }
     let ledger = open(rt, alloc, &ENGINES, &mut disk, &Free).map_err(Fault::NotOpened)?;
-    list(alloc, ledger.replicas, &mut out)
+    for engine in ledger.replicas.parts().as_slice() {
+        let rows = print_state(alloc, engine.catalog(), engine.tables(), engine.batches())?;
+        out.give(&rows)
+            .map_err(|_| Fault::NotGiven(Given::NoWrite))?;
+    }
+    Ok(())
 }
 
 /// Makes the store, without accounts. It is refused where there is one.
@@ -123,25 +133,17 @@ fn serve<K: Sink, D: Disk, R: Threads + Sync>(
     ensures logging { IfOk result (IsLogging (D.history disk.new)) }
 {
     let catalog = ledger.replicas.first().catalog();
-    let calls = read_calls(alloc, catalog, lines.as_bytes())?.ok_or(Fault::NotTaken)?;
-    // A text within the bound of a line has each of its lines within it.
-    if LONGEST_LINE < lines.len()
-        || MOST_REQUESTS - ledger.waiting() < calls.len()
-        || GREATEST_NUMBER == ledger.batches()
-        || GREATEST_NUMBER - ledger.requests() < calls.len() as u64
-    {
-        return Err(Fault::NotTaken);
+    let calls = read_calls(alloc, catalog, lines.as_bytes())?.ok_or(Fault::NoCalls)?;
+    if LONGEST_LINE < lines.len() {
+        return Err(Fault::TooLong);
+    }
+    if MOST_REQUESTS - ledger.waiting() < calls.len() {
+        return Err(Fault::NoRoom);
+    }
+    let left = GREATEST_NUMBER - ledger.requests();
+    if left < calls.len() as u64 || GREATEST_NUMBER == ledger.batches() {
+        return Err(Fault::NoNumbers);
     }
     let (next, why) = serve_batch(rt, alloc, ledger, calls, out, disk, &Free);
     next.ok_or(Fault::NotGiven(why))
-}
-
-/// Prints the rows of each replica.
-fn list<K: Sink>(alloc: Global, replicas: Replicas, out: &mut K) -> Result<(), Fault> {
-    for engine in replicas.parts().as_slice() {
-        let rows = print_state(alloc, engine.catalog(), engine.tables(), engine.batches())?;
-        out.give(&rows)
-            .map_err(|_| Fault::NotGiven(Given::NoWrite))?;
-    }
-    Ok(())
 }
