@@ -3,11 +3,11 @@
 
     tools/refuse_memory.py PROGRAM [--most N]
 
-A small library, loaded before the C library (so PROGRAM has to take its memory from there), refuses the N-th request of
-the process and no other, for N from 1 to as many as a run makes. Then each run has to end in one of two ways: as with
-ample memory, where the program can do without (it runs a thread's part itself, say), or with status 7 and a prefix of
-that output. Behind each run over a store, a run with ample memory has to find every batch of whose answer a byte
-was printed, and no damage. The gate does not run this; what was seen stands in docs/gate.md.
+A small library is loaded before the C library, so PROGRAM has to take its memory from there. It refuses the N-th request
+of the process and no other, for N from 1 to as many as a run makes. Then each run has to end in one of two ways. It ends
+as with ample memory, where the program can do without (it runs a thread's part itself, say). Or it ends with status 7
+and a prefix of that output. After each run over a store, a run with ample memory has to find every batch of whose answer
+a byte was printed, and no damage. The gate does not run this; what was seen stands in docs/gate.md.
 """
 import argparse
 import os

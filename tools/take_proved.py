@@ -5,9 +5,12 @@
 
 GATE is a clone in which `rt ci` runs or has run, CLONE another one of the same repository. A library is taken where its
 text, and that of each crate below it, is the same in both. What is taken speeds checks, plants and benchmarks; the gate
-proves everything for itself and looks at none of it. `rt` leaves such libraries without a stamp, so that other commands build
-their own, since statements fit only the libraries that they were built over; this program writes the stamp, and is right
-only because it takes a library together with all those below it. No verdict may rest on a clone that it was used on. It reads the kit's own program for how a crate's text is summed up.
+proves everything for itself and looks at none of it.
+
+`rt` leaves such libraries without a stamp, so that other commands build their own. For statements fit only the libraries
+that they were built over. This program writes the stamp, and is right only because it takes a library together with all
+those below it. No verdict may rest on a clone that it was used on. It reads the kit's own program for how a crate's text
+is summed up.
 """
 import importlib.machinery
 import importlib.util

@@ -1,5 +1,5 @@
-// The plain program beside: it makes the same lines, splits them at line feeds and then at spaces, and
-// prints what that took in nanoseconds, how many lines there were and how many bytes. Its last number
+// The plain program beside. It makes the same lines, and splits them at line feeds and then at spaces.
+// It prints what that took in nanoseconds, how many lines there were and how many bytes. Its last number
 // keeps the work from being left out.
 use std::fmt::Write;
 use std::time::Instant;

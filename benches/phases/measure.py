@@ -1,6 +1,6 @@
 # Runs the program and the plain loops in turns, and prints of each phase the least time of all turns, in
-# microseconds: the plain loop in one thread, and the phase by 1, 2 and 4 workers. Arguments: both
-# programs, and how many turns there are if not 3.
+# microseconds. These are of the plain loop in one thread, and of the phase by 1, 2 and 4 workers.
+# Arguments: both programs, and how many turns there are if not 3.
 import os
 import subprocess
 import sys

@@ -1,4 +1,4 @@
-// The work of each phase as plain loops in one thread, over std's hash maps: the arguments and the lines
+// The work of each phase as plain loops in one thread, over std's hash maps. The arguments and the lines
 // that are printed are those of the program in src/.
 use std::collections::HashMap;
 use std::hint::black_box;

@@ -1,7 +1,7 @@
 #!/usr/bin/env python3
-# What the built program takes by the clock: finished requests a second of `bench`, by 1, 2 and 4 workers,
-# and the time of a script of 200,000 requests through `once`. Arguments: the program, and how many turns
-# there are if not 3; of each run the least time counts.
+# What the built program takes by the clock. Printed are finished requests a second of `bench`, by 1, 2 and
+# 4 workers, and the time of a script of 200,000 requests through `once`. Arguments: the program, and how
+# many turns there are if not 3. Of each run the least time counts.
 import os
 import subprocess
 import sys
