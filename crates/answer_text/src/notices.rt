@@ -8,7 +8,7 @@ use script_text::append_number;
 /// Why a command does nothing.
 #[derive(Clone, Copy, Debug, PartialEq, Eq)]
 pub enum Refused {
-    /// The words are no command.
+    /// The arguments are no command.
     Usage,
     /// The disk holds no store.
     NoStore,

@@ -1,4 +1,4 @@
-// A store.
+// A store: checkpoints and a log of batches in four files, and its calls.
 ghost use Rattle.std.specs.Prelude.{◌≡◌, ◌⊎◌, ℕ, ◌+◌, ◌≤◌, All, true, false, [], ◌∷◌, ◌++◌, List, length, None, IfOk, IfErr, IfSome, OnOk, OnErr};
 ghost use Rattle.aria_base.specs.Schemas.{IsConsistent};
 ghost use Rattle.aria_base.specs.declared.limits.TheConstants.{GREATEST_NUMBER, LONGEST_LINE, MOST_PERCENT, MOST_REQUESTS};

@@ -35,8 +35,10 @@ task_in words = option_and_then task_by (command_in words)
 abbrev pub IsInRange : Task → Type 0
 IsInRange (task.Once settings) = once.IsInRange settings
 IsInRange (task.Init settings) = settings.fallback ≤ MOST_PERCENT
-IsInRange (task.Run settings) = ((1 ≤ settings.workers) × (settings.workers ≤ MOST_WORKERS)) × ((1 ≤ settings.replicas) × (settings.replicas ≤ MOST_REPLICAS))
-IsInRange (task.Replay settings) = ((1 ≤ settings.workers) × (settings.workers ≤ MOST_WORKERS)) × ((1 ≤ settings.replicas) × (settings.replicas ≤ MOST_REPLICAS))
+IsInRange (task.Run settings) = ((1 ≤ settings.workers) × (settings.workers ≤ MOST_WORKERS))
+    × ((1 ≤ settings.replicas) × (settings.replicas ≤ MOST_REPLICAS))
+IsInRange (task.Replay settings) = ((1 ≤ settings.workers) × (settings.workers ≤ MOST_WORKERS))
+    × ((1 ≤ settings.replicas) × (settings.replicas ≤ MOST_REPLICAS))
 IsInRange (task.Gen settings) = IsAsked settings
 IsInRange (task.Bench settings) = bench.IsInRange settings
 IsInRange task.Audit = Unit {0}

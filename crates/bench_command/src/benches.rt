@@ -1,4 +1,4 @@
-// The command.
+// The command `bench`: a drawn workload that runs, and its counts and times.
 ghost use Rattle.std.specs.Prelude.{◌≡◌, ◌≢◌, ◌≤◌, Err, IfOk, IfErr};
 ghost use Rattle.aria_base.specs.Faults.{Rose};
 ghost use Rattle.script_course.specs.Causes.{IsCause};

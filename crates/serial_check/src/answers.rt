@@ -1,4 +1,4 @@
-// Answers.
+// The answers of a report, each against its batch run one request after the other.
 ghost use Rattle.std.specs.Prelude.{◌≡◌, ◌+◌, ◌≤◌, ◌<◌, ◌^◌, length, not, is_some, IfOk, option_copied, false};
 ghost use Rattle.std.specs.BTreeMap as tree;
 ghost use Rattle.std.specs.List.{filter};

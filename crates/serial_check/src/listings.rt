@@ -1,4 +1,4 @@
-// Listings.
+// The listings of a report, each against the rows that its batches leave.
 ghost use Rattle.std.specs.Prelude.{◌≡◌, ◌+◌, ◌≤◌, ◌<◌, ◌^◌, length, map, IfOk};
 ghost use Rattle.std.specs.Map.Iter.{deref_pair};
 ghost use Rattle.script_text.specs.Written.{row_line};
