@@ -5,38 +5,27 @@
 ghost use Rattle.std.specs.Prelude.{IfOk};
 ghost use Rattle.replica_run.specs.Replicas.{MayRun};
 
+mod accounts;
+
+use crate::accounts::{add_call, catalog};
 use answer_text::{print_answer, print_state};
-use aria_base::{
-    Arg, Args, Call, FileSink, Free, GREATEST_NUMBER, MOST_ARGS, MOST_REQUESTS, Memory, Sink,
-};
+use aria_base::{Call, FileSink, Free, GREATEST_NUMBER, MOST_REQUESTS, Memory, Sink, TxtRefused};
 use batch_engine::Engine;
 use batch_rules::verdicts::Rule;
-use cat_read::{CatRefused, read_catalog};
 use dep_rules::Config;
+use proc_verify::VerifyRefused;
 use replica_run::Replicas;
 use std::alloc::Global;
 use std::io::writer;
 use tbl_rows::Tables;
 use thiserror::Error;
 
-/// Both procedures give what the account that is paid into then has. `pay` fails with 1 where there is no such
-/// account, and with 2 where the payer has too little.
-const CATALOG: &str = r#"{"tables":[{"name":"account","key":["int"],"cols":["int"]}],"procs":[
-{"name":"deposit","args":["int","int"],"regs":["int","int"],"body":[["find","account",[["arg",0]],[0],1],
-["put","account",[["arg",0]],[["add",["reg",0],["arg",1]]]],["give",["add",["reg",0],["arg",1]]]]},
-{"name":"pay","args":["int","int","int"],"regs":["int"],"body":[["need","account",[["arg",0]],[0],1],
-["if",["or",["lt",["arg",2],0],["lt",["reg",0],["arg",2]]],[["fail",2]],[]],
-["put","account",[["arg",0]],[["sub",["reg",0],["arg",2]]]],["need","account",[["arg",1]],[0],1],
-["put","account",[["arg",1]],[["add",["reg",0],["arg",2]]]],["give",["add",["reg",0],["arg",2]]]]}]}"#;
-
-/// A call that is asked for: the procedure, and its arguments.
-struct Ask(&'static str, &'static [i64]);
-
-/// In the second batch both payments write account 2: the later one waits, and finishes in the third batch.
-const BATCHES: [&[Ask]; 3] = [
-    &[Ask("deposit", &[1, 100]), Ask("deposit", &[2, 20])],
-    &[Ask("pay", &[1, 2, 30]), Ask("pay", &[2, 1, 15])],
-    &[Ask("pay", &[2, 1, 500]), Ask("deposit", &[3, 5])],
+/// What is added to which account. In the second batch two requests write account 1: the later one waits, and
+/// finishes in the third batch.
+const BATCHES: [&[(i64, i64)]; 3] = [
+    &[(1, 100), (2, 20)],
+    &[(1, -30), (1, -15), (2, 45)],
+    &[(3, 5)],
 ];
 
 /// What waits is never run again in its own batch.
@@ -51,16 +40,16 @@ const CONFIG: Config = Config {
 enum Fault {
     #[error("{0}")]
     Memory(#[from] Memory),
-    #[error("the catalogue is refused: {0}")]
-    Catalog(#[from] CatRefused),
-    #[error("the catalogue has no such procedure")]
-    NoProcedure,
-    #[error("the arguments do not fit the procedure")]
-    NoFit,
+    #[error("a name is refused: {0}")]
+    Name(#[from] TxtRefused),
+    #[error("a procedure is refused: {0}")]
+    Procedure(#[from] VerifyRefused),
+    #[error("the catalogue does not take the call")]
+    NotTaken,
     #[error("the batch has no room for the calls")]
     NoRoom,
-    #[error("the numbers of batches or requests are used up")]
-    NumbersUsed,
+    #[error("no numbers of batches or requests are left")]
+    NoNumbers,
     #[error("the output is not written")]
     NoWrite,
 }
@@ -68,11 +57,11 @@ enum Fault {
 fn main(rt: HostRuntime) -> Result<(), Fault> {
     let alloc = rt.alloc();
     let mut out = FileSink::new(writer(&rt));
-    let catalog = read_catalog(alloc, CATALOG.as_bytes())?;
+    let catalog = catalog(alloc)?;
     let first = Engine::begin(catalog, Tables::new(alloc)?, Vec::new(alloc), 0, 0);
     let mut replicas = Replicas::begin(alloc, first, 3)?;
-    for asks in BATCHES {
-        let calls = calls_for(alloc, replicas.first(), asks)?;
+    for asked in BATCHES {
+        let calls = calls_for(alloc, replicas.first(), asked)?;
         let (next, answer) = replicas.run_batch(&rt, alloc, calls, &CONFIG, &Free)?;
         replicas = next;
         let text = print_answer(alloc, replicas.first().catalog(), &answer)?;
@@ -86,21 +75,14 @@ fn main(rt: HostRuntime) -> Result<(), Fault> {
 }
 
 /// The calls that are asked for, where the engine may run them as its next batch.
-fn calls_for(alloc: Global, engine: &Engine, asks: &[Ask]) -> Result<Vec<Call>, Fault>
+fn calls_for(alloc: Global, engine: &Engine, asked: &[(i64, i64)]) -> Result<Vec<Call>, Fault>
     ensures { IfOk result (λ calls. MayRun CONFIG calls.items engine.now) }
 {
-    let catalog = engine.catalog();
     let mut calls = Vec::new(alloc);
-    for Ask(name, numbers) in asks {
-        let proc = catalog.proc(name.as_bytes()).ok_or(Fault::NoProcedure)?;
-        if numbers.len() > MOST_ARGS {
-            return Err(Fault::NoFit);
-        }
-        let args = numbers.iter().map(|&number| Arg::Int(number));
-        let args = Args::from_vec(args.collect(alloc).map_err(Memory::from)?);
-        let call = Call { proc, args };
-        if !catalog.takes(&call) {
-            return Err(Fault::NoFit);
+    for &(account, amount) in asked {
+        let call = add_call(alloc, account, amount)?;
+        if !engine.catalog().takes(&call) {
+            return Err(Fault::NotTaken);
         }
         calls.push(call).map_err(|_| Memory)?;
     }
@@ -109,7 +91,7 @@ fn calls_for(alloc: Global, engine: &Engine, asks: &[Ask]) -> Result<Vec<Call>, 
     }
     let most = GREATEST_NUMBER - calls.len() as u64;
     if engine.batches() >= GREATEST_NUMBER || engine.requests() > most {
-        return Err(Fault::NumbersUsed);
+        return Err(Fault::NoNumbers);
     }
     Ok(calls)
 }
