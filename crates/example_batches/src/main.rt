@@ -16,7 +16,9 @@ use dep_rules::Config;
 use proc_verify::VerifyRefused;
 use replica_run::Replicas;
 use std::alloc::Global;
-use std::io::writer;
+use std::io::{Print, writer};
+use std::process::ExitCode;
+use std::thread::Threads;
 use tbl_rows::Tables;
 use thiserror::Error;
 
@@ -54,15 +56,24 @@ enum Fault {
     NoWrite,
 }
 
-fn main(rt: HostRuntime) -> Result<(), Fault> {
+fn main(rt: HostRuntime) -> ExitCode {
+    let Err(fault) = run(&rt) else {
+        return ExitCode::SUCCESS;
+    };
+    let _ = eprintln!(&rt; "batches: {fault}");
+    ExitCode::FAILURE
+}
+
+/// Runs the batches on three replicas, and prints the answers and the rows of each replica.
+fn run<R: AllocGlobal + Print + Threads + Sync>(rt: &R) -> Result<(), Fault> {
     let alloc = rt.alloc();
-    let mut out = FileSink::new(writer(&rt));
+    let mut out = FileSink::new(writer(rt));
     let catalog = catalog(alloc)?;
     let first = Engine::begin(catalog, Tables::new(alloc)?, Vec::new(alloc), 0, 0);
     let mut replicas = Replicas::begin(alloc, first, 3)?;
     for asked in BATCHES {
         let calls = calls_for(alloc, replicas.first(), asked)?;
-        let (next, answer) = replicas.run_batch(&rt, alloc, calls, &CONFIG, &Free)?;
+        let (next, answer) = replicas.run_batch(rt, alloc, calls, &CONFIG, &Free)?;
         replicas = next;
         let text = print_answer(alloc, replicas.first().catalog(), &answer)?;
         out.give(&text).map_err(|_| Fault::NoWrite)?;

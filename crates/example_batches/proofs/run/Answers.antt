@@ -7,7 +7,7 @@ use Rattle.aria_base.specs.Schemas.{IsConsistent}
 use Rattle.aria_base.specs.declared.calls.Request.{Request}
 use Rattle.batch_engine.specs.Engines.{IsReady}
 use Rattle.proc_lang.specs.Catalogs.{Plan, takes}
-use Rattle.example_batches.proofs.main.Goals as goal
+use Rattle.example_batches.proofs.run.Goals as goal
 
 -- no rows fit every catalogue
 none_fit : (plan : Plan) (rows : Database) → rows ≡ fin.empty → IsConsistent plan.tables rows
