@@ -1,6 +1,4 @@
 // The four files of a folder, as the system has them.
-ghost use Rattle.std.specs.Prelude.{◌<◌};
-
 use aria_base::Memory;
 use std::alloc::Global;
 use std::fs::{Files, OpenFile, OpenOptions, create_dir};
@@ -15,88 +13,83 @@ const NAMES: [&str; 4] = ["ckpt0", "ckpt1", "log0", "log1"];
 pub struct Folder<R: Files> {
     system: R,
     folder: String,
-    paths: [String; 4],
-    files: Option<[R::File; 4]>,
+    paths: Vec<String>,
+    files: Vec<R::File>,
 }
 
 impl<R: Files + Drop> Folder<R> {
     /// The folder of this name. Nothing is opened yet.
     pub fn new(alloc: Global, system: R, folder: &str) -> Result<Self, Memory> {
-        let [ckpt0, ckpt1, log0, log1] = NAMES;
-        let paths = [
-            path_of(alloc, folder, ckpt0)?,
-            path_of(alloc, folder, ckpt1)?,
-            path_of(alloc, folder, log0)?,
-            path_of(alloc, folder, log1)?,
-        ];
+        let mut paths = Vec::new(alloc);
+        for name in NAMES {
+            paths.push(path_of(alloc, folder, name)?)?;
+        }
         Ok(Folder {
             system,
             folder: String::from_str(alloc, folder)?,
             paths,
-            files: None,
+            files: Vec::with_capacity(alloc, NAMES.len())?,
         })
     }
 
     /// The length of a file.
-    pub fn len(&mut self, file: u8) -> io::Result<u64>
-        requires { file < 4 }
-    {
+    pub fn len(&mut self, file: u8) -> io::Result<u64> {
         self.file(file)?.seek(SeekFrom::End(0))
     }
 
     /// Fills the buffer from an offset of a file on. It is an error where the file ends before.
-    pub fn read_at(&mut self, file: u8, at: u64, buf: &mut [u8]) -> io::Result<()>
-        requires { file < 4 }
-    {
+    pub fn read_at(&mut self, file: u8, at: u64, buf: &mut [u8]) -> io::Result<()> {
         let file = self.file(file)?;
         file.seek(SeekFrom::Start(at))?;
         file.read_exact(buf)
     }
 
     /// Writes all the bytes from an offset of a file on.
-    pub fn write_at(&mut self, file: u8, at: u64, bytes: &[u8]) -> io::Result<()>
-        requires { file < 4 }
-    {
+    pub fn write_at(&mut self, file: u8, at: u64, bytes: &[u8]) -> io::Result<()> {
         let file = self.file(file)?;
         file.seek(SeekFrom::Start(at))?;
         file.write_all(bytes)
     }
 
     /// Has what was written to a file, and its length, reach the disk.
-    pub fn sync(&mut self, file: u8) -> io::Result<()>
-        requires { file < 4 }
-    {
+    pub fn sync(&mut self, file: u8) -> io::Result<()> {
         self.file(file)?.sync_all()
     }
 
     /// The file of this number.
-    /// The file of this number. Where the files cannot be opened none of them is open, and the next call
-    /// tries again.
-    fn file(&mut self, number: u8) -> io::Result<&mut R::File>
-        requires { number < 4 }
-    {
-        let files = match self.files.take() {
-            Some(files) => files,
-            None => open_all(&self.system, &self.folder, &self.paths)?,
-        };
-        let files = self.files.insert(files);
-        Ok(&mut files[usize::from(number)])
+    fn file(&mut self, number: u8) -> io::Result<&mut R::File> {
+        if self.files.is_empty() {
+            self.open()?;
+        }
+        match self.files.get_mut(usize::from(number)) {
+            Some(file) => Ok(file),
+            None => Err(io::Error::from(ErrorKind::NotFound)),
+        }
+    }
+
+    /// Opens the files. Where that fails none of them is open, and the next call tries again.
+    fn open(&mut self) -> io::Result<()> {
+        let opened = open_all(&self.system, &self.folder, &self.paths, &mut self.files);
+        if opened.is_err() {
+            self.files.clear();
+        }
+        opened
     }
 }
 
 /// Makes the folder and the files, where they are not there, and opens the files. Their entries reach the
 /// disk before a byte of theirs does, so that no stop loses a file that was synced.
-fn open_all<R: Files>(system: &R, folder: &str, paths: &[String; 4]) -> io::Result<[R::File; 4]> {
+fn open_all<R: Files>(
+    system: &R,
+    folder: &str,
+    paths: &[String],
+    files: &mut Vec<R::File>,
+) -> io::Result<()> {
     make_folder(system, folder)?;
-    let [ckpt0, ckpt1, log0, log1] = paths;
-    let files = [
-        open_file(system, ckpt0)?,
-        open_file(system, ckpt1)?,
-        open_file(system, log0)?,
-        open_file(system, log1)?,
-    ];
-    sync_folder(system, folder)?;
-    Ok(files)
+    for path in paths {
+        files.push(open_file(system, path)?)?;
+    }
+    sync_folder(system, folder)
 }
 
 /// Opens a file for reading and writing, and makes it where it is not there.
