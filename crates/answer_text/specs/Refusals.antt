@@ -5,8 +5,8 @@ use Rattle.proc_lang.specs.declared.procs.PathPart.{PathPart}
 use Rattle.proc_lang.specs.declared.procs.PathPart.TheVariants as step
 use Rattle.script_text.specs.Tokens.{behind}
 use Rattle.script_text.specs.declared.refusals.Refusal.{Refusal}
-use Rattle.script_text.specs.declared.refusals.Kind8.{Kind8}
-use Rattle.script_text.specs.declared.refusals.Kind8.TheVariants as kind
+use Rattle.script_text.specs.declared.refusals.RefusalKind.{RefusalKind}
+use Rattle.script_text.specs.declared.refusals.RefusalKind.TheVariants as kind
 use Rattle.script_text.specs.declared.refusals.CatFault.{CatFault}
 use Rattle.script_text.specs.declared.refusals.CatFault.TheVariants as fault
 
@@ -29,7 +29,7 @@ fault_text fault.NotJson = codes "json"
 fault_text (fault.Shape path) = codes "shape " ++ path_text path
 fault_text (fault.Wrong wrong) = untyped_text wrong
 
-abbrev pub kind_text : Kind8 → List ℕ
+abbrev pub kind_text : RefusalKind → List ℕ
 kind_text kind.Long = codes "long"
 kind_text kind.Byte = codes "byte"
 kind_text kind.Word = codes "word"

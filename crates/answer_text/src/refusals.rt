@@ -4,7 +4,7 @@ ghost use Rattle.answer_text.specs.Refusals.{step_text, path_text, untyped_text,
 
 use aria_base::Memory;
 use proc_lang::{PathPart, Wrong};
-use script_text::{CatFault, Kind8, Refusal, append_number};
+use script_text::{CatFault, Refusal, RefusalKind, append_number};
 use std::alloc::Global;
 
 /// The line of a refusal: the number of the line that is refused, and why.
@@ -29,27 +29,27 @@ pub fn append_refusal(out: &mut Vec<u8>, refusal: &Refusal) -> Result<(), Memory
 }
 
 /// Appends why the line is refused.
-fn append_kind(out: &mut Vec<u8>, kind: &Kind8) -> Result<(), Memory>
+fn append_kind(out: &mut Vec<u8>, kind: &RefusalKind) -> Result<(), Memory>
     ensures { OnOk result (out.new.items ≡ out.old.items ++ kind_text kind.now) }
 {
     match kind {
-        Kind8::Long => append_word(out, b"long"),
-        Kind8::Byte => append_word(out, b"byte"),
-        Kind8::Word => append_word(out, b"word"),
-        Kind8::Name => append_word(out, b"name"),
-        Kind8::Argument => append_word(out, b"argument"),
-        Kind8::Site => append_word(out, b"place"),
-        Kind8::Unfinished => append_word(out, b"unfinished"),
-        Kind8::Size => append_word(out, b"size"),
-        Kind8::Batch => append_word(out, b"batch"),
-        Kind8::Gap { got, wanted } => {
+        RefusalKind::Long => append_word(out, b"long"),
+        RefusalKind::Byte => append_word(out, b"byte"),
+        RefusalKind::Word => append_word(out, b"word"),
+        RefusalKind::Name => append_word(out, b"name"),
+        RefusalKind::Argument => append_word(out, b"argument"),
+        RefusalKind::Site => append_word(out, b"place"),
+        RefusalKind::Unfinished => append_word(out, b"unfinished"),
+        RefusalKind::Size => append_word(out, b"size"),
+        RefusalKind::Batch => append_word(out, b"batch"),
+        RefusalKind::Gap { got, wanted } => {
             append_word(out, b"gap ")?;
             append_number(out, *got)?;
             out.push(b' ')?;
             append_number(out, *wanted)
         }
-        Kind8::Numbers => append_word(out, b"numbers"),
-        Kind8::Catalog(fault) => {
+        RefusalKind::Numbers => append_word(out, b"numbers"),
+        RefusalKind::Catalog(fault) => {
             append_word(out, b"catalog ")?;
             append_fault(out, fault)
         }

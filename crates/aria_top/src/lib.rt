@@ -29,5 +29,5 @@ mod top_call;
 pub use script_course::{
     DISK_FAULT, DONE, FAILS, NO_MEMORY, READ_FAULT, REFUSED, STORE_REFUSED, USAGE, WRITE_FAULT,
 };
-pub use serving::{Given, Live, MOST_LOG, serve_batch};
+pub use serving::{Delivery, Live, MOST_LOG, serve_batch};
 pub use top_call::aria;

@@ -13,7 +13,7 @@
 //! the settings come to, and `Summaries` what is printed of them. `Laws` says that each request is counted once.
 #![tactic(auto)]
 
-mod benches;
+mod commands;
 mod courses;
 mod laws;
 mod starts;
@@ -22,5 +22,5 @@ mod sums;
 mod tallies;
 mod turns;
 
-pub use benches::{give_summary, measure};
+pub use commands::{give_summary, measure};
 pub use laws::each_request_once;

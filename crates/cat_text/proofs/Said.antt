@@ -20,7 +20,7 @@ use Rattle.cat_read.specs.declared.refusals.CatRefused.{CatRefused}
 use Rattle.cat_read.specs.declared.refusals.CatRefused.TheVariants as refused
 use Rattle.script_text.specs.Answers.{Answers}
 use Rattle.cat_read.proofs.Sealings.{wrong_from-typed}
-use Rattle.script_text.specs.declared.refusals.Kind8.TheVariants.{Catalog}
+use Rattle.script_text.specs.declared.refusals.RefusalKind.TheVariants.{Catalog}
 use Rattle.script_text.specs.declared.refusals.CatFault.TheVariants as fault
 use Rattle.cat_text.specs.Texts.{typed_by, shaped_by, read_by, catalog_of, refusal_of}
 

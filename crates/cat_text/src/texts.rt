@@ -5,7 +5,7 @@ ghost use Rattle.cat_text.specs.Texts.{catalog_of, refusal_of, refused_at};
 
 use cat_read::{CatRefused, read_catalog};
 use proc_lang::Catalog;
-use script_text::{CatFault, Kind8, LinesRefused, Refusal};
+use script_text::{CatFault, LinesRefused, Refusal, RefusalKind};
 use std::alloc::Global;
 
 /// The catalogue that the text says. The refusal has this line number and the kind `Catalog`: `NotJson`
@@ -37,6 +37,6 @@ fn refusal_of(refused: CatRefused, line: u64) -> LinesRefused
 fn refused_at(line: u64, fault: CatFault) -> LinesRefused
     ensures { result ≡ refused_at line fault }
 {
-    let kind = Kind8::Catalog(fault);
+    let kind = RefusalKind::Catalog(fault);
     LinesRefused::Line(Refusal { line, kind })
 }

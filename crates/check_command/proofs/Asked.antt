@@ -13,8 +13,8 @@ use Rattle.script_text.specs.Forms.{said}
 use Rattle.script_text.specs.declared.items.Item.{Item}
 use Rattle.script_text.specs.declared.items.Item.TheVariants as item
 use Rattle.script_text.specs.declared.refusals.CatFault.TheVariants.{Long}
-use Rattle.script_text.specs.declared.refusals.Kind8.{Kind8}
-use Rattle.script_text.specs.declared.refusals.Kind8.TheVariants.{Site, Name, Batch, Gap, Numbers, Catalog}
+use Rattle.script_text.specs.declared.refusals.RefusalKind.{RefusalKind}
+use Rattle.script_text.specs.declared.refusals.RefusalKind.TheVariants.{Site, Name, Batch, Gap, Numbers, Catalog}
 use Rattle.script_places.specs.Places.{Asked, asked, at_call, at_catalog, at_end, at_item, at_piece, at_report, at_row, at_settings, behind_text, by_head, calls, closed, ends, found, has_batches, has_catalog, in_text, is_audit, is_byte, is_check, is_unnamed, item_in_text, next_line, puts, read_text, refused_in_text, runs, sets, under, without_head}
 use Rattle.script_places.specs.declared.deeds.Deed.{Deed}
 use Rattle.script_places.specs.declared.deeds.Deed.TheVariants as deed
@@ -44,7 +44,7 @@ module _ (n : ℕ) where
   keeps_if true x y h k = h refl
   keeps_if false x y h k = k
 
-  keeps_then : {A : Type 0} (f : A → Asked) (r : Result A Kind8) → ((x : A) → Keeps n (f x)) → Keeps n (and_then f r)
+  keeps_then : {A : Type 0} (f : A → Asked) (r : Result A RefusalKind) → ((x : A) → Keeps n (f x)) → Keeps n (and_then f r)
   keeps_then f (Ok x) h = h x
   keeps_then f (Err kind) h = tt
 
@@ -127,16 +127,16 @@ module _ (counts : Counts) where
   item_in_keeps p text item.Report = behind_keeps p text item.Report
   item_in_keeps p text (item.Settings name percent) = behind_keeps p text (item.Settings name percent)
 
-  refused_keeps : (p : Place) (text : List ℕ) (why : Kind8) → Kept (refused_in_text p text why)
+  refused_keeps : (p : Place) (text : List ℕ) (why : RefusalKind) → Kept (refused_in_text p text why)
   refused_keeps p text why =
       keeps_if counts.batches (is_byte why) (Err why) (and_then (λ ready. Err why) (read_text p text)) (λ e. tt)
       (keeps_then counts.batches (λ ready. Err why) (read_text p text) (λ ready. tt))
 
-  in_text_keeps : (p : Place) (text : List ℕ) (line : Result Item Kind8) → Kept (in_text p counts text line)
+  in_text_keeps : (p : Place) (text : List ℕ) (line : Result Item RefusalKind) → Kept (in_text p counts text line)
   in_text_keeps p text (Ok i) = item_in_keeps p text i
   in_text_keeps p text (Err why) = refused_keeps p text why
 
-  line_keeps : (p : Place) (h : Head) (line : Result Item Kind8) → Kept (by_head p counts h line)
+  line_keeps : (p : Place) (h : Head) (line : Result Item RefusalKind) → Kept (by_head p counts h line)
   line_keeps p head.Unnamed line = keeps_then counts.batches (at_item p counts) line (λ i. item_keeps p i)
   line_keeps p (head.Ready plan) line = keeps_then counts.batches (at_item p counts) line (λ i. item_keeps p i)
   line_keeps p (head.Text text) line = in_text_keeps (without_head p) text line

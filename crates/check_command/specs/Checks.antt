@@ -14,8 +14,8 @@ use Rattle.script_places.specs.declared.deeds.Deed.TheVariants as deed
 use Rattle.script_places.specs.declared.places.Counts.{Counts}
 use Rattle.script_places.specs.declared.places.Mode.TheVariants as mode
 use Rattle.script_places.specs.declared.places.Place.{Place}
-use Rattle.script_text.specs.declared.refusals.Kind8.{Kind8}
-use Rattle.script_text.specs.declared.refusals.Kind8.TheVariants as kind
+use Rattle.script_text.specs.declared.refusals.RefusalKind.{RefusalKind}
+use Rattle.script_text.specs.declared.refusals.RefusalKind.TheVariants as kind
 use Rattle.serial_check.specs.Reports.{finding}
 use Rattle.serial_check.specs.declared.findings.Finding.{Finding}
 use Rattle.serial_check.specs.declared.findings.Finding.TheVariants as found
@@ -93,7 +93,7 @@ out_of_finding ends (found.Crowded number) =
 abbrev pub judged : Doing → Out
 judged d = out_of_finding d.ends (finding (plan_in d.place.head) d.report d.rows d.script)
 
-abbrev pub closed_by : Doing → Result Place Kind8 → Out
+abbrev pub closed_by : Doing → Result Place RefusalKind → Out
 closed_by d (Ok place) = judged (record d { place = place })
 closed_by d (Err kind) = record { bytes = refused_after d.place.lines kind; status = status_of stop.Refused }
 

@@ -15,7 +15,7 @@ use crate::works::Work;
 use aria_base::{Memory, Sink};
 use script_course::{DONE, FAILS, Stop, end_with, refuse};
 use script_places::{Place, catalog_in};
-use script_text::{Kind8, LinesRefused, Refusal};
+use script_text::{LinesRefused, Refusal, RefusalKind};
 use serial_check::{Finding, check, crowded_is_run};
 use std::alloc::Global;
 
@@ -74,7 +74,7 @@ fn tell<K: Sink>(alloc: Global, ends: &[u64], finding: Finding, out: &mut K) -> 
         Finding::Crowded { number } => {
             let refusal = Refusal {
                 line: line_of(ends, number),
-                kind: Kind8::Batch,
+                kind: RefusalKind::Batch,
             };
             refuse(alloc, &refusal, out)
         }

@@ -14,7 +14,7 @@ use cat_read::{CatRefused, read_catalog};
 use dir_disk::DirDisk;
 use disk_model::Disk;
 use image_text::read_calls;
-use serving::{Given, Live, serve_batch};
+use serving::{Delivery, Live, serve_batch};
 use std::alloc::Global;
 use std::fs::Files;
 use std::io::{Print, writer};
@@ -71,7 +71,7 @@ enum Fault {
     #[error("no numbers are left")]
     NoNumbers,
     #[error("the answer is not given: {0:?}")]
-    NotGiven(Given),
+    NotDelivered(Delivery),
 }
 
 fn main(rt: HostRuntime) -> ExitCode {
@@ -96,7 +96,7 @@ fn run<R: AllocGlobal + Files + Print + Threads + Sync>(rt: &R) -> Result<(), Fa
     for engine in ledger.replicas.parts().as_slice() {
         let rows = print_state(alloc, engine.catalog(), engine.tables(), engine.batches())?;
         out.give(&rows)
-            .map_err(|_| Fault::NotGiven(Given::NoWrite))?;
+            .map_err(|_| Fault::NotDelivered(Delivery::NoWrite))?;
     }
     Ok(())
 }
@@ -145,5 +145,5 @@ fn serve<K: Sink, D: Disk, R: Threads + Sync>(
         return Err(Fault::NoNumbers);
     }
     let (next, why) = serve_batch(rt, alloc, ledger, calls, out, disk, &Free);
-    next.ok_or(Fault::NotGiven(why))
+    next.ok_or(Fault::NotDelivered(why))
 }

@@ -11,9 +11,9 @@
 //! In `specs/`: `Scripts` says what the script is, and `Pieces` what a sink was given of it.
 #![tactic(auto)]
 
+mod commands;
 mod cuts;
-mod gens;
 mod scripts;
 
-pub use gens::generate;
+pub use commands::generate;
 pub use scripts::ROWS_AT_ONCE;

@@ -13,8 +13,8 @@ use Rattle.aria_base.specs.declared.calls.Call.{Call}
 use Rattle.proc_lang.specs.Catalogs.{Plan, IsCatalog, takes}
 use Rattle.script_text.specs.declared.items.Item.{Item}
 use Rattle.script_text.specs.declared.items.Item.TheVariants as item
-use Rattle.script_text.specs.declared.refusals.Kind8.{Kind8}
-use Rattle.script_text.specs.declared.refusals.Kind8.TheVariants.{Word, Argument, Byte}
+use Rattle.script_text.specs.declared.refusals.RefusalKind.{RefusalKind}
+use Rattle.script_text.specs.declared.refusals.RefusalKind.TheVariants.{Word, Argument, Byte}
 use Rattle.script_text.specs.Cuts.{Lacks}
 use Rattle.script_text.specs.Fits.{row_fits, row_in, placed_row, fitted_row, row_said, call_of, placed_call, fitted_call, call_said, and_then, table_named, proc_named}
 use Rattle.script_text.specs.Forms.{said, is_printed, line_item}
@@ -47,7 +47,7 @@ exactly_other write line again o x e k other =
     let no : bytes_eq (write x) line ≡ false = ap (λ (l : List ℕ). bytes_eq l line) (sym k) ∙ other in
     sym (ap (exactly write line) (sym e) ∙ ap (λ (b : Bool). cond b (Some x) None) no)
 
-pub found_of : {X : Type 0} (r : Result X Kind8) (x : X) → found r ≡ Some x → r ≡ Ok x
+pub found_of : {X : Type 0} (r : Result X RefusalKind) (x : X) → found r ≡ Some x → r ≡ Ok x
 found_of (Ok y) x e = let same : y ≡ x = cc in ap Ok same
 found_of (Err kind) x e = cc
 
@@ -60,10 +60,10 @@ said_printed line it e = by (is_printed line) e
     by true k = refl
     by false k = cc
 
-then_said : {B : Type 0} (f : Item → Result B Kind8) (line : List ℕ) (b : B) → and_then f (said line) ≡ Ok b → Lacks 10 line
+then_said : {B : Type 0} (f : Item → Result B RefusalKind) (line : List ℕ) (b : B) → and_then f (said line) ≡ Ok b → Lacks 10 line
 then_said f line b e = by (said line) refl e
   where
-    by : (r : Result Item Kind8) → said line ≡ r → and_then f r ≡ Ok b → Lacks 10 line
+    by : (r : Result Item RefusalKind) → said line ≡ r → and_then f r ≡ Ok b → Lacks 10 line
     by (Ok it) w k = printed_lacks line (said_printed line it w)
     by (Err kind) w k = cc
 
@@ -85,7 +85,7 @@ fitted_fits : (plan : Plan) (r : Key × Cells) (it : Item) → fitted_row plan i
 fitted_fits plan r (item.Row table parts row) e = row_in_fits plan parts row (table_named plan table) r e
 fitted_fits plan r other e = cc
 
-said_fits : (plan : Plan) (r : Key × Cells) (s : Result Item Kind8) → and_then (fitted_row plan) s ≡ Ok r → row_fits plan.tables r.0 r.1 ≡ true
+said_fits : (plan : Plan) (r : Key × Cells) (s : Result Item RefusalKind) → and_then (fitted_row plan) s ≡ Ok r → row_fits plan.tables r.0 r.1 ≡ true
 said_fits plan r (Ok it) e = fitted_fits plan r it e
 said_fits plan r (Err kind) e = cc
 
@@ -120,7 +120,7 @@ fitted_takes : (plan : Plan) (call : Call) (it : Item) → fitted_call plan it �
 fitted_takes plan call (item.Tx proc args) e = call_of_fits plan args (proc_named plan proc) call e
 fitted_takes plan call other e = cc
 
-said_takes : (plan : Plan) (call : Call) (s : Result Item Kind8) → and_then (fitted_call plan) s ≡ Ok call → takes plan call ≡ true
+said_takes : (plan : Plan) (call : Call) (s : Result Item RefusalKind) → and_then (fitted_call plan) s ≡ Ok call → takes plan call ≡ true
 said_takes plan call (Ok it) e = fitted_takes plan call it e
 said_takes plan call (Err kind) e = cc
 

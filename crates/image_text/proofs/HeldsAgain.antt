@@ -10,7 +10,7 @@ use Rattle.std.proofs.lemmas.Grind.{common_steps}
 use Rattle.aria_base.specs.declared.calls.Call.{Call}
 use Rattle.aria_base.specs.declared.calls.Request.{Request}
 use Rattle.proc_lang.specs.Catalogs.{Plan, IsCatalog, takes}
-use Rattle.script_text.specs.declared.refusals.Kind8.{Kind8}
+use Rattle.script_text.specs.declared.refusals.RefusalKind.{RefusalKind}
 use Rattle.script_text.specs.Cuts.{Lacks}
 use Rattle.script_text.specs.Fits.{call_said}
 use Rattle.script_text.specs.Numbers.{is_i64, number_of}
@@ -53,7 +53,7 @@ said_again : (plan : Plan) (r : Request) → IsCatalog plan → IsHeldOf plan r 
 said_again plan r is h =
     ap (option_and_then (with_parts plan)) (parts_again plan r h.number)
     ∙ ap (option_and_then (with_q plan (tail_of plan r))) (number_back r.q h.number)
-    ∙ ap (λ (o : Result Call Kind8). option_map (with_call r.q) (found o)) (call_says plan r.call is h.call)
+    ∙ ap (λ (o : Result Call RefusalKind). option_map (with_call r.q) (found o)) (call_says plan r.call is h.call)
 
 pub held_written : (plan : Plan) (r : Request) → IsCatalog plan → IsHeldOf plan r → exact_held plan (line_of_held plan r) ≡ Some r
 held_written plan r is h = exactly_again (line_of_held plan) (line_of_held plan r) (held_said plan (line_of_held plan r)) r (said_again plan r is h) refl

@@ -5,7 +5,7 @@ use Rattle.aria_base.specs.Schemas.{Fits}
 use Rattle.aria_base.specs.declared.keys.Key.{Key}
 use Rattle.aria_base.specs.declared.calls.Call.{Call}
 use Rattle.proc_lang.specs.Catalogs.{Plan, takes}
-use Rattle.script_text.specs.declared.refusals.Kind8.{Kind8}
+use Rattle.script_text.specs.declared.refusals.RefusalKind.{RefusalKind}
 use Rattle.script_text.specs.Fits.{row_said, call_said}
 use Rattle.script_text.specs.Written.{row_line, call_line, IsParts, IsCells, IsArgs}
 
@@ -14,7 +14,7 @@ abbrev pub exactly : {X : Type 0} → (X → List ℕ) → List ℕ → Option X
 exactly write line None = None
 exactly write line (Some x) = if bytes_eq (write x) line then Some x else None
 
-abbrev pub found : {X : Type 0} → Result X Kind8 → Option X
+abbrev pub found : {X : Type 0} → Result X RefusalKind → Option X
 found (Ok x) = Some x
 found (Err kind) = None
 

@@ -4,7 +4,7 @@ ghost use Rattle.image_text.specs.Entries.{OfRow, OfHeld, nothing, last_key, is_
 
 use crate::exactly::exact_row;
 use crate::helds::exact_held;
-use crate::lines::Taker;
+use crate::lines::LineTaker;
 use aria_base::{Key, Memory, Request, Row, compare_keys};
 use proc_lang::Catalog;
 use std::alloc::Global;
@@ -81,7 +81,7 @@ fn is_above(rows: &[(Key, Row)], key: &Key) -> bool
     }
 }
 
-impl Taker for Entries {
+impl LineTaker for Entries {
     ghost use Rattle.image_text.specs.Entries.{take};
 
     ghost taken = { take };

@@ -8,7 +8,7 @@ use proc_lang::Catalog;
 use script_text::cut_at;
 
 /// What is known of a text whose lines are taken one by one.
-pub trait Taker: Drop {
+pub trait LineTaker: Drop {
     /// What is known with one more line, where it can be taken.
     ghost taken: { Plan → Self → List ℕ → Option Self };
 
@@ -24,7 +24,7 @@ pub trait Taker: Drop {
 
 /// Takes all lines of a text, where each can be taken and the last one ends.
 #[tactic(auto, using(crate::proofs::LinesTaken::line_taken, crate::proofs::LinesTaken::unended, crate::proofs::LinesTaken::none_left))]
-pub fn take_lines<T: Taker>(
+pub fn take_lines<T: LineTaker>(
     taker: T,
     catalog: &Catalog,
     bytes: &[u8],

@@ -9,7 +9,7 @@ ghost use Rattle.image_text.specs.Exactly.{line_of_call};
 ghost use Rattle.image_text.specs.Payloads.{Batch, rule_byte, rule_of, payload_text, push, IsPayload, IsThat, IsCalls, AreCalls};
 
 use crate::exactly::{append_line, exact_call};
-use crate::lines::{Taker, take_lines};
+use crate::lines::{LineTaker, take_lines};
 use aria_base::{Call, MOST_PERCENT, Memory};
 use batch_rules::verdicts::Rule;
 use proc_lang::Catalog;
@@ -74,7 +74,7 @@ impl Calls {
     }
 }
 
-impl Taker for Calls {
+impl LineTaker for Calls {
     ghost use Rattle.image_text.specs.Lines.{written};
     ghost use Rattle.image_text.specs.Exactly.{line_of_call};
     ghost use Rattle.image_text.specs.Payloads.{take};

@@ -25,8 +25,8 @@ use Rattle.script_text.specs.Forms.{said}
 use Rattle.script_text.specs.declared.items.Item.{Item}
 use Rattle.script_text.specs.declared.items.Item.TheVariants as item
 use Rattle.script_text.specs.declared.refusals.CatFault.TheVariants as fault
-use Rattle.script_text.specs.declared.refusals.Kind8.{Kind8}
-use Rattle.script_text.specs.declared.refusals.Kind8.TheVariants as kind
+use Rattle.script_text.specs.declared.refusals.RefusalKind.{RefusalKind}
+use Rattle.script_text.specs.declared.refusals.RefusalKind.TheVariants as kind
 use Rattle.output_laws.proofs.Builtins.{builtin_printed}
 use Rattle.output_laws.proofs.Items.{PrintedItem, PrintedPair, placed_call_printed, placed_row_printed, said_printed}
 use Rattle.output_laws.proofs.Plans.{catalog_printed}
@@ -83,7 +83,7 @@ beside_if : (b : Bool) (x y x' y' : Asked) → Beside x x' → Beside y y' → B
 beside_if true x y x' y' h k = h
 beside_if false x y x' y' h k = k
 
-beside_then : {T : Type 0} (P : T → Type 0) (f g : T → Asked) (r : Result T Kind8) → IfOk r P → ((t : T) → P t → Beside (f t) (g t)) → Beside (and_then f r) (and_then g r)
+beside_then : {T : Type 0} (P : T → Type 0) (f g : T → Asked) (r : Result T RefusalKind) → IfOk r P → ((t : T) → P t → Beside (f t) (g t)) → Beside (and_then f r) (and_then g r)
 beside_then P f g (Ok t) p h = h t p
 beside_then P f g (Err why) p h = tt
 
@@ -92,7 +92,7 @@ beside_under head.Unnamed f g p n = tt
 beside_under (head.Text text) f g p n = tt
 beside_under (head.Ready plan) f g p n = n plan p
 
-any_ok : {T : Type 0} (r : Result T Kind8) → IfOk r (λ _. ⊤)
+any_ok : {T : Type 0} (r : Result T RefusalKind) → IfOk r (λ _. ⊤)
 any_ok (Ok t) = tt
 any_ok (Err why) = tt
 
@@ -183,7 +183,7 @@ module _ (c : Counts) where
   -- ---- where the text of a catalogue comes
 
   module _ (p : Place) (quiet : p.reports ≡ false) (text : List ℕ) where
-    behind_by : (r : Result Plan Kind8) (i : Item) → IfOk r PrintedPlan → PrintedItem i
+    behind_by : (r : Result Plan RefusalKind) (i : Item) → IfOk r PrintedPlan → PrintedItem i
         → Beside (and_then (λ ready. at_item ready c i) (and_then (λ plan. Ok (record (as_mode mode.Once p) { head = head.Ready plan })) r))
         (and_then (λ ready. at_item ready (unwaited c) i) (and_then (λ plan. Ok (record (as_mode mode.Check p) { head = head.Ready plan })) r))
     behind_by (Ok plan) i is h = item_beside (record p { head = head.Ready plan }) quiet is i h
@@ -208,19 +208,19 @@ module _ (c : Counts) where
     in_text_item item.Report h = behind_beside item.Report h
     in_text_item (item.Settings name percent) h = behind_beside (item.Settings name percent) h
 
-    refused_by : (b : Bool) (why : Kind8) (r : Result Plan Kind8) (other : Asked)
+    refused_by : (b : Bool) (why : RefusalKind) (r : Result Plan RefusalKind) (other : Asked)
         → Beside (cond b (Err why) (and_then (λ ready. Err why) (and_then (λ plan. Ok (record (as_mode mode.Once p) { head = head.Ready plan })) r))) other
     refused_by true why r other = tt
     refused_by false why (Ok plan) other = tt
     refused_by false why (Err kind) other = tt
 
-    in_text_beside : (line : Result Item Kind8) → IfOk line PrintedItem → Beside (in_text (as_mode mode.Once p) c text line) (in_text (as_mode mode.Check p) (unwaited c) text line)
+    in_text_beside : (line : Result Item RefusalKind) → IfOk line PrintedItem → Beside (in_text (as_mode mode.Once p) c text line) (in_text (as_mode mode.Check p) (unwaited c) text line)
     in_text_beside (Ok i) h = in_text_item i h
     in_text_beside (Err why) h = refused_by (is_byte why) why (catalog_of text) (refused_in_text (as_mode mode.Check p) text why)
 
   -- ---- a line
 
-  line_beside : (p : Place) → p.reports ≡ false → PrintedHead p.head → (h : Head) → p.head ≡ h → (line : Result Item Kind8) → IfOk line PrintedItem
+  line_beside : (p : Place) → p.reports ≡ false → PrintedHead p.head → (h : Head) → p.head ≡ h → (line : Result Item RefusalKind) → IfOk line PrintedItem
       → Beside (by_head (as_mode mode.Once p) c h line) (by_head (as_mode mode.Check p) (unwaited c) h line)
   line_beside p quiet named head.Unnamed is line said =
       beside_then PrintedItem (at_item (as_mode mode.Once p) c) (at_item (as_mode mode.Check p) (unwaited c)) line said (λ i k. item_beside p quiet named i k)

@@ -14,8 +14,8 @@ use Rattle.script_places.specs.declared.places.Place.{Place}
 use Rattle.script_text.specs.Fits.{and_then}
 use Rattle.script_text.specs.Forms.{said}
 use Rattle.script_text.specs.declared.items.Item.TheVariants as item
-use Rattle.script_text.specs.declared.refusals.Kind8.{Kind8}
-use Rattle.script_text.specs.declared.refusals.Kind8.TheVariants as kind
+use Rattle.script_text.specs.declared.refusals.RefusalKind.{RefusalKind}
+use Rattle.script_text.specs.declared.refusals.RefusalKind.TheVariants as kind
 use Rattle.output_laws.proofs.Plans.{catalog_printed}
 use Rattle.output_laws.proofs.Runs.{PrintedPlan}
 use Rattle.output_laws.proofs.Asks.{PrintedHead, as_mode}
@@ -35,7 +35,7 @@ pub record Closes (q : Place) : Type 0 where
   pub settled : IsSettled q.head
   pub calls : (q.open_calls == 0) ≡ true
 
-abbrev CloseBeside : Result Place Kind8 → Asked → Type 0
+abbrev CloseBeside : Result Place RefusalKind → Asked → Type 0
 CloseBeside (Ok q) other = (other ≡ Ok (record (as_mode mode.Check q) { reports = true }, deed.Nothing)) × Closes q
 CloseBeside (Err why) other = ⊤
 
@@ -48,7 +48,7 @@ module _ (c : Counts) where
       by true e = (refl, record { quiet = quiet; head = named; settled = settled; calls = e })
       by false e = tt
 
-  text_beside : (p : Place) → p.reports ≡ false → (r : Result Plan Kind8) → IfOk r PrintedPlan
+  text_beside : (p : Place) → p.reports ≡ false → (r : Result Plan RefusalKind) → IfOk r PrintedPlan
       → CloseBeside (and_then shut (and_then (λ plan. Ok (record (as_mode mode.Once p) { head = head.Ready plan })) r))
       (and_then (λ ready. at_report ready) (and_then (λ plan. Ok (record (as_mode mode.Check p) { head = head.Ready plan })) r))
   text_beside p quiet (Ok plan) is = shut_beside (record p { head = head.Ready plan }) quiet is tt
@@ -70,8 +70,8 @@ module _ (c : Counts) where
       by true e = cc
       by false e = ap (by_head (as_mode mode.Check p) c p.head) (sym says_report)
 
-  close_of : (r : Result Place Kind8) (other : Asked) (q : Place) → r ≡ Ok q → CloseBeside r other → (other ≡ Ok (record (as_mode mode.Check q) { reports = true }, deed.Nothing)) × Closes q
-  close_of r other q e h = subst (λ (x : Result Place Kind8). CloseBeside x other) e h
+  close_of : (r : Result Place RefusalKind) (other : Asked) (q : Place) → r ≡ Ok q → CloseBeside r other → (other ≡ Ok (record (as_mode mode.Check q) { reports = true }, deed.Nothing)) × Closes q
+  close_of r other q e h = subst (λ (x : Result Place RefusalKind). CloseBeside x other) e h
 
   pub closing_beside : (p : Place) → p.mode ≡ mode.Once → p.reports ≡ false → PrintedHead p.head → (q : Place) → closing p ≡ Ok q
       → (asked (as_mode mode.Check p) c (codes "report") ≡ Ok (record (as_mode mode.Check q) { reports = true }, deed.Nothing)) × Closes q

@@ -11,7 +11,7 @@ use Rattle.report_laws.specs.Laws.{PrintedLines}
 use Rattle.report_laws.specs.Printed.{fed, state_lines}
 use Rattle.report_laws.specs.Scripts.{AreDrains, batch_lines, drain_lines}
 use Rattle.script_course.specs.Courses.{Course, Goes, Stops, behind}
-use Rattle.script_text.specs.declared.refusals.Kind8.TheVariants.{Numbers}
+use Rattle.script_text.specs.declared.refusals.RefusalKind.TheVariants.{Numbers}
 use Rattle.serving.specs.Drains.{drained, goes_on, no_calls}
 use Rattle.serving.specs.Lives.{batch_text}
 use Rattle.output_laws.proofs.Batches.{PrintedState, plan_step}

@@ -22,8 +22,8 @@ use Rattle.script_text.specs.Numbers.{number_of}
 use Rattle.script_text.specs.Tokens.{all_after, all_of, arg_of, before_last, fit_text, list_behind, part_of, text_behind, value_of}
 use Rattle.script_text.specs.declared.items.Item.{Item}
 use Rattle.script_text.specs.declared.items.Item.TheVariants as item
-use Rattle.script_text.specs.declared.refusals.Kind8.{Kind8}
-use Rattle.script_text.specs.declared.refusals.Kind8.TheVariants.{Argument, Byte, Word}
+use Rattle.script_text.specs.declared.refusals.RefusalKind.{RefusalKind}
+use Rattle.script_text.specs.declared.refusals.RefusalKind.TheVariants.{Argument, Byte, Word}
 use Rattle.script_text.proofs.Places.{all_weaker}
 use Rattle.output_laws.proofs.Texts.{Printed, PrintedArg, PrintedCall, PrintedCells, PrintedKey, PrintedPart, PrintedValue, all_joined}
 
@@ -178,7 +178,7 @@ said_printed line = by (is_printed line)
 abbrev pub PrintedPair : Key × Cells → Type 0
 PrintedPair row = PrintedKey row.0 × PrintedCells row.1
 
-ok_when : {A : Type 0} (P : A → Type 0) (b : Bool) (x : A) (why : Kind8) → P x → IfOk (cond b (Ok x) (Err why)) P
+ok_when : {A : Type 0} (P : A → Type 0) (b : Bool) (x : A) (why : RefusalKind) → P x → IfOk (cond b (Ok x) (Err why)) P
 ok_when P true x why h = h
 ok_when P false x why h = tt
 

@@ -37,7 +37,7 @@ use Rattle.cat_read.specs.Texts.{first_wrong}
 use Rattle.cat_text.specs.Texts.{catalog_of, read_by, shaped_by, typed_by}
 use Rattle.script_text.proofs.LinesRead.{word_token}
 use Rattle.script_text.specs.declared.refusals.CatFault.TheVariants as fault
-use Rattle.script_text.specs.declared.refusals.Kind8.TheVariants.{Catalog}
+use Rattle.script_text.specs.declared.refusals.RefusalKind.TheVariants.{Catalog}
 use Rattle.output_laws.proofs.Items.{held_printed}
 use Rattle.output_laws.proofs.Runs.{PrintedPlan, PrintedStep, PrintedSteps}
 use Rattle.output_laws.proofs.Texts.{Printed, all_joined}

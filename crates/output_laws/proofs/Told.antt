@@ -10,7 +10,7 @@ use Rattle.script_places.specs.declared.heads.Head.{Head}
 use Rattle.script_places.specs.declared.heads.Head.TheVariants as head
 use Rattle.script_places.specs.declared.places.Place.{Place}
 use Rattle.script_text.specs.Forms.{said}
-use Rattle.script_text.specs.declared.refusals.Kind8.TheVariants.{Unfinished}
+use Rattle.script_text.specs.declared.refusals.RefusalKind.TheVariants.{Unfinished}
 use Rattle.serial_check.specs.Reports as serial
 use Rattle.output_laws.proofs.Closings.{IsSettled}
 

@@ -29,7 +29,7 @@ use Rattle.script_places.specs.declared.places.Mode.TheVariants as mode
 use Rattle.script_places.specs.declared.places.Place.{Place}
 use Rattle.script_text.specs.Laws.{lines_of}
 use Rattle.script_text.specs.Lines.{line_after}
-use Rattle.script_text.specs.declared.refusals.Kind8.{Kind8}
+use Rattle.script_text.specs.declared.refusals.RefusalKind.{RefusalKind}
 use Rattle.serial_check.specs.Lines.{end_state_line}
 use Rattle.serial_check.specs.Reports as serial
 use Rattle.serial_check.specs.declared.findings.Finding.{Finding}
@@ -233,7 +233,7 @@ module _ (own : (plan : Plan) (rule : Rule) (percent : ℕ) (rows : Database) �
     by_drained q shut (Goes more last) d = finish o bytes script c read b q shut more last d
     by_drained q shut (Stops more) d = λ done. refused_is_not done
 
-    by_closed : (r : Result Place Kind8) → closing o.place ≡ r → Passes (out_behind bytes (once.closed_by settings.drain o r))
+    by_closed : (r : Result Place RefusalKind) → closing o.place ≡ r → Passes (out_behind bytes (once.closed_by settings.drain o r))
     by_closed (Err kind) e = λ done. refused_is_not done
     by_closed (Ok q) e = by settings.drain
       where

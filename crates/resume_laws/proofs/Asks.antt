@@ -22,8 +22,8 @@ use Rattle.script_text.specs.Forms.{said}
 use Rattle.script_text.specs.declared.items.Item.{Item}
 use Rattle.script_text.specs.declared.items.Item.TheVariants as item
 use Rattle.script_text.specs.declared.refusals.CatFault.TheVariants as fault
-use Rattle.script_text.specs.declared.refusals.Kind8.{Kind8}
-use Rattle.script_text.specs.declared.refusals.Kind8.TheVariants as kind
+use Rattle.script_text.specs.declared.refusals.RefusalKind.{RefusalKind}
+use Rattle.script_text.specs.declared.refusals.RefusalKind.TheVariants as kind
 use Rattle.run_commands.specs.Standing.{runs_batch}
 
 -- a batch that would be run behind so many is kept
@@ -50,7 +50,7 @@ no_if : (b : Bool) (x y : Asked) → NoRun x → NoRun y → NoRun (if b then x 
 no_if true x y h k = h
 no_if false x y h k = k
 
-no_then : {T : Type 0} (f : T → Asked) (r : Result T Kind8) → ((t : T) → NoRun (f t)) → NoRun (and_then f r)
+no_then : {T : Type 0} (f : T → Asked) (r : Result T RefusalKind) → ((t : T) → NoRun (f t)) → NoRun (and_then f r)
 no_then f (Ok t) h = h t
 no_then f (Err why) h = tt
 
@@ -116,7 +116,7 @@ module _ (c d : Counts) (less : c.batches < d.batches) where
   kept_if true x y x' y' h k = h
   kept_if false x y x' y' h k = k
 
-  kept_then : {T : Type 0} (f g : T → Asked) (r : Result T Kind8) → ((t : T) → AsKept (f t) (g t)) → AsKept (and_then f r) (and_then g r)
+  kept_then : {T : Type 0} (f g : T → Asked) (r : Result T RefusalKind) → ((t : T) → AsKept (f t) (g t)) → AsKept (and_then f r) (and_then g r)
   kept_then f g (Ok t) h = h t
   kept_then f g (Err why) h = tt
 
@@ -177,14 +177,14 @@ module _ (c d : Counts) (less : c.batches < d.batches) where
   kept_behind : (p : Place) (text : List ℕ) (i : Item) → AsKept (behind_text p c text i) (behind_text p d text i)
   kept_behind p text i = kept_then (λ ready. at_item ready c i) (λ ready. at_item ready d i) (read_text p text) (λ ready. kept_item ready i)
 
-  no_refused : (p : Place) (text : List ℕ) (why : Kind8) → NoRun (refused_in_text p text why)
+  no_refused : (p : Place) (text : List ℕ) (why : RefusalKind) → NoRun (refused_in_text p text why)
   no_refused p text why = no_if (is_byte why) (Err why) (and_then (λ ready. Err why) (read_text p text)) tt (no_then (λ ready. Err why) (read_text p text) (λ ready. tt))
 
-  kept_text : (p : Place) (text : List ℕ) (line : Result Item Kind8) → AsKept (in_text p c text line) (in_text p d text line)
+  kept_text : (p : Place) (text : List ℕ) (line : Result Item RefusalKind) → AsKept (in_text p c text line) (in_text p d text line)
   kept_text p text (Ok i) = kept_if (goes_on i) (within_text p text i) (behind_text p c text i) (within_text p text i) (behind_text p d text i) (kept_within p text i) (kept_behind p text i)
   kept_text p text (Err why) = same (refused_in_text p text why) (no_refused p text why)
 
-  kept_head : (p : Place) (h : Head) (line : Result Item Kind8) → AsKept (by_head p c h line) (by_head p d h line)
+  kept_head : (p : Place) (h : Head) (line : Result Item RefusalKind) → AsKept (by_head p c h line) (by_head p d h line)
   kept_head p (head.Text text) line = kept_text (without_head p) text line
   kept_head p head.Unnamed line = kept_then (at_item p c) (at_item p d) line (λ i. kept_item p i)
   kept_head p (head.Ready plan) line = kept_then (at_item p c) (at_item p d) line (λ i. kept_item p i)

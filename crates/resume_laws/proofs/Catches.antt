@@ -10,7 +10,7 @@ use Rattle.script_places.specs.declared.deeds.Deed.{Deed}
 use Rattle.script_places.specs.declared.deeds.Deed.TheVariants as deed
 use Rattle.script_places.specs.declared.places.Counts.{Counts}
 use Rattle.script_places.specs.declared.places.Place.{Place}
-use Rattle.script_text.specs.declared.refusals.Kind8.{Kind8}
+use Rattle.script_text.specs.declared.refusals.RefusalKind.{RefusalKind}
 use Rattle.run_commands.specs.Bases.{counts_of}
 use Rattle.run_commands.specs.Onces.{Doing, behind_batch, done, done_by, on_line, text_of, with_call, with_settings, without_calls}
 use Rattle.run_commands.specs.Passes.{IsBehind, IsHere, Line, Passes, PassesBy, PassesTurns, Turn, held_then, on_turn}

@@ -10,7 +10,7 @@ use Rattle.script_places.specs.declared.deeds.Deed.{Deed}
 use Rattle.script_places.specs.declared.places.Counts.{Counts}
 use Rattle.script_places.specs.declared.places.Place.{Place}
 use Rattle.script_text.specs.Lines.{line_after}
-use Rattle.script_text.specs.declared.refusals.Kind8.{Kind8}
+use Rattle.script_text.specs.declared.refusals.RefusalKind.{RefusalKind}
 use Rattle.script_text.specs.declared.refusals.Refusal.{Refusal}
 use Rattle.run_commands.specs.Bases.{counts_of, state_in}
 use Rattle.run_commands.specs.Onces.{Doing, done, done_by, on_line}
@@ -18,7 +18,7 @@ use Rattle.run_commands.specs.Standing.{MayDo, Stands, doing_of}
 use Rattle.run_commands.specs.declared.works.Work.{Work}
 use Rattle.run_commands.proofs.Standing.{may_do}
 
-abbrev stops_as : Kind8 → ℕ → Course Doing
+abbrev stops_as : RefusalKind → ℕ → Course Doing
 stops_as kind n = Stops (refusal_text (record { line = n; kind = kind }))
 
 module _ (place : Place) (work : Work) (counts : Counts) (line : List ℕ) (same : counts ≡ counts_of (state_in work.base)) where

@@ -17,8 +17,8 @@ use Rattle.script_places.specs.declared.heads.Head.TheVariants as head
 use Rattle.script_places.specs.declared.places.Place.{Place}
 use Rattle.script_text.specs.Fits.{and_then}
 use Rattle.script_text.specs.Lines.{line_after}
-use Rattle.script_text.specs.declared.refusals.Kind8.{Kind8}
-use Rattle.script_text.specs.declared.refusals.Kind8.TheVariants as kind
+use Rattle.script_text.specs.declared.refusals.RefusalKind.{RefusalKind}
+use Rattle.script_text.specs.declared.refusals.RefusalKind.TheVariants as kind
 use Rattle.script_text.specs.declared.refusals.Refusal.{Refusal}
 use Rattle.serving.specs.Lives.{IsLike, plan_of, state_of}
 use Rattle.serving.specs.Stored.{Holds, stored_state}
@@ -41,7 +41,7 @@ shut_by : (p q : Place) (b : Bool) → (if b then Ok p else Err kind.Unfinished)
 shut_by p q true e = let same : p ≡ q = cc in ap (λ (x : Place). x.lines) (sym same)
 shut_by p q false e = absurd cc
 
-text_by : (p q : Place) (r : Result Plan Kind8) → and_then shut (and_then (λ plan. Ok (record p { head = head.Ready plan })) r) ≡ Ok q → q.lines ≡ p.lines
+text_by : (p q : Place) (r : Result Plan RefusalKind) → and_then shut (and_then (λ plan. Ok (record p { head = head.Ready plan })) r) ≡ Ok q → q.lines ≡ p.lines
 text_by p q (Ok plan) e = shut_by (record p { head = head.Ready plan }) q (p.open_calls == 0) e
 text_by p q (Err why) e = absurd cc
 

@@ -13,7 +13,7 @@ use Rattle.script_course.specs.declared.stops.Stop.{Stop}
 use Rattle.script_course.specs.declared.stops.Stop.TheVariants as stop
 use Rattle.script_places.specs.Places.{closing}
 use Rattle.script_places.specs.declared.places.Place.{Place}
-use Rattle.script_text.specs.declared.refusals.Kind8.{Kind8}
+use Rattle.script_text.specs.declared.refusals.RefusalKind.{RefusalKind}
 use Rattle.serving.specs.Drains.{drains}
 use Rattle.serving.specs.Stored.{LeavesState}
 use Rattle.run_commands.specs.Endings.{IsEnd, closing_turns, drains_of}
@@ -93,7 +93,7 @@ module _ (plan : Plan) (each : Bool) (line : ℕ) (state : State) (d : Doing) (e
 module _ (d : Doing) (held : State) (steps : List Turn) where
   module _ (q : Place) (is : closing d.place ≡ Ok q) where
     closes_on : on_turn d Close ≡ Goes [] (record d { place = q })
-    closes_on = ap (λ (r : Result Place Kind8). on_close d r) is
+    closes_on = ap (λ (r : Result Place RefusalKind). on_close d r) is
 
     pub close_keeps : (plan : Plan) (a b : History) (ga gb : Option (List ℕ)) → LeavesState a plan held → Keeps (PassesTurns steps (record d { place = q }) held) plan a b ga gb
         → Keeps (PassesTurns (Close ∷ steps) d held) plan a b ga gb
@@ -111,9 +111,9 @@ module _ (d : Doing) (held : State) (steps : List Turn) where
         → LeavesLaid first checkpoint disk plan (held_behind (Close ∷ steps) d held)
     close_laid first checkpoint disk plan laid = subst (λ (s : State). LeavesLaid first checkpoint disk plan s) (sym close_held) laid
 
-  module _ (kind : Kind8) (is : closing d.place ≡ Err kind) where
+  module _ (kind : RefusalKind) (is : closing d.place ≡ Err kind) where
     stops_on : on_turn d Close ≡ Stops (refused_after d.place.lines kind)
-    stops_on = ap (λ (r : Result Place Kind8). on_close d r) is
+    stops_on = ap (λ (r : Result Place RefusalKind). on_close d r) is
 
     pub refused_keeps : (plan : Plan) (disk : History) (ga gb : Option (List ℕ)) → AppendsFront ga gb (refused_after d.place.lines kind) → LeavesState disk plan held
         → Keeps (PassesTurns (Close ∷ steps) d held) plan disk disk ga gb

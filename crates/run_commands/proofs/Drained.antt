@@ -14,7 +14,7 @@ use Rattle.script_course.specs.Served.{Leads, Serves, ServesCut}
 use Rattle.script_course.specs.declared.stops.Stop.{Stop}
 use Rattle.script_course.specs.declared.stops.Stop.TheVariants as stop
 use Rattle.serving.specs.Drains.{drained, goes_on, no_calls, one_drained, state_result}
-use Rattle.script_text.specs.declared.refusals.Kind8.TheVariants.{Numbers}
+use Rattle.script_text.specs.declared.refusals.RefusalKind.TheVariants.{Numbers}
 use Rattle.serving.specs.Lives.{IsLike, IsNext, batch_text, handed_at, next_handed, next_state, next_text, plan_of, state_of}
 use Rattle.serving.proofs.Bounds.{fewer}
 use Rattle.serving.proofs.Nexts.{handed_is}

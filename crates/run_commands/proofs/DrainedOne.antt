@@ -12,11 +12,11 @@ use Rattle.script_course.specs.Served.{IsGoing, Serves}
 use Rattle.script_course.specs.declared.stops.Stop.{Stop}
 use Rattle.script_course.specs.declared.stops.Stop.TheVariants as stop
 use Rattle.serving.specs.Drains.{one_drained}
-use Rattle.serving.specs.Given.{IfTold, IsAnswered, Tells}
+use Rattle.serving.specs.Deliveries.{IfTold, IsAnswered, Tells}
 use Rattle.serving.specs.Lives.{IsLike, IsNext, next_state, next_text, plan_of, state_of}
 use Rattle.serving.specs.Stored.{Holds, HoldsTurned, LeavesState, ReopensToEither, next_batch, next_due, next_store, stored_state, turned_by, with_logged}
-use Rattle.serving.specs.declared.batches.Given.{Given}
-use Rattle.serving.specs.declared.batches.Given.TheVariants as given
+use Rattle.serving.specs.declared.batches.Delivery.{Delivery}
+use Rattle.serving.specs.declared.batches.Delivery.TheVariants as delivery
 use Rattle.serving.specs.declared.lives.Live.{Live}
 use Rattle.slot_images.specs.Images.{Checkpoint}
 use Rattle.run_commands.specs.Endings.{HoldsLive, IsEnd}
@@ -34,13 +34,13 @@ pub some_waits : (n : ℕ) → 0 < n → (n == 0) ≡ false
 some_waits n some = grind (arith, some)
 
 -- a batch that was not told is not refused
-pub not_refused : (why : Given) (s : Stop) → IsStopFor why s → s ≢ stop.Refused
-not_refused given.Told s k = absurd k
-not_refused given.NoMemory s k = λ e. absurd (let no : stop.NoMemory ≡ stop.Refused = sym k ∙ e in cc)
-not_refused given.NoWrite s k = λ e. absurd (let no : stop.NoWrite ≡ stop.Refused = sym k ∙ e in cc)
-not_refused given.NoDisk s k = λ e. absurd (let no : stop.NoDisk ≡ stop.Refused = sym k ∙ e in cc)
+pub not_refused : (why : Delivery) (s : Stop) → IsStopFor why s → s ≢ stop.Refused
+not_refused delivery.Told s k = absurd k
+not_refused delivery.NoMemory s k = λ e. absurd (let no : stop.NoMemory ≡ stop.Refused = sym k ∙ e in cc)
+not_refused delivery.NoWrite s k = λ e. absurd (let no : stop.NoWrite ≡ stop.Refused = sym k ∙ e in cc)
+not_refused delivery.NoDisk s k = λ e. absurd (let no : stop.NoDisk ≡ stop.Refused = sym k ∙ e in cc)
 
-module _ (live : Live) (calls : List Call) (none : calls ≡ []) (line : ℕ) (below : (state_of live).batches < GREATEST_NUMBER) (ga gb : Option (List ℕ)) (r : Option Live × Given)
+module _ (live : Live) (calls : List Call) (none : calls ≡ []) (line : ℕ) (below : (state_of live).batches < GREATEST_NUMBER) (ga gb : Option (List ℕ)) (r : Option Live × Delivery)
     (tells : Tells (next_text live calls) (IsNext live calls) ga gb r) where
   pub one_told : (next : Live) → r.0 ≡ Some next → IsGoing (state_of next) (one_drained (plan_of live) live.each line (state_of live)) ga gb
   one_told next e =

@@ -27,8 +27,8 @@ use Rattle.script_text.specs.Written.{call_line}
 use Rattle.script_text.specs.declared.items.Item.{Item}
 use Rattle.script_text.specs.declared.items.Item.TheVariants as item
 use Rattle.script_text.specs.declared.refusals.CatFault.TheVariants as fault
-use Rattle.script_text.specs.declared.refusals.Kind8.{Kind8}
-use Rattle.script_text.specs.declared.refusals.Kind8.TheVariants as kind
+use Rattle.script_text.specs.declared.refusals.RefusalKind.{RefusalKind}
+use Rattle.script_text.specs.declared.refusals.RefusalKind.TheVariants as kind
 use Rattle.run_commands.specs.Keeps.{IsShort}
 use Rattle.run_commands.proofs.Spelled.{call_within, placed_within, weight}
 
@@ -89,15 +89,15 @@ last_short feed few begun = by (length feed.begun == 0)
 -- ---- what a line asks for
 
 -- what holds where there is a result
-either_ok : {A : Type 0} (P : A → Type 0) (b : Bool) (x y : Result A Kind8) → (b ≡ true → IfOk x P) → (b ≡ false → IfOk y P) → IfOk (cond b x y) P
+either_ok : {A : Type 0} (P : A → Type 0) (b : Bool) (x y : Result A RefusalKind) → (b ≡ true → IfOk x P) → (b ≡ false → IfOk y P) → IfOk (cond b x y) P
 either_ok P true x y h k = h refl
 either_ok P false x y h k = k refl
 
-then_ok : {A B : Type 0} (P : A → Type 0) (Q : B → Type 0) (f : A → Result B Kind8) (r : Result A Kind8) → IfOk r P → ((a : A) → P a → IfOk (f a) Q) → IfOk (and_then f r) Q
+then_ok : {A B : Type 0} (P : A → Type 0) (Q : B → Type 0) (f : A → Result B RefusalKind) (r : Result A RefusalKind) → IfOk r P → ((a : A) → P a → IfOk (f a) Q) → IfOk (and_then f r) Q
 then_ok P Q f (Ok a) h k = k a h
 then_ok P Q f (Err why) h k = tt
 
-any_ok : {A : Type 0} (r : Result A Kind8) → IfOk r (λ a. Unit {0})
+any_ok : {A : Type 0} (r : Result A RefusalKind) → IfOk r (λ a. Unit {0})
 any_ok (Ok a) = tt
 any_ok (Err why) = tt
 
@@ -179,7 +179,7 @@ piece_short p text (item.End n) = tt
 piece_short p text item.Report = tt
 piece_short p text (item.Settings name percent) = tt
 
-text_line_short : (p : Place) (counts : Counts) (text : List ℕ) (line : Result Item Kind8) → IfOk line IsShortItem → IfOk (in_text p counts text line) IsShortThere
+text_line_short : (p : Place) (counts : Counts) (text : List ℕ) (line : Result Item RefusalKind) → IfOk line IsShortItem → IfOk (in_text p counts text line) IsShortThere
 text_line_short p counts text (Ok i) short =
     either_ok IsShortThere (goes_on i) (within_text p text i) (behind_text p counts text i) (λ more. piece_short p text i)
     (λ over. then_ok (λ ready. Unit {0}) IsShortThere (λ ready. at_item ready counts i) (read_text p text) (any_ok (read_text p text)) (λ ready any. item_short ready counts i short))
@@ -187,7 +187,7 @@ text_line_short p counts text (Err why) short =
     either_ok IsShortThere (is_byte why) (Err why) (and_then (λ ready. Err why) (read_text p text)) (λ byte. tt)
     (λ other. then_ok (λ ready. Unit {0}) IsShortThere (λ ready. Err why) (read_text p text) (any_ok (read_text p text)) (λ ready any. tt))
 
-line_short : (p : Place) (counts : Counts) (h : Head) (line : Result Item Kind8) → IfOk line IsShortItem → IfOk (by_head p counts h line) IsShortThere
+line_short : (p : Place) (counts : Counts) (h : Head) (line : Result Item RefusalKind) → IfOk line IsShortItem → IfOk (by_head p counts h line) IsShortThere
 line_short p counts head.Unnamed line short = then_ok IsShortItem IsShortThere (at_item p counts) line short (item_short p counts)
 line_short p counts (head.Text text) line short = text_line_short (without_head p) counts text line short
 line_short p counts (head.Ready plan) line short = then_ok IsShortItem IsShortThere (at_item p counts) line short (item_short p counts)
@@ -195,7 +195,7 @@ line_short p counts (head.Ready plan) line short = then_ok IsShortItem IsShortTh
 said_short : (line : List ℕ) → length line ≤ LONGEST_LINE → IfOk (said line) IsShortItem
 said_short line few = by (said line) refl
   where
-    by : (r : Result Item Kind8) → said line ≡ r → IfOk r IsShortItem
+    by : (r : Result Item RefusalKind) → said line ≡ r → IfOk r IsShortItem
     by (Err why) says = tt
     by (Ok i) says = λ proc args is. let within = call_within line proc args (says ∙ ap (λ (j : Item). Ok j) is) in omega arith
 

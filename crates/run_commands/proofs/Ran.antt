@@ -15,10 +15,10 @@ use Rattle.proc_lang.specs.Catalogs.{Plan}
 use Rattle.script_course.specs.Courses.{Goes}
 use Rattle.script_places.specs.Places.{plan_in}
 use Rattle.script_places.specs.declared.places.Place.{Place}
-use Rattle.serving.specs.Given.{IsAnswered, Tells}
+use Rattle.serving.specs.Deliveries.{IsAnswered, Tells}
 use Rattle.serving.specs.Lives.{IsNext, next_state, next_text, plan_of, state_of}
 use Rattle.serving.specs.Stored.{GoesOn, HasLines, Holds, IsLogging, LeavesState, MayLog, ReopensToEither, stored_state, told_by}
-use Rattle.serving.specs.declared.batches.Given.{Given}
+use Rattle.serving.specs.declared.batches.Delivery.{Delivery}
 use Rattle.serving.specs.declared.lives.Live.{Live}
 use Rattle.serving.proofs.Storing.{held_leaves}
 use Rattle.slot_images.specs.Images.{Checkpoint}
@@ -131,7 +131,7 @@ module _ (place : Place) (work : Work) (live : Live) (begun : IsBegun place.head
       (subst (λ (p : Plan). LeavesState b p (next_state live Calls)) begun.plan leaves)
 
   module _ (line : List ℕ) (before : Doing) (same : before.state ≡ Ran.state) (is : on_line before line ≡ Goes (text_of Ran) (behind_batch Ran))
-      (a b : History) (ga gb : Option (List ℕ)) (r : Option Live × Given)
+      (a b : History) (ga gb : Option (List ℕ)) (r : Option Live × Delivery)
       (tells : Tells (next_text live Calls) (IsNext live Calls) ga gb r)
       (all : LeavesAll a b (ReopensToEither (plan_of live) (stored_state live) (next_state live Calls)))
       (given : IsAnswered ga gb r.1 → LeavesState b (plan_of live) (next_state live Calls)) where

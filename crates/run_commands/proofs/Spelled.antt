@@ -29,8 +29,8 @@ use Rattle.script_text.specs.Tokens.{all_after, all_of, arg_of, arg_token, befor
 use Rattle.script_text.specs.Written.{call_line, proc_name}
 use Rattle.script_text.specs.declared.items.Item.{Item}
 use Rattle.script_text.specs.declared.items.Item.TheVariants as item
-use Rattle.script_text.specs.declared.refusals.Kind8.{Kind8}
-use Rattle.script_text.specs.declared.refusals.Kind8.TheVariants.{Argument, Byte, Word}
+use Rattle.script_text.specs.declared.refusals.RefusalKind.{RefusalKind}
+use Rattle.script_text.specs.declared.refusals.RefusalKind.TheVariants.{Argument, Byte, Word}
 
 -- ---- what holds where there is something
 
@@ -324,7 +324,7 @@ said_within line = by (is_printed line) (line_item line) (line_within line)
 
 -- a line that says a call
 pub call_within : (line proc : List ℕ) (args : List Arg) → said line ≡ Ok (item.Tx proc args) → 3 + length proc + weight arg_token args ≤ length line
-call_within line proc args says = subst (λ (r : Result Item Kind8). IfOk r (IsCallWithin (length line))) says (said_within line)
+call_within line proc args says = subst (λ (r : Result Item RefusalKind). IfOk r (IsCallWithin (length line))) says (said_within line)
 
 -- ---- its name in the catalogue
 

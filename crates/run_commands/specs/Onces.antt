@@ -18,7 +18,7 @@ use Rattle.script_places.specs.declared.deeds.Deed.{Deed}
 use Rattle.script_places.specs.declared.deeds.Deed.TheVariants as deed
 use Rattle.script_places.specs.declared.places.Place.{Place}
 use Rattle.script_text.specs.Lines.{line_after}
-use Rattle.script_text.specs.declared.refusals.Kind8.{Kind8}
+use Rattle.script_text.specs.declared.refusals.RefusalKind.{RefusalKind}
 use Rattle.serving.specs.Drains.{drains}
 use Rattle.serving.specs.Lives.{batch_text, handed_at, listing}
 use Rattle.run_commands.specs.Bases.{counts_of}
@@ -93,7 +93,7 @@ listed plan each state = record { bytes = (if each then [] else listing plan sta
 abbrev pub drained : Bool → Plan → Bool → ℕ → State → Out
 drained drain plan each line state = ended (listed plan each) (if drain then drains plan each line state else Goes [] state)
 
-abbrev pub closed_by : Bool → Doing → Result Place Kind8 → Out
+abbrev pub closed_by : Bool → Doing → Result Place RefusalKind → Out
 closed_by drain d (Ok place) = drained drain (plan_in place.head) d.each (line_after d.place.lines) d.state
 closed_by drain d (Err kind) = record { bytes = refused_after d.place.lines kind; status = status_of stop.Refused }
 

@@ -6,7 +6,7 @@ use Rattle.answer_text.specs.Refusals.{refusal_text}
 use Rattle.batch_core.specs.Steps.{State}
 use Rattle.script_course.specs.Courses.{Course, Goes, Stops, refused_after}
 use Rattle.script_text.specs.Lines.{Scan, last_line}
-use Rattle.script_text.specs.declared.refusals.Kind8.{Kind8}
+use Rattle.script_text.specs.declared.refusals.RefusalKind.{RefusalKind}
 use Rattle.script_text.specs.declared.refusals.Refusal.{Refusal}
 use Rattle.script_places.specs.Places.{closing, plan_in}
 use Rattle.script_places.specs.declared.places.Place.{Place}
@@ -68,7 +68,7 @@ pub data Turn : Type 0 where
   Listed : Turn
 
 -- the end of the input at a place
-abbrev pub on_close : Doing → Result Place Kind8 → Course Doing
+abbrev pub on_close : Doing → Result Place RefusalKind → Course Doing
 on_close d (Ok place) = Goes [] (record d { place = place })
 on_close d (Err kind) = Stops (refused_after d.place.lines kind)
 

@@ -2,12 +2,12 @@
 use Rattle.std.specs.Prelude.{◌≡◌}
 use Rattle.script_course.specs.declared.stops.Stop.{Stop}
 use Rattle.script_course.specs.declared.stops.Stop.TheVariants as stop
-use Rattle.serving.specs.declared.batches.Given.{Given}
-use Rattle.serving.specs.declared.batches.Given.TheVariants as given
+use Rattle.serving.specs.declared.batches.Delivery.{Delivery}
+use Rattle.serving.specs.declared.batches.Delivery.TheVariants as delivery
 
 -- the stop has the cause that the batch has
-abbrev pub IsStopFor : Given → Stop → Type 0
-IsStopFor given.Told why = ⊥
-IsStopFor given.NoMemory why = why ≡ stop.NoMemory
-IsStopFor given.NoWrite why = why ≡ stop.NoWrite
-IsStopFor given.NoDisk why = why ≡ stop.NoDisk
+abbrev pub IsStopFor : Delivery → Stop → Type 0
+IsStopFor delivery.Told why = ⊥
+IsStopFor delivery.NoMemory why = why ≡ stop.NoMemory
+IsStopFor delivery.NoWrite why = why ≡ stop.NoWrite
+IsStopFor delivery.NoDisk why = why ≡ stop.NoDisk

@@ -18,7 +18,7 @@ use crate::scripts::why_stopped;
 use aria_base::{GREATEST_NUMBER, Pace, Sink};
 use disk_model::Disk;
 use script_course::{Stop, refuse};
-use script_text::{Kind8, Refusal};
+use script_text::{Refusal, RefusalKind};
 use serving::{Live, serve_batch};
 use std::alloc::Global;
 use std::thread::Threads;
@@ -104,7 +104,7 @@ fn drain_one<K: Sink, D: Disk, P: Pace + Sync, R: Threads + Sync>(
     ensures cause { IfErr result (λ stop. IsCause stop (Rose (K.faults out.old) (K.faults out.new)) (IsSomeAnd live.store (λ _. Rose (D.history disk.old).faults (D.history disk.new).faults))) }
 {
     if GREATEST_NUMBER <= live.batches() {
-        let kind = Kind8::Numbers;
+        let kind = RefusalKind::Numbers;
         return refuse(alloc, &Refusal { line, kind }, out);
     }
     let (next, given) = serve_batch(rt, alloc, live, Vec::new(alloc), out, disk, pace);

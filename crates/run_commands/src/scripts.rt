@@ -6,7 +6,7 @@ ghost use Rattle.answer_text.specs.Notices.{kept_text};
 ghost use Rattle.script_course.specs.Causes.{IsCause};
 ghost use Rattle.script_course.specs.Courses.{Goes};
 ghost use Rattle.script_course.specs.Served.{Serves};
-ghost use Rattle.serving.specs.declared.batches.Given.TheVariants as given;
+ghost use Rattle.serving.specs.declared.batches.Delivery.TheVariants as delivery;
 ghost use Rattle.image_text.specs.Payloads.{Batch};
 ghost use Rattle.serving.specs.Stored.{Holds};
 ghost use Rattle.slot_images.specs.Images.{Checkpoint};
@@ -32,7 +32,7 @@ use disk_model::Disk;
 use script_course::{Stop, give, refuse};
 use script_places::{Deed, Mode, Place, follows};
 use script_text::LinesRefused;
-use serving::{Given, Live, serve_batch};
+use serving::{Delivery, Live, serve_batch};
 use std::alloc::Global;
 use std::marker::Model;
 use std::thread::Threads;
@@ -377,15 +377,15 @@ fn runs_batch(deed: &Deed) -> bool
 }
 
 /// The stop for a batch that was not told.
-pub(crate) fn why_stopped(why: Given) -> Stop
-    requires { why ≢ given.Told }
+pub(crate) fn why_stopped(why: Delivery) -> Stop
+    requires { why ≢ delivery.Told }
     ensures { IsStopFor why result }
 {
     match why {
-        Given::NoMemory => Stop::NoMemory,
-        Given::NoWrite => Stop::NoWrite,
-        Given::NoDisk => Stop::NoDisk,
-        Given::Told => unreachable!(),
+        Delivery::NoMemory => Stop::NoMemory,
+        Delivery::NoWrite => Stop::NoWrite,
+        Delivery::NoDisk => Stop::NoDisk,
+        Delivery::Told => unreachable!(),
     }
 }
 

@@ -3,7 +3,7 @@ use Rattle.std.proofs.Common.{ℕ, List, Option}
 use Rattle.std.specs.Prelude.{Result, Ok, Err, IfErr}
 use Rattle.aria_base.specs.Streams.{AppendsFront}
 use Rattle.script_text.specs.declared.refusals.Refusal.{Refusal}
-use Rattle.script_text.specs.declared.refusals.Kind8.TheVariants.{Long}
+use Rattle.script_text.specs.declared.refusals.RefusalKind.TheVariants.{Long}
 use Rattle.answer_text.specs.Refusals.{refusal_text}
 use Rattle.script_course.specs.declared.stops.Stop.{Stop}
 use Rattle.script_course.proofs.Turns.{front_none}

@@ -2,7 +2,7 @@
 use Rattle.std.proofs.Common.{◌≡◌, ℕ, ◌+◌, ◌≤◌, List, [], ◌∷◌, ◌++◌, length, Bool, true, false, cond, ◌==◌, Some, None, refl, sym, ap, ◌∙◌, arith}
 use Rattle.std.proofs.lemmas.Bool.{leb-false}
 use Rattle.script_text.specs.Lines.{Feed, Scan, scan, scan_after, stopped, is_past_line, is_past_limit, with_feed, with_byte, unreturned}
-use Rattle.script_text.specs.declared.refusals.Kind8.TheVariants.{Long, Size}
+use Rattle.script_text.specs.declared.refusals.RefusalKind.TheVariants.{Long, Size}
 
 none_some : {A : Type 0} {X : Type 0} (a : A) → Some a ≡ None → X
 none_some a e = absurd cc

@@ -2,7 +2,7 @@
 -- the end of the input prints, and with which status.
 use Rattle.std.specs.Prelude.{ℕ, List, [], ◌∷◌, ◌++◌, Option, Some, None}
 use Rattle.script_text.specs.declared.refusals.Refusal.{Refusal}
-use Rattle.script_text.specs.declared.refusals.Kind8.{Kind8}
+use Rattle.script_text.specs.declared.refusals.RefusalKind.{RefusalKind}
 use Rattle.script_text.specs.Lines.{Feed, Scan, scan, last_line, line_after}
 use Rattle.script_course.specs.declared.stops.Stop.{Stop}
 use Rattle.script_course.specs.declared.stops.Stop.TheVariants as stop
@@ -27,7 +27,7 @@ status_of stop.NoDisk = DISK_FAULT
 status_of stop.NoMemory = NO_MEMORY
 
 -- the refusal of the line behind so many lines
-abbrev pub refused_after : ℕ → Kind8 → List ℕ
+abbrev pub refused_after : ℕ → RefusalKind → List ℕ
 refused_after lines kind = refusal_text (record { line = line_after lines; kind = kind })
 
 -- an output behind bytes that were printed before

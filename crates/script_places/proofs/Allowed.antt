@@ -23,8 +23,8 @@ use Rattle.script_text.specs.Forms.{said}
 use Rattle.script_text.specs.declared.items.Item.{Item}
 use Rattle.script_text.specs.declared.items.Item.TheVariants as item
 use Rattle.script_text.specs.declared.refusals.CatFault.TheVariants.{Long}
-use Rattle.script_text.specs.declared.refusals.Kind8.{Kind8}
-use Rattle.script_text.specs.declared.refusals.Kind8.TheVariants.{Site, Name, Argument, Batch, Gap, Numbers, Catalog, Unfinished}
+use Rattle.script_text.specs.declared.refusals.RefusalKind.{RefusalKind}
+use Rattle.script_text.specs.declared.refusals.RefusalKind.TheVariants.{Site, Name, Argument, Batch, Gap, Numbers, Catalog, Unfinished}
 use Rattle.script_places.specs.Places.{Asked, asked, asked_at, by_head, in_text, item_in_text, within_text, behind_text, read_text, refused_in_text, goes_on, is_byte, at_item, at_catalog, found, at_piece, at_row, puts, at_call, calls, at_end, ends, runs, closed, at_settings, sets, rule_of, at_report, under, next_line, without_head, is_check, is_audit, is_unnamed, has_batches, has_catalog, shut, closing, closed_by}
 use Rattle.script_places.specs.Follows.{Follows, Allows, HeadStays, IsReadyWith, Stays}
 use Rattle.script_places.specs.declared.deeds.Deed.{Deed}
@@ -47,10 +47,10 @@ branch A true x y r e = on_yes refl e
 branch A false x y r e = on_no refl e
 
 -- of what goes on with a value: there was one
-data Step (A B : Type 0) (f : A → Result B Kind8) (m : Result A Kind8) (r : B) : Type 0 where
+data Step (A B : Type 0) (f : A → Result B RefusalKind) (m : Result A RefusalKind) (r : B) : Type 0 where
   stepped : (a : A) → m ≡ Ok a → f a ≡ Ok r → Step A B f m r
 
-step : (A B : Type 0) (f : A → Result B Kind8) (m : Result A Kind8) (r : B) → and_then f m ≡ Ok r → Step A B f m r
+step : (A B : Type 0) (f : A → Result B RefusalKind) (m : Result A RefusalKind) (r : B) → and_then f m ≡ Ok r → Step A B f m r
 step A B f (Ok a) r e = stepped a refl e
 step A B f (Err why) r e = absurd cc
 
@@ -64,7 +64,7 @@ stands (head.Text text) ask r e = absurd cc
 stands (head.Ready plan) ask r e = there plan refl e
 
 -- what was found
-abbrev fine : {A : Type 0} → A → Result A Kind8
+abbrev fine : {A : Type 0} → A → Result A RefusalKind
 fine a = Ok a
 
 ok_is : {A : Type 0} (x y : A) → fine x ≡ fine y → x ≡ y
@@ -104,7 +104,7 @@ row_of : (plan : Plan) (parts : List Part) (row : Cells) (table : Option ℕ) (r
 row_of plan parts row None r e = absurd cc
 row_of plan parts row (Some table) r e =
     let key : Key = record { table = table; parts = parts } in
-    elim (branch (Result (Key × Cells) Kind8) (row_fits plan.tables key row) (Ok (key, row)) (Err Argument) (Ok r) e) [
+    elim (branch (Result (Key × Cells) RefusalKind) (row_fits plan.tables key row) (Ok (key, row)) (Err Argument) (Ok r) e) [
       | on_yes fits is ↦ subst (λ (p : Key × Cells). Fits plan.tables p.0 p.1) (ok_is (key, row) r is) (in_table key row (slice_get plan.tables table) fits)
       | on_no fits is ↦ absurd cc
     ]
@@ -113,13 +113,13 @@ call_in : (plan : Plan) (args : List Arg) (proc : Option ℕ) (r : Call) → cal
 call_in plan args None r e = absurd cc
 call_in plan args (Some proc) r e =
     let call : Call = record { proc = proc; args = args } in
-    elim (branch (Result Call Kind8) (takes plan call) (Ok call) (Err Argument) (Ok r) e) [
+    elim (branch (Result Call RefusalKind) (takes plan call) (Ok call) (Err Argument) (Ok r) e) [
       | on_yes fits is ↦ subst (λ (c : Call). takes plan c ≡ true) (ok_is call r is) fits
       | on_no fits is ↦ absurd cc
     ]
 
 percent_of : (rule : ℕ) (percent : ℤ) (r : ℕ × ℕ) → with_percent rule percent ≡ Ok r → r.1 ≤ MOST_PERCENT
-percent_of rule (pos n) r e = elim (branch (Result (ℕ × ℕ) Kind8) (nat_le n MOST_PERCENT) (Ok (rule, n)) (Err Argument) (Ok r) e) [
+percent_of rule (pos n) r e = elim (branch (Result (ℕ × ℕ) RefusalKind) (nat_le n MOST_PERCENT) (Ok (rule, n)) (Err Argument) (Ok r) e) [
   | on_yes fits is ↦ subst (λ (q : ℕ × ℕ). q.1 ≤ MOST_PERCENT) (ok_is (rule, n) r is) (leb-true n MOST_PERCENT fits)
   | on_no fits is ↦ absurd cc
 ]
@@ -369,17 +369,17 @@ module _ (p : Place) (counts : Counts) (text : List ℕ) (is_text : p.head ≡ h
   item_in_follows item.Report r e = behind_follows item.Report r e
   item_in_follows (item.Settings name percent) r e = behind_follows (item.Settings name percent) r e
 
-  refused_follows : (why : Kind8) (r : Place × Deed) → refused_in_text (without_head p) text why ≡ Ok r → Says p counts r
+  refused_follows : (why : RefusalKind) (r : Place × Deed) → refused_in_text (without_head p) text why ≡ Ok r → Says p counts r
   refused_follows why r e = elim (branch Asked (is_byte why) (Err why) (and_then (λ ready. Err why) (read_text (without_head p) text)) (Ok r) e) [
     | on_yes byte such ↦ absurd cc
     | on_no other such ↦ elim (step Place (Place × Deed) (λ ready. Err why) (read_text (without_head p) text) r such) [ stepped place read last ↦ absurd cc ]
   ]
 
-  in_text_follows : (line : Result Item Kind8) (r : Place × Deed) → in_text (without_head p) counts text line ≡ Ok r → Says p counts r
+  in_text_follows : (line : Result Item RefusalKind) (r : Place × Deed) → in_text (without_head p) counts text line ≡ Ok r → Says p counts r
   in_text_follows (Ok i) r e = item_in_follows i r e
   in_text_follows (Err why) r e = refused_follows why r e
 
-line_follows : (p : Place) (counts : Counts) (h : Head) (line : Result Item Kind8) (r : Place × Deed) → p.head ≡ h → by_head p counts h line ≡ Ok r → Says p counts r
+line_follows : (p : Place) (counts : Counts) (h : Head) (line : Result Item RefusalKind) (r : Place × Deed) → p.head ≡ h → by_head p counts h line ≡ Ok r → Says p counts r
 line_follows p counts head.Unnamed line r is e = elim (step Item (Place × Deed) (at_item p counts) line r e) [ stepped i said last ↦ item_follows p counts i r last ]
 line_follows p counts (head.Ready plan) line r is e = elim (step Item (Place × Deed) (at_item p counts) line r e) [ stepped i said last ↦ item_follows p counts i r last ]
 line_follows p counts (head.Text text) line r is e = in_text_follows p counts text is line r e
@@ -409,7 +409,7 @@ follows p counts line after asks e =
 -- ---- the end of the input
 
 shut_stays : (p q : Place) → shut p ≡ Ok q → HeadStays p.head q.head
-shut_stays p q e = elim (branch (Result Place Kind8) (p.open_calls == 0) (Ok p) (Err Unfinished) (Ok q) e) [
+shut_stays p q e = elim (branch (Result Place RefusalKind) (p.open_calls == 0) (Ok p) (Err Unfinished) (Ok q) e) [
   | on_yes none such ↦ subst (λ (x : Place). HeadStays p.head x.head) (ok_is p q such) (stays p.head)
   | on_no some such ↦ absurd cc
 ]

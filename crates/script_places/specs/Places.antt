@@ -19,8 +19,8 @@ use Rattle.script_text.specs.Lines.{line_after}
 use Rattle.script_text.specs.declared.items.Item.{Item}
 use Rattle.script_text.specs.declared.items.Item.TheVariants as item
 use Rattle.script_text.specs.declared.refusals.CatFault.TheVariants as fault
-use Rattle.script_text.specs.declared.refusals.Kind8.{Kind8}
-use Rattle.script_text.specs.declared.refusals.Kind8.TheVariants as kind
+use Rattle.script_text.specs.declared.refusals.RefusalKind.{RefusalKind}
+use Rattle.script_text.specs.declared.refusals.RefusalKind.TheVariants as kind
 use Rattle.script_places.specs.declared.deeds.Deed.{Deed}
 use Rattle.script_places.specs.declared.deeds.Deed.TheVariants as deed
 use Rattle.script_places.specs.declared.heads.Head.{Head}
@@ -33,7 +33,7 @@ use Rattle.script_places.specs.declared.places.Place.{Place}
 
 -- what a line asks for, and the place behind it; or why it is refused
 abbrev pub Asked : Type 0
-Asked = Result (Place × Deed) Kind8
+Asked = Result (Place × Deed) RefusalKind
 
 -- ---- places
 
@@ -190,7 +190,7 @@ at_item p counts (item.Settings name percent) = at_settings p name percent
 -- ---- a line: what was said of it, by the catalogue
 
 -- with the catalogue that a text says
-abbrev pub read_text : Place → List ℕ → Result Place Kind8
+abbrev pub read_text : Place → List ℕ → Result Place RefusalKind
 read_text p text = and_then (λ plan. Ok (record p { head = head.Ready plan })) (catalog_of text)
 
 -- the text is read, and the line stands behind it
@@ -211,21 +211,21 @@ within_text p text other = Ok (record p { head = head.Text text }, deed.Nothing)
 abbrev pub item_in_text : Place → Counts → List ℕ → Item → Asked
 item_in_text p counts text i = if goes_on i then within_text p text i else behind_text p counts text i
 
-abbrev pub is_byte : Kind8 → Bool
+abbrev pub is_byte : RefusalKind → Bool
 is_byte kind.Byte = true
 is_byte other = false
 
-abbrev pub refused_in_text : Place → List ℕ → Kind8 → Asked
+abbrev pub refused_in_text : Place → List ℕ → RefusalKind → Asked
 refused_in_text p text why = if is_byte why then Err why else and_then (λ ready. Err why) (read_text p text)
 
-abbrev pub in_text : Place → Counts → List ℕ → Result Item Kind8 → Asked
+abbrev pub in_text : Place → Counts → List ℕ → Result Item RefusalKind → Asked
 in_text p counts text (Ok i) = item_in_text p counts text i
 in_text p counts text (Err why) = refused_in_text p text why
 
 abbrev pub without_head : Place → Place
 without_head p = record p { head = head.Unnamed }
 
-abbrev pub by_head : Place → Counts → Head → Result Item Kind8 → Asked
+abbrev pub by_head : Place → Counts → Head → Result Item RefusalKind → Asked
 by_head p counts (head.Text text) line = in_text (without_head p) counts text line
 by_head p counts head.Unnamed line = and_then (at_item p counts) line
 by_head p counts (head.Ready plan) line = and_then (at_item p counts) line
@@ -239,13 +239,13 @@ asked p counts line = asked_at (next_line p) counts line
 
 -- ---- the end of the input, which counts as one line more: the text of a catalogue is read, and no call may be open
 
-abbrev pub shut : Place → Result Place Kind8
+abbrev pub shut : Place → Result Place RefusalKind
 shut p = if p.open_calls == 0 then Ok p else Err kind.Unfinished
 
-abbrev pub closed_by : Place → Head → Result Place Kind8
+abbrev pub closed_by : Place → Head → Result Place RefusalKind
 closed_by p (head.Text text) = and_then shut (read_text (without_head p) text)
 closed_by p head.Unnamed = shut p
 closed_by p (head.Ready plan) = shut p
 
-abbrev pub closing : Place → Result Place Kind8
+abbrev pub closing : Place → Result Place RefusalKind
 closing p = closed_by (next_line p) p.head

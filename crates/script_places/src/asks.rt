@@ -14,7 +14,8 @@ use batch_rules::verdicts::Rule;
 use cat_builtin::builtin;
 use cat_text::catalog_of;
 use script_text::{
-    CatFault, Item, Kind8, LinesRefused, Refusal, fit_settings, place_call, place_row, read_line,
+    CatFault, Item, LinesRefused, Refusal, RefusalKind, fit_settings, place_call, place_row,
+    read_line,
 };
 use std::alloc::Global;
 
@@ -139,7 +140,7 @@ impl Place {
         let mut text = text.into_vec();
         let piece = piece.as_slice();
         if text.len() > MOST_CATALOG || MOST_CATALOG - text.len() < piece.len() {
-            return Err(self.refused(Kind8::Catalog(CatFault::Long)));
+            return Err(self.refused(RefusalKind::Catalog(CatFault::Long)));
         }
         text.extend_from_slice(piece)?;
         let head = Head::Text(Bytes::from_vec(text));
@@ -167,7 +168,7 @@ impl Place {
         match item {
             Item::Skip => Ok((self, Deed::Nothing)),
             Item::Catalog(name) => self.at_catalog(alloc, &name),
-            Item::Piece(_) => Err(self.refused(Kind8::Site)),
+            Item::Piece(_) => Err(self.refused(RefusalKind::Site)),
             Item::Row { table, parts, row } => self.at_row(&table, parts, row),
             Item::Tx { proc, args } => self.at_call(&proc, args),
             Item::End(number) => self.at_end(counts, number),
@@ -182,17 +183,17 @@ impl Place {
     {
         let name = name.as_slice();
         if !self.mode.has_catalog() || !self.head.is_unnamed() {
-            return Err(self.refused(Kind8::Site));
+            return Err(self.refused(RefusalKind::Site));
         }
         if self.mode == Mode::Audit && name != b"tpcc".as_slice() {
-            return Err(self.refused(Kind8::Name));
+            return Err(self.refused(RefusalKind::Name));
         }
         if name == b"text".as_slice() {
             let head = Head::Text(Bytes::from_vec(Vec::new(alloc)));
             return Ok((Place { head, ..self }, Deed::Nothing));
         }
         let Some(catalog) = builtin(alloc, name)? else {
-            return Err(self.refused(Kind8::Name));
+            return Err(self.refused(RefusalKind::Name));
         };
         let head = Head::Ready(catalog);
         Ok((Place { head, ..self }, Deed::Nothing))
@@ -203,10 +204,10 @@ impl Place {
         ensures { Answers (at_row self table.now parts row) self.lines result }
     {
         let Head::Ready(catalog) = &self.head else {
-            return Err(self.refused(Kind8::Site));
+            return Err(self.refused(RefusalKind::Site));
         };
         if self.rows_ended {
-            return Err(self.refused(Kind8::Site));
+            return Err(self.refused(RefusalKind::Site));
         }
         let (key, row) = place_row(catalog, table, parts, row, self.lines)?;
         Ok((self, Deed::Put(key, row)))
@@ -217,14 +218,14 @@ impl Place {
         ensures { Answers (at_call self proc.now args) self.lines result }
     {
         let Head::Ready(catalog) = &self.head else {
-            return Err(self.refused(Kind8::Site));
+            return Err(self.refused(RefusalKind::Site));
         };
         if !self.mode.has_batches() {
-            return Err(self.refused(Kind8::Site));
+            return Err(self.refused(RefusalKind::Site));
         }
         let call = place_call(catalog, proc, args, self.lines)?;
         if self.open_calls >= MOST_REQUESTS {
-            return Err(self.refused(Kind8::Batch));
+            return Err(self.refused(RefusalKind::Batch));
         }
         let place = Place {
             rows_ended: true,
@@ -239,7 +240,7 @@ impl Place {
         ensures { Answers (at_end self counts number) self.lines result }
     {
         if !self.head.is_ready() || !self.mode.has_batches() {
-            return Err(self.refused(Kind8::Site));
+            return Err(self.refused(RefusalKind::Site));
         }
         if number <= counts.batches {
             return Ok((self.without_calls(), Deed::Keep(number)));
@@ -247,17 +248,17 @@ impl Place {
         let wanted = counts.batches + 1;
         if wanted < number {
             let got = number;
-            return Err(self.refused(Kind8::Gap { got, wanted }));
+            return Err(self.refused(RefusalKind::Gap { got, wanted }));
         }
         if self.mode != Mode::Check
             && !has_room(MOST_REQUESTS as u64, counts.waiting as u64, self.open_calls)
         {
-            return Err(self.refused(Kind8::Batch));
+            return Err(self.refused(RefusalKind::Batch));
         }
         if number > GREATEST_NUMBER
             || !has_room(GREATEST_NUMBER, counts.requests, self.open_calls)
         {
-            return Err(self.refused(Kind8::Numbers));
+            return Err(self.refused(RefusalKind::Numbers));
         }
         Ok((self.without_calls(), Deed::Run))
     }
@@ -267,7 +268,7 @@ impl Place {
         ensures { Answers (at_report self) self.lines result }
     {
         if self.mode != Mode::Check || self.open_calls != 0 {
-            return Err(self.refused(Kind8::Site));
+            return Err(self.refused(RefusalKind::Site));
         }
         let place = Place {
             reports: true,
@@ -281,7 +282,7 @@ impl Place {
         ensures { Answers (at_settings self name percent) self.lines result }
     {
         if !self.head.is_ready() || !self.mode.has_batches() || self.open_calls != 0 {
-            return Err(self.refused(Kind8::Site));
+            return Err(self.refused(RefusalKind::Site));
         }
         let item = Item::Settings { name, percent };
         let (number, percent) = fit_settings(&item, self.lines)?;
@@ -298,7 +299,7 @@ impl Place {
         ensures { Answers (shut self) self.lines result }
     {
         if self.open_calls != 0 {
-            return Err(self.refused(Kind8::Unfinished));
+            return Err(self.refused(RefusalKind::Unfinished));
         }
         Ok(self)
     }
@@ -315,7 +316,7 @@ impl Place {
     }
 
     /// The refusal of this line.
-    fn refused(&self, kind: Kind8) -> LinesRefused
+    fn refused(&self, kind: RefusalKind) -> LinesRefused
         ensures { result ≡ refused self.now.lines kind }
     {
         let line = self.lines;
@@ -339,10 +340,10 @@ fn goes_on(item: &Item) -> bool
 }
 
 /// Whether a line is refused for a byte that no line has.
-fn is_byte(kind: &Kind8) -> bool
+fn is_byte(kind: &RefusalKind) -> bool
     ensures { result ≡ is_byte kind.now }
 {
-    matches!(kind, Kind8::Byte)
+    matches!(kind, RefusalKind::Byte)
 }
 
 /// The rule with this number.

@@ -14,8 +14,8 @@ use Rattle.aria_base.specs.declared.values.Value.{Value}
 use Rattle.aria_base.specs.declared.calls.Arg.{Arg}
 use Rattle.script_text.specs.declared.items.Item.{Item}
 use Rattle.script_text.specs.declared.items.Item.TheVariants as item
-use Rattle.script_text.specs.declared.refusals.Kind8.{Kind8}
-use Rattle.script_text.specs.declared.refusals.Kind8.TheVariants.{Byte, Word}
+use Rattle.script_text.specs.declared.refusals.RefusalKind.{RefusalKind}
+use Rattle.script_text.specs.declared.refusals.RefusalKind.TheVariants.{Byte, Word}
 use Rattle.script_text.specs.Cuts.{tokens}
 use Rattle.script_text.specs.Tokens.{part_token, value_token, arg_token, spaced, all_of, part_of, value_of, arg_of}
 use Rattle.script_text.specs.Forms.{is_printed, item_of, row_of, row_after, with_row, tx_of, with_tx, said, line_item}

@@ -6,8 +6,8 @@ use Rattle.std.proofs.lemmas.Bool.{and_parts, lt-leb, leb-false, leb-true}
 use Rattle.std.proofs.lemmas.List.{append-nil}
 use Rattle.std.proofs.lemmas.Bool.Decides.{nat_tests}
 use Rattle.std.proofs.lemmas.Grind.{common_steps}
-use Rattle.script_text.specs.declared.refusals.Kind8.{Kind8}
-use Rattle.script_text.specs.declared.refusals.Kind8.TheVariants.{Long, Size}
+use Rattle.script_text.specs.declared.refusals.RefusalKind.{RefusalKind}
+use Rattle.script_text.specs.declared.refusals.RefusalKind.TheVariants.{Long, Size}
 use Rattle.script_text.specs.Cuts.{Lacks, IsCutAt}
 use Rattle.script_text.specs.Lines.{Feed, Scan, scan_after, with_byte, unreturned, refused_at}
 use Rattle.script_text.specs.Runs.{counted, first_past}
@@ -55,11 +55,11 @@ rest_taken done feed rest next whole lacks e line taken limit =
 
 -- ---- refusals
 
-pub record IsStopped (s : Scan) (done : List (List ℕ)) (count : ℕ) (kind : Kind8) : Type 0 where
+pub record IsStopped (s : Scan) (done : List (List ℕ)) (count : ℕ) (kind : RefusalKind) : Type 0 where
   pub lines : s.lines ≡ done
   pub fault : s.fault ≡ Some (refused_at count kind)
 
-some_same : (a b : Kind8) → Some a ≡ Some b → a ≡ b
+some_same : (a b : RefusalKind) → Some a ≡ Some b → a ≡ b
 some_same a b e = cc
 
 past_long : (room left run whole : ℕ) → room < run → room ≤ left → first_past room left run whole ≡ Some Long
@@ -79,7 +79,7 @@ abbrev pub tail : Bool → List ℕ → List ℕ
 tail true rest = 10 ∷ rest
 tail false rest = []
 
-pub refused : (feeds : Bool) (rest : List ℕ) (done : List (List ℕ)) (feed : Feed) (run : List ℕ) (kind : Kind8) → Lacks 10 run → length feed.begun ≤ feed.longest → feed.taken ≤ feed.limit
+pub refused : (feeds : Bool) (rest : List ℕ) (done : List (List ℕ)) (feed : Feed) (run : List ℕ) (kind : RefusalKind) → Lacks 10 run → length feed.begun ≤ feed.longest → feed.taken ≤ feed.limit
     → first_past (feed.longest - length feed.begun) (feed.limit - feed.taken) (length run) (length run + counted feeds) ≡ Some kind
     → IsStopped (scan_after done feed (run ++ tail feeds rest)) done feed.count kind
 refused true rest done feed [] kind lacks line limit e = by (nat_le feed.limit feed.taken) refl
@@ -131,12 +131,12 @@ refused feeds rest done feed (b ∷ run) kind lacks line limit e = by (refused f
         rw (other, h, k) again
 
 -- a refused line with its line feed, and one without
-pub line_refused : (done : List (List ℕ)) (feed : Feed) (rest run behind : List ℕ) (kind : Kind8) (whole : Scan) → IsCutAt 10 rest (Some (run, behind)) → scan_after done feed rest ≡ whole
+pub line_refused : (done : List (List ℕ)) (feed : Feed) (rest run behind : List ℕ) (kind : RefusalKind) (whole : Scan) → IsCutAt 10 rest (Some (run, behind)) → scan_after done feed rest ≡ whole
     → length feed.begun ≤ feed.longest → feed.taken ≤ feed.limit → Some kind ≡ first_past (feed.longest - length feed.begun) (feed.limit - feed.taken) (length run) (length run + 1) → IsStopped whole done feed.count kind
 line_refused done feed rest run behind kind whole cut e line limit h =
     subst (λ (s : Scan). IsStopped s done feed.count kind) (sym (ap (scan_after done feed) cut.1) ∙ e) (refused true behind done feed run kind cut.0 line limit (sym h))
 
-pub rest_refused : (done : List (List ℕ)) (feed : Feed) (rest : List ℕ) (kind : Kind8) (whole : Scan) → Lacks 10 rest → scan_after done feed rest ≡ whole
+pub rest_refused : (done : List (List ℕ)) (feed : Feed) (rest : List ℕ) (kind : RefusalKind) (whole : Scan) → Lacks 10 rest → scan_after done feed rest ≡ whole
     → length feed.begun ≤ feed.longest → feed.taken ≤ feed.limit → Some kind ≡ first_past (feed.longest - length feed.begun) (feed.limit - feed.taken) (length rest) (length rest + 0) → IsStopped whole done feed.count kind
 rest_refused done feed rest kind whole lacks e line limit h =
     subst (λ (s : Scan). IsStopped s done feed.count kind) (ap (scan_after done feed) (append-nil rest) ∙ e) (refused false [] done feed rest kind lacks line limit (sym h))

@@ -10,7 +10,7 @@ use Rattle.script_text.proofs.Places.{all_joined}
 use Rattle.script_text.proofs.Splits.{lacks_all}
 use Rattle.script_text.specs.Cuts.{Lacks}
 use Rattle.script_text.specs.Laws.{filled, lines_of, all_lines, lead}
-use Rattle.script_text.specs.declared.refusals.Kind8.TheVariants.{Long, Size}
+use Rattle.script_text.specs.declared.refusals.RefusalKind.TheVariants.{Long, Size}
 
 none_some : {A : Type 0} {X : Type 0} (a : A) → Some a ≡ None → X
 none_some a e = absurd cc

@@ -16,8 +16,8 @@ use Rattle.proc_lang.specs.Catalogs.{Plan, takes}
 use Rattle.script_text.specs.Forms.{said}
 use Rattle.script_text.specs.declared.items.Item.{Item}
 use Rattle.script_text.specs.declared.items.Item.TheVariants as item
-use Rattle.script_text.specs.declared.refusals.Kind8.{Kind8}
-use Rattle.script_text.specs.declared.refusals.Kind8.TheVariants.{Word, Name, Argument}
+use Rattle.script_text.specs.declared.refusals.RefusalKind.{RefusalKind}
+use Rattle.script_text.specs.declared.refusals.RefusalKind.TheVariants.{Word, Name, Argument}
 
 -- ---- rows
 
@@ -47,26 +47,26 @@ table_named plan name = position (λ t. bytes_eq t.name name) plan.tables
 abbrev pub proc_named : Plan → List ℕ → Option ℕ
 proc_named plan name = position (λ p. bytes_eq p.name name) plan.procs
 
-abbrev pub row_in : Plan → List Part → Cells → Option ℕ → Result (Key × Cells) Kind8
+abbrev pub row_in : Plan → List Part → Cells → Option ℕ → Result (Key × Cells) RefusalKind
 row_in plan parts row None = Err Name
 row_in plan parts row (Some table) =
     let key : Key = record { table = table; parts = parts } in
     if row_fits plan.tables key row then Ok (key, row) else Err Argument
 
 -- a row under a catalogue, or why it is refused
-abbrev pub placed_row : Plan → List ℕ → List Part → Cells → Result (Key × Cells) Kind8
+abbrev pub placed_row : Plan → List ℕ → List Part → Cells → Result (Key × Cells) RefusalKind
 placed_row plan table parts row = row_in plan parts row (table_named plan table)
 
 -- ---- calls
 
-abbrev pub call_of : Plan → List Arg → Option ℕ → Result Call Kind8
+abbrev pub call_of : Plan → List Arg → Option ℕ → Result Call RefusalKind
 call_of plan args None = Err Name
 call_of plan args (Some proc) =
     let call : Call = record { proc = proc; args = args } in
     if takes plan call then Ok call else Err Argument
 
 -- a call under a catalogue, or why it is refused
-abbrev pub placed_call : Plan → List ℕ → List Arg → Result Call Kind8
+abbrev pub placed_call : Plan → List ℕ → List Arg → Result Call RefusalKind
 placed_call plan proc args = call_of plan args (proc_named plan proc)
 
 -- ---- settings
@@ -74,29 +74,29 @@ placed_call plan proc args = call_of plan args (proc_named plan proc)
 abbrev pub rule_named : List ℕ → Option ℕ
 rule_named name = if bytes_eq name (codes "plain") then Some 0 else (if bytes_eq name (codes "reorder") then Some 1 else None)
 
-abbrev pub with_percent : ℕ → ℤ → Result (ℕ × ℕ) Kind8
+abbrev pub with_percent : ℕ → ℤ → Result (ℕ × ℕ) RefusalKind
 with_percent rule (pos n) = if nat_le n MOST_PERCENT then Ok (rule, n) else Err Argument
 with_percent rule (negsuc n) = Err Argument
 
-abbrev pub settings_by : Option ℕ → ℤ → Result (ℕ × ℕ) Kind8
+abbrev pub settings_by : Option ℕ → ℤ → Result (ℕ × ℕ) RefusalKind
 settings_by None percent = Err Name
 settings_by (Some rule) percent = with_percent rule percent
 
 -- the rule's number and the percentage
-abbrev pub placed_settings : List ℕ → ℤ → Result (ℕ × ℕ) Kind8
+abbrev pub placed_settings : List ℕ → ℤ → Result (ℕ × ℕ) RefusalKind
 placed_settings name percent = settings_by (rule_named name) percent
 
 -- ---- what an item is under a catalogue; of another form it is none
 
-abbrev pub fitted_row : Plan → Item → Result (Key × Cells) Kind8
+abbrev pub fitted_row : Plan → Item → Result (Key × Cells) RefusalKind
 fitted_row plan (item.Row table parts row) = placed_row plan table parts row
 fitted_row plan other = Err Word
 
-abbrev pub fitted_call : Plan → Item → Result Call Kind8
+abbrev pub fitted_call : Plan → Item → Result Call RefusalKind
 fitted_call plan (item.Tx proc args) = placed_call plan proc args
 fitted_call plan other = Err Word
 
-abbrev pub fitted_settings : Item → Result (ℕ × ℕ) Kind8
+abbrev pub fitted_settings : Item → Result (ℕ × ℕ) RefusalKind
 fitted_settings (item.Settings name percent) = placed_settings name percent
 fitted_settings other = Err Word
 
@@ -114,13 +114,13 @@ is_settings other = false
 
 -- ---- lines under a catalogue
 
-abbrev pub and_then : {A B : Type 0} → (A → Result B Kind8) → Result A Kind8 → Result B Kind8
+abbrev pub and_then : {A B : Type 0} → (A → Result B RefusalKind) → Result A RefusalKind → Result B RefusalKind
 and_then f (Ok x) = f x
 and_then f (Err kind) = Err kind
 
 -- the row that a line says, or the call, or why it says none
-abbrev pub row_said : Plan → List ℕ → Result (Key × Cells) Kind8
+abbrev pub row_said : Plan → List ℕ → Result (Key × Cells) RefusalKind
 row_said plan line = and_then (fitted_row plan) (said line)
 
-abbrev pub call_said : Plan → List ℕ → Result Call Kind8
+abbrev pub call_said : Plan → List ℕ → Result Call RefusalKind
 call_said plan line = and_then (fitted_call plan) (said line)

@@ -12,8 +12,8 @@ use Rattle.script_text.specs.Numbers.{number_of}
 use Rattle.script_text.specs.Tokens.{all_of, part_of, value_of, arg_of}
 use Rattle.script_text.specs.declared.items.Item.{Item}
 use Rattle.script_text.specs.declared.items.Item.TheVariants as item
-use Rattle.script_text.specs.declared.refusals.Kind8.{Kind8}
-use Rattle.script_text.specs.declared.refusals.Kind8.TheVariants.{Byte, Word}
+use Rattle.script_text.specs.declared.refusals.RefusalKind.{RefusalKind}
+use Rattle.script_text.specs.declared.refusals.RefusalKind.TheVariants.{Byte, Word}
 
 -- the one token
 abbrev pub only : List (List ℕ) → Option (List ℕ)
@@ -98,5 +98,5 @@ abbrev pub is_printed : List ℕ → Bool
 is_printed line = list_all (λ b. nat_le 32 b && nat_le b 126) line
 
 -- what a line says, or why it is refused
-abbrev pub said : List ℕ → Result Item Kind8
+abbrev pub said : List ℕ → Result Item RefusalKind
 said line = if is_printed line then ok_or (line_item line) Word else Err Byte

@@ -2,8 +2,8 @@
 use Rattle.std.specs.Prelude.{ℕ, ◌+◌, ◌-◌, ◌^◌, min, Bool, not, ◌&&◌, ◌==◌, nat_le, if◌then◌else◌, List, [], ◌∷◌, ◌++◌, length}
 use Rattle.std.specs.Prelude.{take, slice_index, Option, Some, None}
 use Rattle.script_text.specs.declared.refusals.Refusal.{Refusal}
-use Rattle.script_text.specs.declared.refusals.Kind8.{Kind8}
-use Rattle.script_text.specs.declared.refusals.Kind8.TheVariants.{Long, Size}
+use Rattle.script_text.specs.declared.refusals.RefusalKind.{RefusalKind}
+use Rattle.script_text.specs.declared.refusals.RefusalKind.TheVariants.{Long, Size}
 
 -- what is known of a text as far as it was taken: how many bytes it may have, and how many a line; how many were taken, how many
 -- of them were line feeds, and what stands behind the last of these
@@ -47,10 +47,10 @@ pub record Scan : Type 0 where
   pub feed : Feed
   pub fault : Option Refusal
 
-abbrev pub refused_at : ℕ → Kind8 → Refusal
+abbrev pub refused_at : ℕ → RefusalKind → Refusal
 refused_at count kind = record { line = line_after count; kind = kind }
 
-abbrev pub stopped : List (List ℕ) → Feed → Kind8 → Scan
+abbrev pub stopped : List (List ℕ) → Feed → RefusalKind → Scan
 stopped done feed kind = record { lines = done; feed = feed; fault = Some (refused_at feed.count kind) }
 
 abbrev pub scan_after : List (List ℕ) → Feed → List ℕ → Scan

@@ -1,12 +1,12 @@
 -- A run of bytes without a line feed, taken at once.
 use Rattle.std.specs.Prelude.{ℕ, Bool, true, false, ◌&&◌, nat_le, nat_lt, if◌then◌else◌, List, [], ◌++◌, Option, Some, None}
-use Rattle.script_text.specs.declared.refusals.Kind8.{Kind8}
-use Rattle.script_text.specs.declared.refusals.Kind8.TheVariants.{Long, Size}
+use Rattle.script_text.specs.declared.refusals.RefusalKind.{RefusalKind}
+use Rattle.script_text.specs.declared.refusals.RefusalKind.TheVariants.{Long, Size}
 use Rattle.script_text.specs.Lines.{Feed}
 
 -- which bound is passed first by so many bytes of a line, and by its line feed where that counts in `whole`: the line has room
 -- for so many more, and of the text so many are left
-abbrev pub first_past : ℕ → ℕ → ℕ → ℕ → Option Kind8
+abbrev pub first_past : ℕ → ℕ → ℕ → ℕ → Option RefusalKind
 first_past room left run whole =
     if nat_lt room run && nat_le room left then Some Long
     else (if nat_lt left whole then Some Size else None)

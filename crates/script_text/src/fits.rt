@@ -5,7 +5,7 @@ ghost use Rattle.script_text.specs.Fits.{placed_row, placed_call, placed_setting
 
 use crate::forms::refused;
 use crate::items::Item;
-use crate::refusals::{Kind8, LinesRefused};
+use crate::refusals::{LinesRefused, RefusalKind};
 use aria_base::{Args, Call, Duplicate, Key, MOST_PERCENT, Parts, Row, Schema, Txt};
 use proc_lang::Catalog;
 use std::alloc::Global;
@@ -74,11 +74,11 @@ pub fn place_row(
     ensures { Answers (placed_row catalog.now table.now parts row) line result }
 {
     let Some(table) = catalog.table(table.as_slice()) else {
-        return Err(refused(line, Kind8::Name));
+        return Err(refused(line, RefusalKind::Name));
     };
     let key = Key { table, parts };
     if !does_fit(catalog.schema(), &key, &row) {
-        return Err(refused(line, Kind8::Argument));
+        return Err(refused(line, RefusalKind::Argument));
     }
     Ok((key, row))
 }
@@ -93,11 +93,11 @@ pub fn place_call(
     ensures { Answers (placed_call catalog.now proc.now args) line result }
 {
     let Some(proc) = catalog.proc(proc.as_slice()) else {
-        return Err(refused(line, Kind8::Name));
+        return Err(refused(line, RefusalKind::Name));
     };
     let call = Call { proc, args };
     if !catalog.takes(&call) {
-        return Err(refused(line, Kind8::Argument));
+        return Err(refused(line, RefusalKind::Argument));
     }
     Ok(call)
 }
@@ -107,10 +107,10 @@ fn place_settings(name: &Txt, percent: i64, line: u64) -> Result<(u8, u32), Line
     ensures { Answers (placed_settings name.now percent) line result }
 {
     let Some(rule) = rule_number(name.as_slice()) else {
-        return Err(refused(line, Kind8::Name));
+        return Err(refused(line, RefusalKind::Name));
     };
     if percent < 0 || i64::from(MOST_PERCENT) < percent {
-        return Err(refused(line, Kind8::Argument));
+        return Err(refused(line, RefusalKind::Argument));
     }
     Ok((rule, percent as u32))
 }

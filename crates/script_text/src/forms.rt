@@ -11,7 +11,7 @@ use crate::cuts::first_token;
 use crate::digits::read_number;
 use crate::items::Item;
 use crate::readers::{FromToken, read_tokens};
-use crate::refusals::{Kind8, LinesRefused, Refusal};
+use crate::refusals::{LinesRefused, Refusal, RefusalKind};
 use aria_base::{
     Args, Bytes, FEWEST_PARTS, MOST_ARGS, MOST_COLUMNS, MOST_PARTS, Memory, Part, Parts, Row, Txt,
     TxtRefused, is_word,
@@ -25,17 +25,17 @@ pub fn read_line(alloc: Global, bytes: &[u8], line: u64) -> Result<Item, LinesRe
     ensures { Answers (said bytes.now) line result }
 {
     if !is_printed(bytes) {
-        return Err(refused(line, Kind8::Byte));
+        return Err(refused(line, RefusalKind::Byte));
     }
     match line_item(alloc, bytes) {
         Ok(Some(item)) => Ok(item),
-        Ok(None) => Err(refused(line, Kind8::Word)),
+        Ok(None) => Err(refused(line, RefusalKind::Word)),
         Err(_) => Err(LinesRefused::Memory),
     }
 }
 
 /// The refusal of a line.
-pub fn refused(line: u64, kind: Kind8) -> LinesRefused
+pub fn refused(line: u64, kind: RefusalKind) -> LinesRefused
     ensures { result ≡ refused line kind }
 {
     LinesRefused::Line(Refusal { line, kind })

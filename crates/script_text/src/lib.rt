@@ -36,6 +36,6 @@ pub use forms::read_line;
 pub use items::Item;
 pub use laws::{lines_of_texts, rows_fit};
 pub use lines::Lines;
-pub use refusals::{CatFault, Kind8, LinesRefused, Refusal};
+pub use refusals::{CatFault, LinesRefused, Refusal, RefusalKind};
 pub use writers::{Token, append_key, append_number, append_row, append_tokens};
 pub use written::{append_call, append_proc_name, write_call, write_row};

@@ -6,7 +6,7 @@ ghost use Rattle.script_text.specs.Lines.{Feed, blank, unreturned, scan, last_li
 ghost use Rattle.script_text.specs.Runs.{counted, first_past, with_run, begun_at, place};
 
 use crate::cuts::cut_at;
-use crate::refusals::{Kind8, LinesRefused, Refusal};
+use crate::refusals::{LinesRefused, Refusal, RefusalKind};
 use aria_base::{Bytes, Memory};
 use std::alloc::Global;
 use std::marker::Model;
@@ -193,7 +193,7 @@ impl Lines {
 
     /// How many bytes are taken with a run of bytes without a line feed, and the line feed behind it
     /// where one follows; or else which bound is passed first.
-    fn take(&self, fresh: bool, taken: u64, run: usize, feeds: bool) -> Result<u64, Kind8>
+    fn take(&self, fresh: bool, taken: u64, run: usize, feeds: bool) -> Result<u64, RefusalKind>
         requires { taken ≤ self.now.limit }
         ensures past { result_err result ≡ first_past (self.now.longest - length (begun_at self.now fresh)) (self.now.limit - taken) run (run + counted feeds) }
         ensures taken { IfOk result (λ next. next ≡ taken + (run + counted feeds)) }
@@ -207,24 +207,24 @@ impl Lines {
         let limit = self.limit;
         let left = limit - taken;
         if room < run && room <= left {
-            return Err(Kind8::Long);
+            return Err(RefusalKind::Long);
         }
         if left < run {
-            return Err(Kind8::Size);
+            return Err(RefusalKind::Size);
         }
         let after = left - run;
         if !feeds {
             return Ok(limit - after);
         }
         if after == 0 {
-            return Err(Kind8::Size);
+            return Err(RefusalKind::Size);
         }
         Ok(limit - (after - 1))
     }
 }
 
 /// The refusal of the line behind so many.
-fn refused_at(count: u64, kind: Kind8) -> Refusal
+fn refused_at(count: u64, kind: RefusalKind) -> Refusal
     ensures { result ≡ refused_at count kind }
 {
     let line = count.saturating_add(1);

@@ -12,12 +12,12 @@ pub struct Refusal {
     /// The line's number, from 1.
     pub line: u64,
     /// Why it is refused.
-    pub kind: Kind8,
+    pub kind: RefusalKind,
 }
 
 /// Why a line is refused.
 #[derive(Debug, Drop, PartialEq, Eq)]
-pub enum Kind8 {
+pub enum RefusalKind {
     /// It has more bytes than a line may have.
     Long,
     /// It has a byte that no line has.

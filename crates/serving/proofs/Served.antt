@@ -15,12 +15,12 @@ use Rattle.proc_lang.specs.Catalogs.{Plan}
 use Rattle.slot_images.specs.Images.{Checkpoint}
 use Rattle.aria_store.specs.Reopens.{Reopens, Found}
 use Rattle.aria_store.specs.Stands.{Kept, MayAdd, Stands, added}
-use Rattle.serving.specs.Given.{IsUntold, Tells}
+use Rattle.serving.specs.Deliveries.{IsUntold, Tells}
 use Rattle.serving.specs.Lives.{IsNext, MayServe, next_handed, next_state, plan_of, state_of}
 use Rattle.input_log.specs.declared.limits.TheConstants.{MOST_LOG}
 use Rattle.serving.specs.Stored.{GoesOn, HasTaken, Holds, HoldsTurned, IsHeld, IsLogging, LeavesState, MayRenew, MayTurn, ReopensTo, ReopensToEither, due_by, is_due, is_stale, logged, next_due, stored_state, told_by, turned, turned_by}
-use Rattle.serving.specs.declared.batches.Given.{Given}
-use Rattle.serving.specs.declared.batches.Given.TheVariants as given
+use Rattle.serving.specs.declared.batches.Delivery.{Delivery}
+use Rattle.serving.specs.declared.batches.Delivery.TheVariants as delivery
 use Rattle.serving.specs.declared.lives.Live.{Live}
 use Rattle.serving.proofs.Nexts.{plan_is, state_is}
 use Rattle.serving.proofs.Storing.{held_leaves, log_held, log_leaves, may_add}
@@ -262,11 +262,11 @@ module _ (live : Live) (first : Between) (e : slice_get live.replicas 0 ≡ Some
 -- ---- where it is not told
 
 module _ (text : List ℕ) (goes_on : Live → Type 0) (old new : Option (List ℕ)) where
-  pub untold_tells : (S D : Type 0) (why : Given) → IsUntold why S D → AppendsFront old new text → Tells text goes_on old new (None, why)
-  untold_tells S D given.Told h front = absurd h
-  untold_tells S D given.NoMemory h front = front
-  untold_tells S D given.NoWrite h front = front
-  untold_tells S D given.NoDisk h front = front
+  pub untold_tells : (S D : Type 0) (why : Delivery) → IsUntold why S D → AppendsFront old new text → Tells text goes_on old new (None, why)
+  untold_tells S D delivery.Told h front = absurd h
+  untold_tells S D delivery.NoMemory h front = front
+  untold_tells S D delivery.NoWrite h front = front
+  untold_tells S D delivery.NoDisk h front = front
 
 -- nothing was given
 pub none_given : (now : Option (List ℕ)) (text : List ℕ) → AppendsFront now now text

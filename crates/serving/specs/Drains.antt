@@ -6,7 +6,7 @@ use Rattle.batch_core.specs.Steps.{State, Handed, step}
 use Rattle.proc_lang.specs.Catalogs.{Plan, run_of}
 use Rattle.script_course.specs.Courses.{Course, Goes, Stops, behind}
 use Rattle.script_course.specs.declared.stops.Stop.{Stop}
-use Rattle.script_text.specs.declared.refusals.Kind8.TheVariants.{Numbers}
+use Rattle.script_text.specs.declared.refusals.RefusalKind.TheVariants.{Numbers}
 use Rattle.serving.specs.declared.lives.Live.{Live}
 use Rattle.serving.specs.Lives.{batch_text, handed_at, state_of}
 

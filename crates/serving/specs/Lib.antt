@@ -1,4 +1,4 @@
 pub mod Lives
-pub mod Given
+pub mod Deliveries
 pub mod Drains
 pub mod Stored

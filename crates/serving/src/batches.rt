@@ -7,8 +7,8 @@ ghost use Rattle.disk_model.specs.Histories.{LeavesAll};
 ghost use Rattle.image_text.specs.Payloads.{Batch};
 ghost use Rattle.slot_images.specs.Images.{Checkpoint};
 ghost use Rattle.aria_store.specs.Stands.{added};
-ghost use Rattle.serving.specs.Given.{Tells, IfTold, IsAnswered, IsGivenCause, IsUntold};
-ghost use Rattle.serving.specs.declared.batches.Given.TheVariants as given;
+ghost use Rattle.serving.specs.Deliveries.{Tells, IfTold, IsAnswered, IsDeliveryCause, IsUntold};
+ghost use Rattle.serving.specs.declared.batches.Delivery.TheVariants as delivery;
 ghost use Rattle.serving.specs.Lives.{MayServe, IsNext, next_state, next_text, plan_of};
 ghost use Rattle.serving.specs.Stored.{MayLog, IsLogging, Holds, HoldsTurned, ReopensToEither, LeavesState, stored_state, next_due, next_store};
 
@@ -22,7 +22,7 @@ use std::thread::Threads;
 
 /// What became of a batch.
 #[derive(Clone, Copy, Debug, PartialEq, Eq)]
-pub enum Given {
+pub enum Delivery {
     /// It was run, and all of its text was given.
     Told,
     /// There was no memory.
@@ -46,7 +46,7 @@ pub fn serve_batch<K: Sink, D: Disk, P: Pace + Sync, R: Threads + Sync>(
     out: &mut K,
     disk: &mut D,
     pace: &P,
-) -> (Option<Live>, Given)
+) -> (Option<Live>, Delivery)
     requires may { MayServe live new.items }
     requires logs { MayLog live new.items (D.history disk.old) }
     ensures tells { Tells (next_text live new.items) (IsNext live new.items) (K.given out.old) (K.given out.new) result }
@@ -62,10 +62,10 @@ pub fn serve_batch<K: Sink, D: Disk, P: Pace + Sync, R: Threads + Sync>(
     ensures images { (c : Checkpoint) (later : List Batch) → Holds (D.history disk.old) (plan_of live) (stored_state live) live.store c later → LeavesAll (D.history disk.old) (D.history disk.new) (ReopensToEither (plan_of live) (stored_state live) (next_state live new.items)) }
     ensures answered { (c : Checkpoint) (later : List Batch) → Holds (D.history disk.old) (plan_of live) (stored_state live) live.store c later → IsAnswered (K.given out.old) (K.given out.new) result.1 → LeavesState (D.history disk.new) (plan_of live) (next_state live new.items) }
     ensures untouched { live.store ≡ None → disk.new ≡ disk.old }
-    ensures storeless { live.store ≡ None → result.1 ≢ given.NoDisk }
+    ensures storeless { live.store ≡ None → result.1 ≢ delivery.NoDisk }
     ensures sink { K.faults out.old ≤ K.faults out.new }
     ensures disk { IfTold result (λ _. (D.history disk.old).faults ≤ (D.history disk.new).faults) }
-    ensures cause { IsGivenCause result.1 (Rose (K.faults out.old) (K.faults out.new)) (Rose (D.history disk.old).faults (D.history disk.new).faults) }
+    ensures cause { IsDeliveryCause result.1 (Rose (K.faults out.old) (K.faults out.new)) (Rose (D.history disk.old).faults (D.history disk.new).faults) }
 {
     let mut live = live;
     if let Err(why) = log_batch(&mut live, alloc, new.as_slice(), disk) {
@@ -76,7 +76,7 @@ pub fn serve_batch<K: Sink, D: Disk, P: Pace + Sync, R: Threads + Sync>(
         Err(why) => return (None, why),
     };
     match rotate_where_due(&mut next, alloc, disk) {
-        Ok(()) => (Some(next), Given::Told),
+        Ok(()) => (Some(next), Delivery::Told),
         Err(why) => (None, why),
     }
 }
@@ -89,7 +89,7 @@ fn tell_batch<K: Sink, P: Pace + Sync, R: Threads + Sync>(
     new: Vec<Call>,
     out: &mut K,
     pace: &P,
-) -> Result<Live, Given>
+) -> Result<Live, Delivery>
     requires { MayServe live new.items }
     ensures told { IfOk result (λ _. Appends (K.given out.old) (K.given out.new) (next_text live new.items)) }
     ensures next { IfOk result (IsNext live new.items) }
@@ -101,8 +101,8 @@ fn tell_batch<K: Sink, P: Pace + Sync, R: Threads + Sync>(
     match live.next(rt, alloc, new, pace) {
         Ok((next, text)) => match out.give(&text) {
             Ok(()) => Ok(next),
-            Err(_) => Err(Given::NoWrite),
+            Err(_) => Err(Delivery::NoWrite),
         },
-        Err(Memory) => Err(Given::NoMemory),
+        Err(Memory) => Err(Delivery::NoMemory),
     }
 }

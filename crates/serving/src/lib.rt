@@ -11,7 +11,7 @@
 //!                             └──> Live::next ──> Replicas (replica_run) ──> answer ──> text ──> Sink
 //! ```
 //!
-//! In `specs/`: `Lives` says what a batch prints and leaves, `Given` what a sink was given of it,
+//! In `specs/`: `Lives` says what a batch prints and leaves, `Deliveries` what a sink was given of it,
 //! `Stored` what a disk holds of the database, and `Drains` what the requests that wait come to.
 #![tactic(auto)]
 
@@ -20,7 +20,7 @@ mod lives;
 mod logs;
 mod rotations;
 
-pub use batches::{Given, serve_batch};
+pub use batches::{Delivery, serve_batch};
 pub use input_log::MOST_LOG;
 pub use lives::Live;
 pub use rotations::renew_where_stale;

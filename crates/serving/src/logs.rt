@@ -10,11 +10,11 @@ ghost use Rattle.image_text.specs.Payloads.{Batch};
 ghost use Rattle.proc_lang.specs.Catalogs.{takes, run_of};
 ghost use Rattle.slot_images.specs.Images.{Checkpoint};
 ghost use Rattle.aria_store.specs.Stands.{added};
-ghost use Rattle.serving.specs.Given.{IsUntold, IsFor, IsOfWriting};
+ghost use Rattle.serving.specs.Deliveries.{IsUntold, IsFor, IsOfWriting};
 ghost use Rattle.serving.specs.Lives.{MayServe, next_state, plan_of};
 ghost use Rattle.serving.specs.Stored.{MayLog, Holds, ReopensToEither, HasTaken, logged, stored_state};
 
-use crate::batches::Given;
+use crate::batches::Delivery;
 use crate::lives::Live;
 use aria_base::Call;
 use aria_store::StoreRefused;
@@ -27,7 +27,7 @@ pub(crate) fn log_batch<D: Disk>(
     alloc: Global,
     calls: &[Call],
     disk: &mut D,
-) -> Result<(), Given>
+) -> Result<(), Delivery>
     requires may { MayServe live.old calls.now }
     requires logs { MayLog live.old calls.now (D.history disk.old) }
     ensures logged { OnOk result (live.new ≡ logged live.old calls.now) }
@@ -51,13 +51,13 @@ pub(crate) fn log_batch<D: Disk>(
 }
 
 /// What a store that is not closed answers where it could not write.
-pub(crate) fn why_untold(refused: StoreRefused) -> Given
+pub(crate) fn why_untold(refused: StoreRefused) -> Delivery
     requires { IsOfWriting refused }
     ensures { IsFor refused result }
 {
     match refused {
-        StoreRefused::Memory => Given::NoMemory,
-        StoreRefused::DiskFault => Given::NoDisk,
+        StoreRefused::Memory => Delivery::NoMemory,
+        StoreRefused::DiskFault => Delivery::NoDisk,
         StoreRefused::NoStore
         | StoreRefused::Exists
         | StoreRefused::Damaged { .. }

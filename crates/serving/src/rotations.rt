@@ -6,11 +6,11 @@ ghost use Rattle.batch_engine.specs.Engines.{state_in};
 ghost use Rattle.disk_model.specs.Histories.{LeavesAll};
 ghost use Rattle.image_text.specs.Payloads.{Batch};
 ghost use Rattle.slot_images.specs.Images.{Checkpoint};
-ghost use Rattle.serving.specs.Given.{IsUntold};
+ghost use Rattle.serving.specs.Deliveries.{IsUntold};
 ghost use Rattle.serving.specs.Lives.{IsRunnable, plan_of, state_of};
 ghost use Rattle.serving.specs.Stored.{Holds, HoldsTurned, IsHeld, IsLogging, GoesOn, HasTaken, MayRenew, MayTurn, ReopensTo, due_by, is_due, is_stale, stale_by, turned, turned_by};
 
-use crate::batches::Given;
+use crate::batches::Delivery;
 use crate::lives::Live;
 use crate::logs::why_untold;
 use aria_store::Store;
@@ -27,7 +27,7 @@ pub(crate) fn rotate_where_due<D: Disk>(
     live: &mut Live,
     alloc: Global,
     disk: &mut D,
-) -> Result<(), Given>
+) -> Result<(), Delivery>
     requires runnable { IsRunnable live.old }
     requires taken { IfSome live.old.store (HasTaken (D.history disk.old) (state_of live.old).batches) }
     ensures turned { OnOk result (live.new ≡ record live.old { store = turned_by (due_by live.old.checkpoint (state_of live.old).batches live.old.store) (state_of live.old) live.old.store }) }
@@ -52,7 +52,11 @@ pub(crate) fn rotate_where_due<D: Disk>(
 /// Lays the next checkpoint with an empty log, where there is a store that can take no batch as it is: one
 /// of format 1, or with a log longer than [`MOST_LOG`]. It answers `NoMemory` where there was no memory, and
 /// `NoDisk` where a call on the disk failed, and nothing else; the store is closed after `NoDisk`.
-pub fn renew_where_stale<D: Disk>(live: &mut Live, alloc: Global, disk: &mut D) -> Result<(), Given>
+pub fn renew_where_stale<D: Disk>(
+    live: &mut Live,
+    alloc: Global,
+    disk: &mut D,
+) -> Result<(), Delivery>
     requires runnable { IsRunnable live.old }
     requires kept { IfSome live.old.store (MayRenew (D.history disk.old) (state_of live.old).batches) }
     ensures turned { OnOk result (live.new ≡ record live.old { store = turned_by (stale_by live.old.store) (state_of live.old) live.old.store }) }
@@ -95,7 +99,7 @@ fn rotate<D: Disk>(
     engine: &Engine,
     config: &Config,
     disk: &mut D,
-) -> Result<(), Given>
+) -> Result<(), Delivery>
     requires may { MayTurn (D.history disk.old) engine.now.batches store.old }
     requires fallback { config.now.fallback ≤ MOST_PERCENT }
     ensures turned { OnOk result (store.new ≡ turned true (state_in config.now engine.now) store.old) }

@@ -17,7 +17,7 @@ use Rattle.script_places.specs.declared.heads.Head.TheVariants as head
 use Rattle.script_places.specs.declared.places.Counts.{Counts}
 use Rattle.script_places.specs.declared.places.Mode.TheVariants as mode
 use Rattle.script_places.specs.declared.places.Place.{Place}
-use Rattle.script_text.specs.declared.refusals.Kind8.{Kind8}
+use Rattle.script_text.specs.declared.refusals.RefusalKind.{RefusalKind}
 use Rattle.script_text.specs.declared.refusals.LinesRefused.{LinesRefused}
 use Rattle.script_text.specs.declared.refusals.LinesRefused.TheVariants.{Memory, Line}
 use Rattle.store_commands.specs.declared.drafts.Draft.{Draft}
@@ -61,7 +61,7 @@ abbrev pub read_of : List ℕ → Course Draft
 read_of text = told_whole on_line no_line start text
 
 -- the catalogue and the rows, unless the end of the text is refused
-abbrev pub values_by : Draft → Result Place Kind8 → Option (Plan × Database)
+abbrev pub values_by : Draft → Result Place RefusalKind → Option (Plan × Database)
 values_by d (Ok place) = Some (plan_in place.head, d.tables)
 values_by d (Err kind) = None
 

@@ -13,7 +13,7 @@ use Rattle.script_course.specs.declared.stops.Stop.{Stop}
 use Rattle.script_course.specs.declared.stops.Stop.TheVariants as stop
 use Rattle.script_places.specs.Places.{closing}
 use Rattle.script_places.specs.declared.places.Place.{Place}
-use Rattle.script_text.specs.declared.refusals.Kind8.{Kind8}
+use Rattle.script_text.specs.declared.refusals.RefusalKind.{RefusalKind}
 use Rattle.slot_images.specs.Images.{Checkpoint}
 use Rattle.store_files.specs.Attachments.{IsTaken}
 use Rattle.aria_store.specs.Stands.{Kept, Stands}
@@ -30,7 +30,7 @@ store_out settings taken =
     else (record { bytes = ready_text; status = DONE })
 
 -- the end of the head, unless it is refused
-abbrev pub closed_by : Init → Bool → Draft → Result Place Kind8 → Out
+abbrev pub closed_by : Init → Bool → Draft → Result Place RefusalKind → Out
 closed_by settings taken d (Ok place) = store_out settings taken
 closed_by settings taken d (Err kind) = record { bytes = refused_after d.place.lines kind; status = status_of stop.Refused }
 

@@ -16,8 +16,8 @@ use Rattle.script_text.specs.Forms.{said}
 use Rattle.script_text.specs.Lines.{line_after}
 use Rattle.script_text.specs.declared.items.Item.{Item}
 use Rattle.script_text.specs.declared.items.Item.TheVariants as item
-use Rattle.script_text.specs.declared.refusals.Kind8.{Kind8}
-use Rattle.script_text.specs.declared.refusals.Kind8.TheVariants as kind
+use Rattle.script_text.specs.declared.refusals.RefusalKind.{RefusalKind}
+use Rattle.script_text.specs.declared.refusals.RefusalKind.TheVariants as kind
 use Rattle.store_laws.proofs.Scripts.{IsAskedTo, Runs, is_asked, never, opening_item}
 use Rattle.store_laws.specs.Texts.{opens_by}
 
@@ -40,7 +40,7 @@ IsNamed (head.Text text) = Unit {0}
 IsNamed (head.Ready given) = Unit {0}
 
 -- a line that is skipped, or the first of batches
-pub begins : (rest : Bool) (l : Result Item Kind8) → opens_by rest l ≡ true → ((l ≡ Ok item.Skip) × (rest ≡ true)) ⊎ (opens_by false l ≡ true)
+pub begins : (rest : Bool) (l : Result Item RefusalKind) → opens_by rest l ≡ true → ((l ≡ Ok item.Skip) × (rest ≡ true)) ⊎ (opens_by false l ≡ true)
 begins rest (Ok item.Skip) e = inl (refl, e)
 begins rest (Ok (item.Catalog name)) e = inr e
 begins rest (Ok (item.Piece piece)) e = inr e
@@ -52,7 +52,7 @@ begins rest (Ok (item.Settings name percent)) e = inr e
 begins rest (Err why) e = inr e
 
 -- a line that is skipped, or one of a head
-pub begins_not : (rest : Bool) (l : Result Item Kind8) → opens_by rest l ≡ false → ((l ≡ Ok item.Skip) × (rest ≡ false)) ⊎ (opens_by true l ≡ false)
+pub begins_not : (rest : Bool) (l : Result Item RefusalKind) → opens_by rest l ≡ false → ((l ≡ Ok item.Skip) × (rest ≡ false)) ⊎ (opens_by true l ≡ false)
 begins_not rest (Ok item.Skip) e = inl (refl, e)
 begins_not rest (Ok (item.Catalog name)) e = inr e
 begins_not rest (Ok (item.Piece piece)) e = inr e
@@ -69,20 +69,20 @@ module _ (plan : Plan) (lines : ℕ) (c : Counts) where
 
   -- ---- a skipped line changes the count of lines alone
 
-  skip_said : (h : Head) (p : Place) (l : Result Item Kind8) → l ≡ Ok item.Skip → by_head (behind_head h p) c h l ≡ Ok (behind_head h p, deed.Nothing)
-  skip_said head.Unnamed p l is = ap (λ (x : Result Item Kind8). and_then (at_item (behind_head head.Unnamed p) c) x) is
-  skip_said (head.Text text) p l is = ap (λ (x : Result Item Kind8). in_text (without_head (behind_head (head.Text text) p)) c text x) is
-  skip_said (head.Ready given) p l is = ap (λ (x : Result Item Kind8). and_then (at_item (behind_head (head.Ready given) p) c) x) is
+  skip_said : (h : Head) (p : Place) (l : Result Item RefusalKind) → l ≡ Ok item.Skip → by_head (behind_head h p) c h l ≡ Ok (behind_head h p, deed.Nothing)
+  skip_said head.Unnamed p l is = ap (λ (x : Result Item RefusalKind). and_then (at_item (behind_head head.Unnamed p) c) x) is
+  skip_said (head.Text text) p l is = ap (λ (x : Result Item RefusalKind). in_text (without_head (behind_head (head.Text text) p)) c text x) is
+  skip_said (head.Ready given) p l is = ap (λ (x : Result Item RefusalKind). and_then (at_item (behind_head (head.Ready given) p) c) x) is
 
   pub once_skip : (h : Head) (p : Place) (line : List ℕ) → said line ≡ Ok item.Skip → asked (behind_head h p) c line ≡ Ok (behind_head h (next_line p), deed.Nothing)
   once_skip h p line is = skip_said h (next_line p) (said line) is
 
   pub run_skip : (line : List ℕ) → said line ≡ Ok item.Skip → asked (before_batches plan lines) c line ≡ Ok (before_batches plan After, deed.Nothing)
-  run_skip line is = ap (λ (x : Result Item Kind8). and_then (at_item (before_batches plan After) c) x) is
+  run_skip line is = ap (λ (x : Result Item RefusalKind). and_then (at_item (before_batches plan After) c) x) is
 
   -- ---- a line of a head may not stand in a script over a store
 
-  head_refused : (l : Result Item Kind8) → opens_by true l ≡ false → and_then (at_item (before_batches plan After) c) l ≡ Err kind.Site
+  head_refused : (l : Result Item RefusalKind) → opens_by true l ≡ false → and_then (at_item (before_batches plan After) c) l ≡ Err kind.Site
   head_refused (Ok item.Skip) e = never (sym e)
   head_refused (Ok (item.Catalog name)) e = refl
   head_refused (Ok (item.Piece piece)) e = refl
@@ -106,12 +106,12 @@ module _ (plan : Plan) (lines : ℕ) (c : Counts) where
       subst (λ (g : Plan). Begins (at_item (behind_head (head.Ready g) p) c i) i) (sym is) (opening_item plan After c (behind_head (head.Ready plan) p) i e)
 
   -- the text of a catalogue is read before it
-  abbrev ReadThen : Place → (Place → Asked) → Result Plan Kind8 → Asked
+  abbrev ReadThen : Place → (Place → Asked) → Result Plan RefusalKind → Asked
   ReadThen p ask read = and_then ask (and_then (λ given. Ok (record p { head = head.Ready given })) read)
 
   first_read : (p : Place) (text : List ℕ) → catalog_of text ≡ Ok plan → (i : Item) → opens_by false (Ok i) ≡ true → Begins (behind_text (without_head (behind_head (head.Text text) p)) c text i) i
   first_read p text is i e =
-      subst (λ (r : Result Plan Kind8). Begins (ReadThen (without_head (behind_head (head.Text text) p)) (λ at. at_item at c i) r) i) (sym is) (first_ready plan refl p i e)
+      subst (λ (r : Result Plan RefusalKind). Begins (ReadThen (without_head (behind_head (head.Text text) p)) (λ at. at_item at c i) r) i) (sym is) (first_ready plan refl p i e)
 
   first_text : (p : Place) (text : List ℕ) → catalog_of text ≡ Ok plan → (i : Item) → opens_by false (Ok i) ≡ true → Begins (in_text (without_head (behind_head (head.Text text) p)) c text (Ok i)) i
   first_text p text is item.Skip e = never e
@@ -124,15 +124,15 @@ module _ (plan : Plan) (lines : ℕ) (c : Counts) where
   first_text p text is (item.Settings name percent) e = first_read p text is (item.Settings name percent) e
 
   -- a line of no form, behind the text of a catalogue
-  refused_by : (byte : Bool) (p : Place) (read : Result Plan Kind8) (why : Kind8) → read ≡ Ok plan → Runs plan After (if byte then Err why else ReadThen p (λ at. Err why) read) (Err why)
+  refused_by : (byte : Bool) (p : Place) (read : Result Plan RefusalKind) (why : RefusalKind) → read ≡ Ok plan → Runs plan After (if byte then Err why else ReadThen p (λ at. Err why) read) (Err why)
   refused_by true p read why is = refl
-  refused_by false p read why is = subst (λ (r : Result Plan Kind8). Runs plan After (ReadThen p (λ at. Err why) r) (Err why)) (sym is) refl
+  refused_by false p read why is = subst (λ (r : Result Plan RefusalKind). Runs plan After (ReadThen p (λ at. Err why) r) (Err why)) (sym is) refl
 
-  first_wrong : (p : Place) (text : List ℕ) (why : Kind8) → catalog_of text ≡ Ok plan → Runs plan After (refused_in_text p text why) (Err why)
+  first_wrong : (p : Place) (text : List ℕ) (why : RefusalKind) → catalog_of text ≡ Ok plan → Runs plan After (refused_in_text p text why) (Err why)
   first_wrong p text why is = refused_by (is_byte why) p (catalog_of text) why is
 
   -- behind a head that names a catalogue
-  first_said : (none : Plan) (h : Head) (p : Place) → IsNamed h → Gives none h plan → (l : Result Item Kind8) → opens_by false l ≡ true
+  first_said : (none : Plan) (h : Head) (p : Place) → IsNamed h → Gives none h plan → (l : Result Item RefusalKind) → opens_by false l ≡ true
       → Runs plan After (by_head (behind_head h p) c h l) (and_then (at_item (before_batches plan After) c) l)
   first_said none head.Unnamed p named gives l e = absurd named
   first_said none (head.Text text) p named gives (Ok i) e = first_text p text gives i e
@@ -141,7 +141,7 @@ module _ (plan : Plan) (lines : ℕ) (c : Counts) where
   first_said none (head.Ready given) p named gives (Err why) e = refl
 
   -- no line of batches may stand where there is no catalogue
-  none_asked : (p : Place) (l : Result Item Kind8) (r : Place × Deed) → opens_by false l ≡ true → by_head (behind_head head.Unnamed p) c head.Unnamed l ≡ Ok r → ⊥
+  none_asked : (p : Place) (l : Result Item RefusalKind) (r : Place × Deed) → opens_by false l ≡ true → by_head (behind_head head.Unnamed p) c head.Unnamed l ≡ Ok r → ⊥
   none_asked p (Ok item.Skip) r e is = never e
   none_asked p (Ok (item.Catalog name)) r e is = never e
   none_asked p (Ok (item.Piece piece)) r e is = never e
@@ -162,7 +162,7 @@ module _ (plan : Plan) (lines : ℕ) (c : Counts) where
       let h = head.Ready given in
       is_asked plan lines (before_batches plan lines) after c line asks (asked (behind_head h p) c line) is (first_said none h (next_line p) tt gives (said line) e)
 
-  pub first_refused : (none : Plan) (h : Head) (p : Place) (line : List ℕ) (why : Kind8) → IsNamed h → Gives none h plan → opens_by false (said line) ≡ true
+  pub first_refused : (none : Plan) (h : Head) (p : Place) (line : List ℕ) (why : RefusalKind) → IsNamed h → Gives none h plan → opens_by false (said line) ≡ true
       → asked (behind_head h p) c line ≡ Err why → asked (before_batches plan lines) c line ≡ Err why
   first_refused none h p line why named gives e is =
       subst (λ (a : Asked). Runs plan After a (asked (before_batches plan lines) c line)) is (first_said none h (next_line p) named gives (said line) e)

@@ -13,8 +13,8 @@ use Rattle.script_places.specs.declared.heads.Head.TheVariants as head
 use Rattle.script_places.specs.declared.places.Place.{Place}
 use Rattle.script_text.specs.Fits.{and_then}
 use Rattle.script_text.specs.Lines.{line_after}
-use Rattle.script_text.specs.declared.refusals.Kind8.{Kind8}
-use Rattle.script_text.specs.declared.refusals.Kind8.TheVariants as kind
+use Rattle.script_text.specs.declared.refusals.RefusalKind.{RefusalKind}
+use Rattle.script_text.specs.declared.refusals.RefusalKind.TheVariants as kind
 use Rattle.serving.specs.Drains.{drained, drains, goes_on, no_calls}
 use Rattle.serving.specs.Lives.{batch_text, no_plan}
 use Rattle.run_commands.proofs.Turns.{not_both}
@@ -94,7 +94,7 @@ module _ (plan : Plan) (drain : Bool) (d : Doing) (p : Place) where
   once_ends (head.Ready given) gives = ap (λ (q : Plan). onces.drained drain q d.each (line_after p.lines) d.state) gives
   once_ends (head.Text text) gives =
       let at = behind_head (head.Text text) p in
-      ap (λ (r : Result Plan Kind8). closed_by drain (record d { place = at }) (and_then shut (and_then (λ q. Ok (record (without_head (next_line at)) { head = head.Ready q })) r))) gives
+      ap (λ (r : Result Plan RefusalKind). closed_by drain (record d { place = at }) (and_then shut (and_then (λ q. Ok (record (without_head (next_line at)) { head = head.Ready q })) r))) gives
 
   run_ends : (h : Head) (lines : ℕ) → Gives no_plan h plan → (on_end drain (record d { place = behind_head h p })).status ≡ DONE
       → on_end drain (record d { place = before_batches plan lines }) ≡ on_end drain (record d { place = behind_head h p })
@@ -118,10 +118,10 @@ abbrev pub runs_as : ℕ → Doing → Doing
 runs_as lines d = record d { place = as_run lines d.place }
 
 module _ (plan : Plan) (drain : Bool) (lines : ℕ) (last : Doing) (at : last.place ≡ in_batches plan last.place) where
-  abbrev Shut : Bool → Result Place Kind8
+  abbrev Shut : Bool → Result Place RefusalKind
   Shut b = if b then Ok (in_batches plan (next_line last.place)) else Err kind.Unfinished
 
-  abbrev ShutRun : Bool → Result Place Kind8
+  abbrev ShutRun : Bool → Result Place RefusalKind
   ShutRun b = if b then Ok (as_run (line_after lines) (in_batches plan (next_line last.place))) else Err kind.Unfinished
 
   shut_like : (b : Bool) → (closed_by drain last (Shut b)).status ≡ DONE → closed_by drain (runs_as lines last) (ShutRun b) ≡ closed_by drain last (Shut b)

@@ -15,8 +15,8 @@ use Rattle.script_places.specs.declared.heads.Head.TheVariants as head
 use Rattle.script_places.specs.declared.places.Place.{Place}
 use Rattle.script_text.specs.Fits.{and_then}
 use Rattle.script_text.specs.Lines.{last_line, scan, unreturned}
-use Rattle.script_text.specs.declared.refusals.Kind8.{Kind8}
-use Rattle.script_text.specs.declared.refusals.Kind8.TheVariants as kind
+use Rattle.script_text.specs.declared.refusals.RefusalKind.{RefusalKind}
+use Rattle.script_text.specs.declared.refusals.RefusalKind.TheVariants as kind
 use Rattle.script_text.specs.declared.refusals.Refusal.{Refusal}
 use Rattle.serving.specs.Lives.{no_plan}
 use Rattle.run_commands.proofs.Overs.{onward, over}
@@ -147,7 +147,7 @@ pub record IsClosed (e : Draft) (values : Plan × Database) : Type 0 where
   pub rows_are : e.tables ≡ values.1
   pub none_open : e.place.open_calls ≡ 0
 
-read_gives : (e : Draft) (values : Plan × Database) (read : Result Plan Kind8)
+read_gives : (e : Draft) (values : Plan × Database) (read : Result Plan RefusalKind)
     → values_by e (and_then shut (and_then (λ plan. Ok (record (without_head (next_line e.place)) { head = head.Ready plan })) read)) ≡ Some values
     → (read ≡ Ok values.0) × (e.tables ≡ values.1) × (e.place.open_calls ≡ 0)
 read_gives e values (Err why) is = absurd cc

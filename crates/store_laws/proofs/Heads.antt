@@ -20,8 +20,8 @@ use Rattle.script_text.specs.Forms.{said}
 use Rattle.script_text.specs.declared.items.Item.{Item}
 use Rattle.script_text.specs.declared.items.Item.TheVariants as item
 use Rattle.script_text.specs.declared.refusals.CatFault.TheVariants as fault
-use Rattle.script_text.specs.declared.refusals.Kind8.{Kind8}
-use Rattle.script_text.specs.declared.refusals.Kind8.TheVariants as kind
+use Rattle.script_text.specs.declared.refusals.RefusalKind.{RefusalKind}
+use Rattle.script_text.specs.declared.refusals.RefusalKind.TheVariants as kind
 
 -- a place that `init` comes to, and the same one of `once`
 abbrev pub in_head : Place → Place
@@ -54,7 +54,7 @@ takes_if : (b : Bool) (x y x' y' : Asked) → Takes x x' → Takes y y' → Take
 takes_if true x y x' y' h k = h
 takes_if false x y x' y' h k = k
 
-takes_then : {T : Type 0} (f g : T → Asked) (r : Result T Kind8) → ((t : T) → Takes (f t) (g t)) → Takes (and_then f r) (and_then g r)
+takes_then : {T : Type 0} (f g : T → Asked) (r : Result T RefusalKind) → ((t : T) → Takes (f t) (g t)) → Takes (and_then f r) (and_then g r)
 takes_then f g (Ok t) h = h t
 takes_then f g (Err why) h = tt
 
@@ -144,7 +144,7 @@ module _ (c : Counts) (p : Place) where
   takes_within text item.Report = quiet (record p { head = head.Text text })
   takes_within text (item.Settings name percent) = quiet (record p { head = head.Text text })
 
-  takes_read : (i : Item) (read : Result Plan Kind8)
+  takes_read : (i : Item) (read : Result Plan RefusalKind)
       → Takes (and_then (λ ready. at_item ready c i) (and_then (λ plan. Ok (record J { head = head.Ready plan })) read))
       (and_then (λ ready. at_item ready c i) (and_then (λ plan. Ok (record Q { head = head.Ready plan })) read))
   takes_read i (Ok plan) = takes_item c (record p { head = head.Ready plan }) i
@@ -153,20 +153,20 @@ module _ (c : Counts) (p : Place) where
   takes_behind : (text : List ℕ) (i : Item) → Takes (behind_text J c text i) (behind_text Q c text i)
   takes_behind text i = takes_read i (catalog_of text)
 
-  never : (r : Result Place Kind8) (why : Kind8) (other : Asked) → Takes (and_then (λ ready. Err why) r) other
+  never : (r : Result Place RefusalKind) (why : RefusalKind) (other : Asked) → Takes (and_then (λ ready. Err why) r) other
   never (Ok ready) why other = tt
   never (Err first) why other = tt
 
-  takes_refused : (text : List ℕ) (why : Kind8) → Takes (refused_in_text J text why) (refused_in_text Q text why)
+  takes_refused : (text : List ℕ) (why : RefusalKind) → Takes (refused_in_text J text why) (refused_in_text Q text why)
   takes_refused text why =
       takes_if (is_byte why) (Err why) (and_then (λ ready. Err why) (read_text J text)) (Err why) (and_then (λ ready. Err why) (read_text Q text)) tt
       (never (read_text J text) why (and_then (λ ready. Err why) (read_text Q text)))
 
-  takes_text : (text : List ℕ) (line : Result Item Kind8) → Takes (in_text J c text line) (in_text Q c text line)
+  takes_text : (text : List ℕ) (line : Result Item RefusalKind) → Takes (in_text J c text line) (in_text Q c text line)
   takes_text text (Ok i) = takes_if (goes_on i) (within_text J text i) (behind_text J c text i) (within_text Q text i) (behind_text Q c text i) (takes_within text i) (takes_behind text i)
   takes_text text (Err why) = takes_refused text why
 
-takes_head : (c : Counts) (p : Place) (h : Head) (line : Result Item Kind8) → Takes (by_head (in_head p) c h line) (by_head (as_once (in_head p)) c h line)
+takes_head : (c : Counts) (p : Place) (h : Head) (line : Result Item RefusalKind) → Takes (by_head (in_head p) c h line) (by_head (as_once (in_head p)) c h line)
 takes_head c p (head.Text text) line = takes_text c p text line
 takes_head c p head.Unnamed line = takes_then (at_item (in_head p) c) (at_item (as_once (in_head p)) c) line (λ i. takes_item c p i)
 takes_head c p (head.Ready plan) line = takes_then (at_item (in_head p) c) (at_item (as_once (in_head p)) c) line (λ i. takes_item c p i)

@@ -12,7 +12,7 @@ use Rattle.script_places.specs.declared.deeds.Deed.TheVariants as deed
 use Rattle.script_places.specs.declared.places.Place.{Place}
 use Rattle.script_text.specs.Laws.{all_lines}
 use Rattle.script_text.specs.Lines.{scan}
-use Rattle.script_text.specs.declared.refusals.Kind8.{Kind8}
+use Rattle.script_text.specs.declared.refusals.RefusalKind.{RefusalKind}
 use Rattle.run_commands.proofs.Whole.{whole_over}
 use Rattle.run_commands.proofs.Endings.{held_after, held_listed}
 use Rattle.run_commands.proofs.Overs.{IfGoes, onward, over}
@@ -89,7 +89,7 @@ lines_held (line ∷ lines) e end held printed rows k goes = lines_by line lines
 
 -- ---- a script: the count before its lines, the end of the input and the listing hold what was held
 
-closed_held : (d : Doing) (held : State) (r : Result Place Kind8) → held_by_step on_turn held_then d held (held_over on_turn held_then []) (on_close d r) ≡ held
+closed_held : (d : Doing) (held : State) (r : Result Place RefusalKind) → held_by_step on_turn held_then d held (held_over on_turn held_then []) (on_close d r) ≡ held
 closed_held d held (Ok place) = held_same held d (record d { place = place }) refl
 closed_held d held (Err why) = refl
 

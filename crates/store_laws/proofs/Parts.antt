@@ -5,7 +5,7 @@ use Rattle.script_course.proofs.Measures.{scan-taken}
 use Rattle.script_text.proofs.Scans.{cut, scan-faulted}
 use Rattle.script_text.specs.Laws.{all_lines}
 use Rattle.script_text.specs.Lines.{Feed, Scan, blank, is_past_limit, is_past_line, last_line, scan, scan_after, stopped, unreturned, with_byte, with_feed}
-use Rattle.script_text.specs.declared.refusals.Kind8.TheVariants.{Long, Size}
+use Rattle.script_text.specs.declared.refusals.RefusalKind.TheVariants.{Long, Size}
 use Rattle.script_text.specs.declared.refusals.Refusal.{Refusal}
 use Rattle.store_laws.specs.Texts.{EndsLine}
 

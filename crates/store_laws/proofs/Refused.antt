@@ -12,7 +12,7 @@ use Rattle.script_places.specs.declared.places.Place.{Place}
 use Rattle.script_text.specs.Forms.{said}
 use Rattle.script_text.specs.Lines.{line_after}
 use Rattle.script_text.specs.declared.items.Item.TheVariants as item
-use Rattle.script_text.specs.declared.refusals.Kind8.{Kind8}
+use Rattle.script_text.specs.declared.refusals.RefusalKind.{RefusalKind}
 use Rattle.serving.specs.Lives.{no_plan}
 use Rattle.run_commands.proofs.Overs.{onward, over}
 use Rattle.run_commands.specs.Bases.{counts_of}
@@ -57,7 +57,7 @@ goes_both line lines d e next after bytes is runs rest h =
     subst (λ (c : Course Doing). IsStopped (onward (Lines lines) c)) (sym runs) (stops_behind bytes (Lines lines after) (rest (stops_in bytes (Lines lines next) whole)))
 
 -- a line that is refused
-stops_at : (line : List ℕ) (lines : List (List ℕ)) (e : Doing) (why : Kind8) → asked e.place (counts_of e.state) line ≡ Err why → IsStopped (Lines (line ∷ lines) e)
+stops_at : (line : List ℕ) (lines : List (List ℕ)) (e : Doing) (why : RefusalKind) → asked e.place (counts_of e.state) line ≡ Err why → IsStopped (Lines (line ∷ lines) e)
 stops_at line lines e why is = subst (λ (c : Course Doing). IsStopped (onward (Lines lines) c)) (sym (ap (λ (a : Asked). done_by e a) is)) tt
 
 module _ (plan : Plan) where
@@ -77,7 +77,7 @@ module _ (plan : Plan) where
         let r = run_line plan count d q line bytes next each goes in
         goes_both line lines d At next (runs_as (line_after count) next) bytes goes r.goes (λ k. rest (line_after count) next r.place_is k) h
 
-    stops_by : (a : Asked) → asked d.place (counts_of d.state) line ≡ a → ((why : Kind8) → asked d.place (counts_of d.state) line ≡ Err why → asked q (counts_of d.state) line ≡ Err why)
+    stops_by : (a : Asked) → asked d.place (counts_of d.state) line ≡ a → ((why : RefusalKind) → asked d.place (counts_of d.state) line ≡ Err why → asked q (counts_of d.state) line ≡ Err why)
         → IsStopped (Lines (line ∷ lines) d) → IsStopped (Lines (line ∷ lines) At)
     stops_by (Ok r) is refused h = stops_taken r.0 r.1 (on_line d line) is refl h
     stops_by (Err why) is refused h = stops_at line lines At why (refused why is)

@@ -17,8 +17,8 @@ use Rattle.script_text.specs.Forms.{said}
 use Rattle.script_text.specs.Lines.{line_after}
 use Rattle.script_text.specs.declared.items.Item.{Item}
 use Rattle.script_text.specs.declared.items.Item.TheVariants as item
-use Rattle.script_text.specs.declared.refusals.Kind8.{Kind8}
-use Rattle.script_text.specs.declared.refusals.Kind8.TheVariants as kind
+use Rattle.script_text.specs.declared.refusals.RefusalKind.{RefusalKind}
+use Rattle.script_text.specs.declared.refusals.RefusalKind.TheVariants as kind
 use Rattle.store_laws.specs.Texts.{opens_by}
 
 -- ---- places
@@ -53,7 +53,7 @@ module _ (plan : Plan) (lines : ℕ) where
   runs_if true x y x' y' h k = h
   runs_if false x y x' y' h k = k
 
-  runs_then : {T : Type 0} (f g : T → Asked) (r : Result T Kind8) → ((t : T) → Runs (f t) (g t)) → Runs (and_then f r) (and_then g r)
+  runs_then : {T : Type 0} (f g : T → Asked) (r : Result T RefusalKind) → ((t : T) → Runs (f t) (g t)) → Runs (and_then f r) (and_then g r)
   runs_then f g (Ok t) h = h t
   runs_then f g (Err why) h = refl
 
@@ -136,7 +136,7 @@ module _ (plan : Plan) (lines : ℕ) where
       (subst (λ (q : Place). Runs plan (line_after lines) (asked q c line) (asked (as_run lines q) c line)) (sym at) (runs_line c p line))
 
   -- what `once` refuses
-  pub batch_refused : (p : Place) (c : Counts) (line : List ℕ) (why : Kind8) → p ≡ in_batches plan p → asked p c line ≡ Err why → asked (as_run lines p) c line ≡ Err why
+  pub batch_refused : (p : Place) (c : Counts) (line : List ℕ) (why : RefusalKind) → p ≡ in_batches plan p → asked p c line ≡ Err why → asked (as_run lines p) c line ≡ Err why
   batch_refused p c line why at is =
       let r = subst (λ (q : Place). Runs plan (line_after lines) (asked q c line) (asked (as_run lines q) c line)) (sym at) (runs_line c p line) in
       subst (λ (a : Asked). Runs plan (line_after lines) a (asked (as_run lines p) c line)) is r

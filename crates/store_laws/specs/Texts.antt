@@ -4,14 +4,14 @@ use Rattle.script_text.specs.Forms.{said}
 use Rattle.script_text.specs.Laws.{lines_of}
 use Rattle.script_text.specs.declared.items.Item.{Item}
 use Rattle.script_text.specs.declared.items.Item.TheVariants as item
-use Rattle.script_text.specs.declared.refusals.Kind8.{Kind8}
+use Rattle.script_text.specs.declared.refusals.RefusalKind.{RefusalKind}
 
 -- the last line of a text is complete: a line feed (10) ends it
 abbrev pub EndsLine : List ℕ → Type 0
 EndsLine text = (text ≡ []) ⊎ ((front : List ℕ) × (text ≡ front ++ 10 ∷ []))
 
 -- A line that no head has; `rest` is whether the next one is. A skipped line may stand in both.
-abbrev pub opens_by : Bool → Result Item Kind8 → Bool
+abbrev pub opens_by : Bool → Result Item RefusalKind → Bool
 opens_by rest (Ok item.Skip) = rest
 opens_by rest (Ok (item.Catalog name)) = false
 opens_by rest (Ok (item.Piece piece)) = false

@@ -23,18 +23,18 @@ use Rattle.image_text.specs.Payloads.{Batch}
 use Rattle.proc_lang.specs.Catalogs.{Plan, run_of}
 use Rattle.proc_lang.specs.declared.ends.End.{End}
 use Rattle.serving.proofs.Storing.{batches_behind}
-use Rattle.serving.specs.Given.{IsUntold}
+use Rattle.serving.specs.Deliveries.{IsUntold}
 use Rattle.serving.specs.Lives.{IsRunnable, plan_of, state_of}
 use Rattle.serving.specs.Stored.{Holds, HoldsTurned, IsHeld, IsLogging, MayRenew, ReopensTo, crowded, crowded_from, handed_in, is_stale, stale_by, state_at, state_behind, told_by, turned, turned_by}
-use Rattle.serving.specs.declared.batches.Given.{Given}
-use Rattle.serving.specs.declared.batches.Given.TheVariants as given
+use Rattle.serving.specs.declared.batches.Delivery.{Delivery}
+use Rattle.serving.specs.declared.batches.Delivery.TheVariants as delivery
 use Rattle.serving.specs.declared.lives.Live.{Live}
 use Rattle.input_log.specs.declared.limits.TheConstants.{MOST_LOG}
 use Rattle.slot_images.specs.Images.{Checkpoint}
 use Rattle.slot_images.specs.Said.{IsInOrder}
 use Rattle.store_files.specs.Stores.{Rests, slot_in}
 use Rattle.store_openings.specs.Openings.{AreRunnable, LeavesUnwritten, log_in, offset_at, offset_in}
-use Rattle.store_openings.specs.Refusals.{IsForGiven, IsRotating}
+use Rattle.store_openings.specs.Refusals.{IsForDelivery, IsRotating}
 use Rattle.store_openings.specs.Runs.{IsFoundAs, IsLook, IsNotFound, IsNotKept, IsNotRun, IsOpenedFrom, IsRerun, IsStoreOf, IsWithStore, LeftOrRun}
 use Rattle.store_openings.specs.declared.engines.Engines.{Engines}
 use Rattle.store_openings.specs.declared.refusals.NotOpened.{NotOpened}
@@ -142,18 +142,18 @@ module _ (live : Live) (store : Kept) (checkpoint : ℕ) where
 
 -- ---- what a rotation that was refused comes to
 
-pub rotating_of : (why : Given) (rose : Type 0) → IsUntold why ⊥ rose → IsRotating why
-rotating_of given.Told rose h = absurd h
-rotating_of given.NoMemory rose h = tt
-rotating_of given.NoWrite rose h = absurd h
-rotating_of given.NoDisk rose h = tt
+pub rotating_of : (why : Delivery) (rose : Type 0) → IsUntold why ⊥ rose → IsRotating why
+rotating_of delivery.Told rose h = absurd h
+rotating_of delivery.NoMemory rose h = tt
+rotating_of delivery.NoWrite rose h = absurd h
+rotating_of delivery.NoDisk rose h = tt
 
-pub not_kept : (old new : History) (store : Kept) (why : Given) (end : NotOpened) → IsUntold why ⊥ (Rose old.faults new.faults) → IsForGiven why end
+pub not_kept : (old new : History) (store : Kept) (why : Delivery) (end : NotOpened) → IsUntold why ⊥ (Rose old.faults new.faults) → IsForDelivery why end
     → IsNotKept old new store end
-not_kept old new store given.Told end h is = absurd h
-not_kept old new store given.NoMemory end h is = subst (λ (e : NotOpened). IsNotKept old new store e) (sym is) tt
-not_kept old new store given.NoWrite end h is = absurd h
-not_kept old new store given.NoDisk end h is = subst (λ (e : NotOpened). IsNotKept old new store e) (sym is) h
+not_kept old new store delivery.Told end h is = absurd h
+not_kept old new store delivery.NoMemory end h is = subst (λ (e : NotOpened). IsNotKept old new store e) (sym is) tt
+not_kept old new store delivery.NoWrite end h is = absurd h
+not_kept old new store delivery.NoDisk end h is = subst (λ (e : NotOpened). IsNotKept old new store e) (sym is) h
 
 pub looked_leaves : (old new : History) → Still old new → LeavesAll old new (MayLeave old old.now)
 looked_leaves old new still = leaves_still old new (MayLeave old old.now) still (λ images left. left)

@@ -1,7 +1,7 @@
 -- What an answer of a store comes to where it is opened.
 use Rattle.std.specs.Prelude.{◌≡◌, ⊤}
-use Rattle.serving.specs.declared.batches.Given.{Given}
-use Rattle.serving.specs.declared.batches.Given.TheVariants as given
+use Rattle.serving.specs.declared.batches.Delivery.{Delivery}
+use Rattle.serving.specs.declared.batches.Delivery.TheVariants as delivery
 use Rattle.store_files.specs.declared.refusals.StoreRefused.{StoreRefused}
 use Rattle.store_files.specs.declared.refusals.StoreRefused.TheVariants as refused
 use Rattle.store_openings.specs.declared.refusals.NotOpened.{NotOpened}
@@ -25,14 +25,14 @@ IsFor refused.Exists why = ⊥
 IsFor (refused.Closed faults) why = ⊥
 
 -- what a rotation that does not end well may answer
-abbrev pub IsRotating : Given → Type 0
-IsRotating given.NoMemory = ⊤
-IsRotating given.NoDisk = ⊤
-IsRotating given.Told = ⊥
-IsRotating given.NoWrite = ⊥
+abbrev pub IsRotating : Delivery → Type 0
+IsRotating delivery.NoMemory = ⊤
+IsRotating delivery.NoDisk = ⊤
+IsRotating delivery.Told = ⊥
+IsRotating delivery.NoWrite = ⊥
 
-abbrev pub IsForGiven : Given → NotOpened → Type 0
-IsForGiven given.NoMemory why = why ≡ refusal.NoMemory
-IsForGiven given.NoDisk why = why ≡ refusal.NoDisk
-IsForGiven given.Told why = ⊥
-IsForGiven given.NoWrite why = ⊥
+abbrev pub IsForDelivery : Delivery → NotOpened → Type 0
+IsForDelivery delivery.NoMemory why = why ≡ refusal.NoMemory
+IsForDelivery delivery.NoDisk why = why ≡ refusal.NoDisk
+IsForDelivery delivery.Told why = ⊥
+IsForDelivery delivery.NoWrite why = ⊥

@@ -1,9 +1,9 @@
 // Why a store is not opened.
 ghost use Rattle.std.specs.Prelude.{◌≡◌};
-ghost use Rattle.store_openings.specs.Refusals.{IsAttaching, IsFor, IsForGiven, IsRotating};
+ghost use Rattle.store_openings.specs.Refusals.{IsAttaching, IsFor, IsForDelivery, IsRotating};
 
 use aria_store::StoreRefused;
-use serving::Given;
+use serving::Delivery;
 
 /// Why a store is not opened.
 #[derive(Clone, Copy, Debug, PartialEq, Eq)]
@@ -33,13 +33,13 @@ pub(crate) fn not_attached(refused: StoreRefused) -> NotOpened
 }
 
 /// Why the next checkpoint was not written.
-pub(crate) fn not_rotated(why: Given) -> NotOpened
+pub(crate) fn not_rotated(why: Delivery) -> NotOpened
     requires { IsRotating why }
-    ensures { IsForGiven why result }
+    ensures { IsForDelivery why result }
 {
     match why {
-        Given::NoMemory => NotOpened::NoMemory,
-        Given::NoDisk => NotOpened::NoDisk,
-        Given::Told | Given::NoWrite => unreachable!(),
+        Delivery::NoMemory => NotOpened::NoMemory,
+        Delivery::NoDisk => NotOpened::NoDisk,
+        Delivery::Told | Delivery::NoWrite => unreachable!(),
     }
 }

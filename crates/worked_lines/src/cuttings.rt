@@ -3,7 +3,7 @@ ghost use Rattle.std.specs.Prelude.{◌<◌};
 
 use crate::words::same;
 use aria_base::Bytes;
-use script_text::{Kind8, Lines, LinesRefused};
+use script_text::{Lines, LinesRefused, RefusalKind};
 use std::alloc::Global;
 use std::test::Fail;
 
@@ -66,8 +66,8 @@ fn add_refusal(alloc: Global, refused: LinesRefused, out: &mut Vec<u8>) -> Resul
         return Err(Fail::new("there is memory"));
     };
     let word = match refusal.kind {
-        Kind8::Long => "long",
-        Kind8::Size => "size",
+        RefusalKind::Long => "long",
+        RefusalKind::Size => "size",
         _ => "another kind",
     };
     let line = refusal.line;

@@ -5,7 +5,8 @@ ghost use Rattle.script_text.specs.Fits.{is_row, is_tx, is_settings};
 use aria_base::{Call, Key, Row};
 use proc_lang::Catalog;
 use script_text::{
-    Item, Kind8, LinesRefused, fit_row, fit_settings, fit_tx, read_line, write_call, write_row,
+    Item, LinesRefused, RefusalKind, fit_row, fit_settings, fit_tx, read_line, write_call,
+    write_row,
 };
 use std::alloc::Global;
 use std::fmt::Debug;
@@ -99,12 +100,12 @@ fn refusal_word(alloc: Global, refused: LinesRefused) -> Result<Vec<u8>, Fail> {
     }
 }
 
-fn word_of(kind: &Kind8) -> &'static [u8] {
+fn word_of(kind: &RefusalKind) -> &'static [u8] {
     match kind {
-        Kind8::Byte => b"byte",
-        Kind8::Word => b"word",
-        Kind8::Name => b"name",
-        Kind8::Argument => b"argument",
+        RefusalKind::Byte => b"byte",
+        RefusalKind::Word => b"word",
+        RefusalKind::Name => b"name",
+        RefusalKind::Argument => b"argument",
         _ => b"no kind of a line by itself",
     }
 }

@@ -4,7 +4,7 @@
 //!
 //! ```text
 //! Wait::Moved of a key of `seat`      15 wait moved seat 4 "c d"
-//! Kind8::Site on line 3               refused 3 place
+//! RefusalKind::Site on line 3               refused 3 place
 //! ```
 //!
 //! `catalogs` makes the catalogue of the rows, and `checks` is how a test compares.

@@ -5,30 +5,33 @@ use answer_text::{
 };
 use aria_base::Memory;
 use cat_text::catalog_of;
-use script_text::{CatFault, Kind8, LinesRefused, Refusal};
+use script_text::{CatFault, LinesRefused, Refusal, RefusalKind};
 use std::alloc::Global;
 use std::test::Fail;
 
 /// The kinds of refusal, but for those of a catalogue that a text tells.
-const KINDS: [(Kind8, &str); 12] = [
-    (Kind8::Long, "refused 3 long\n"),
-    (Kind8::Byte, "refused 3 byte\n"),
-    (Kind8::Word, "refused 3 word\n"),
-    (Kind8::Name, "refused 3 name\n"),
-    (Kind8::Argument, "refused 3 argument\n"),
-    (Kind8::Site, "refused 3 place\n"),
-    (Kind8::Unfinished, "refused 3 unfinished\n"),
-    (Kind8::Size, "refused 3 size\n"),
-    (Kind8::Batch, "refused 3 batch\n"),
+const KINDS: [(RefusalKind, &str); 12] = [
+    (RefusalKind::Long, "refused 3 long\n"),
+    (RefusalKind::Byte, "refused 3 byte\n"),
+    (RefusalKind::Word, "refused 3 word\n"),
+    (RefusalKind::Name, "refused 3 name\n"),
+    (RefusalKind::Argument, "refused 3 argument\n"),
+    (RefusalKind::Site, "refused 3 place\n"),
+    (RefusalKind::Unfinished, "refused 3 unfinished\n"),
+    (RefusalKind::Size, "refused 3 size\n"),
+    (RefusalKind::Batch, "refused 3 batch\n"),
     (
-        Kind8::Gap {
+        RefusalKind::Gap {
             got: u64::MAX,
             wanted: 2,
         },
         "refused 3 gap 18446744073709551615 2\n",
     ),
-    (Kind8::Numbers, "refused 3 numbers\n"),
-    (Kind8::Catalog(CatFault::Long), "refused 3 catalog long\n"),
+    (RefusalKind::Numbers, "refused 3 numbers\n"),
+    (
+        RefusalKind::Catalog(CatFault::Long),
+        "refused 3 catalog long\n",
+    ),
 ];
 
 #[test]

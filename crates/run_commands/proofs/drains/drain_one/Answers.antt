@@ -7,7 +7,7 @@ use Rattle.batch_core.specs.Steps.{State}
 use Rattle.script_course.specs.Courses.{Course}
 use Rattle.script_course.specs.Served.{Serves}
 use Rattle.script_course.specs.declared.stops.Stop.TheVariants as stop
-use Rattle.script_text.specs.declared.refusals.Kind8.TheVariants.{Numbers}
+use Rattle.script_text.specs.declared.refusals.RefusalKind.TheVariants.{Numbers}
 use Rattle.serving.specs.Drains.{state_result}
 use Rattle.serving.specs.Lives.{plan_of, state_of}
 use Rattle.serving.specs.Stored.{IsLogging, stored_state}

@@ -6,10 +6,10 @@ use Rattle.aria_base.specs.declared.calls.Call.{Call}
 use Rattle.disk_model.specs.Histories.{LeavesAll}
 use Rattle.aria_base.specs.Faults.{Rose}
 use Rattle.aria_store.specs.Stands.{Kept, added}
-use Rattle.serving.specs.Given.{IsUntold}
+use Rattle.serving.specs.Deliveries.{IsUntold}
 use Rattle.serving.specs.Lives.{IsNext, next_state, next_text, plan_of}
 use Rattle.serving.specs.Stored.{Holds, ReopensToEither, logged, next_batch, stored_state, with_logged}
-use Rattle.serving.specs.declared.batches.Given.{Given}
+use Rattle.serving.specs.declared.batches.Delivery.{Delivery}
 use Rattle.serving.specs.declared.lives.Live.{Live}
 use Rattle.script_course.proofs.Turns.{front_all}
 use Rattle.serving.proofs.Served.{holds_after, holds_leaves, images_after, left_after, next_after, none_given, untold_tells}
@@ -104,7 +104,7 @@ pub returns-in-Err-clause-storeless : goal.returns-in-Err-clause-storeless
 returns-in-Err-clause-storeless g c none e = let no : false ≡ true = c.in-Err.ensures.storeless none in absurd cc
 
 pub returns-in-Err-tell_batch-clause-storeless : goal.returns-in-Err-tell_batch-clause-storeless
-returns-in-Err-tell_batch-clause-storeless g c none e = subst (λ (w : Given). IsUntold w (Rose (g.K.Sink.faults c.args.out.now) (g.K.Sink.faults c.tell_batch.new.out)) ⊥) e c.in-Err-tell_batch.ensures.cause
+returns-in-Err-tell_batch-clause-storeless g c none e = subst (λ (w : Delivery). IsUntold w (Rose (g.K.Sink.faults c.args.out.now) (g.K.Sink.faults c.tell_batch.new.out)) ⊥) e c.in-Err-tell_batch.ensures.cause
 
 pub returns-in-Err-rotate_where_due-clause-storeless : goal.returns-in-Err-rotate_where_due-clause-storeless
 returns-in-Err-rotate_where_due-clause-storeless g c none e =

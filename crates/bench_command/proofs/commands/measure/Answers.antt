@@ -5,7 +5,7 @@ use Rattle.workloads.specs.Generators.{generator_of, name_of}
 use Rattle.bench_command.specs.Benches.{ran_of}
 use Rattle.bench_command.specs.Summaries.{summary_text}
 use Rattle.bench_command.specs.declared.tallies.Tally.{Tally}
-use Rattle.bench_command.proofs.benches.measure.Goals as goal
+use Rattle.bench_command.proofs.commands.measure.Goals as goal
 
 pub returns-clause-text : goal.returns-clause-text
 returns-clause-text g c =
