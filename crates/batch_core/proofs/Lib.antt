@@ -1,5 +1,5 @@
 pub mod Carriers
 pub mod Consistency
-mod Numbers
+pub mod Numbers
 pub mod Progress
 pub mod Serial

@@ -25,11 +25,17 @@ use Rattle.batch_engine.specs.Commits.{IsCommitted, IsSettled}
 use Rattle.batch_engine.specs.Engines.{Between, IsReady, state_in, handed_by}
 use Rattle.batch_engine.specs.declared.commits.Committed.{Committed}
 use Rattle.batch_engine.specs.declared.settlements.Settled.{Settled}
+use Rattle.proc_exec.specs.Outcomes.{outcome_at}
+use Rattle.batch_engine.specs.Lists.{sets_in}
 use Rattle.batch_engine.proofs.Readying.{length-list, ready-after}
 
 pub many-verdicts : (tree : Request → Tree Key Cells End) (rule : Rule) (start : Database) (list : List Request) (c : Committed)
     → IsCommitted tree rule start list c → length c.verdicts.items ≡ length list
 many-verdicts tree rule start list c h = ap length h.verdicts ∙ length-map _ (λ d. d.verdict) ∙ length-judged (touching (on_start is_done tree start) key_cmp) rule _ list
+
+pub many-sets : (tree : Request → Tree Key Cells End) (rule : Rule) (start : Database) (list : List Request) (c : Committed)
+    → IsCommitted tree rule start list c → length c.sets.items ≡ length list
+many-sets tree rule start list c h = ap length h.sets ∙ length-map list (λ q. sets_in (outcome_at tree start q))
 
 -- the engine by its fields, `e`, and as its callers see it, `self`
 module _ {e self : Between} (view : e ≡ self) (config : Config) (calls : List Call) where

@@ -2,5 +2,6 @@ mod Batching
 mod Committing
 mod Deciding
 mod Judging
+mod LateNumbers
 pub mod Readying
 mod Settling

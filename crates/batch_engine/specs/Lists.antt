@@ -1,5 +1,5 @@
 -- The requests of a batch, apart by what the commit phase decided of them.
-use Rattle.std.specs.Prelude.{List, [], ◌∷◌}
+use Rattle.std.specs.Prelude.{ℕ, ◌+◌, List, [], ◌∷◌}
 use Rattle.aria_base.specs.declared.calls.Request.{Request}
 use Rattle.batch_rules.specs.declared.verdicts.Verdict.{Verdict}
 use Rattle.batch_rules.specs.declared.verdicts.Verdict.TheVariants.{Finish, Wait}
@@ -21,3 +21,9 @@ abbrev pub waiting_among : List Request → List Sets → List Verdict → List 
 waiting_among (request ∷ requests) (sets ∷ more) (Finish raw ∷ verdicts) = waiting_among requests more verdicts
 waiting_among (request ∷ requests) (sets ∷ more) (Wait cause ∷ verdicts) = waiting_with request sets ∷ waiting_among requests more verdicts
 waiting_among requests sets verdicts = []
+
+-- the TIDs of those that wait, where the first request has this one
+abbrev pub tids_among : ℕ → List Verdict → List ℕ
+tids_among tid [] = []
+tids_among tid (Finish raw ∷ verdicts) = tids_among (tid + 1) verdicts
+tids_among tid (Wait cause ∷ verdicts) = tid ∷ tids_among (tid + 1) verdicts

@@ -1,12 +1,12 @@
 // A batch up to the end of its commit phase.
 ghost use Rattle.std.specs.Prelude.{◌≡◌, ◌≤◌, length, IfOk, Some};
 ghost use Rattle.aria_base.specs.declared.limits.TheConstants.{MOST_REQUESTS, MOST_WORKERS};
+ghost use Rattle.dep_rules.specs.Decisions.{reads_of, writes_of};
 ghost use Rattle.proc_lang.specs.Catalogs.{run_of};
 ghost use Rattle.batch_engine.specs.Commits.{IsCommitted};
-ghost use Rattle.batch_engine.specs.Lasts.{marks_of_last};
-ghost use Rattle.batch_engine.specs.Marks.{HasMarked};
+ghost use Rattle.batch_engine.specs.Lasts.{marks_of};
+ghost use Rattle.batch_engine.specs.Marks.{HasMarked, NumbersKeys};
 
-use crate::lasts::Last;
 use crate::lists::take_apart;
 use crate::markings::mark;
 use crate::marks::Marked;
@@ -43,13 +43,13 @@ pub(crate) fn commit<P: Pace + Sync, R: Threads + Sync>(
     catalog: &Catalog,
     tables: Tables,
     list: &[Request],
-    last: Option<Last>,
     config: &Config,
     pace: &P,
-) -> Result<(Last, Committed), Memory>
+) -> Result<(Marked, Committed), Memory>
     requires list { length list.now ≤ MOST_REQUESTS }
     requires workers { (1 ≤ config.now.workers) × (config.now.workers ≤ MOST_WORKERS) }
-    ensures marked { IfOk result (λ r. HasMarked (run_of catalog.now) tables list.now (Some (marks_of_last r.0))) }
+    ensures marked { IfOk result (λ r. HasMarked (run_of catalog.now) tables list.now (Some (marks_of r.0))) }
+    ensures numbered { IfOk result (λ r. NumbersKeys reads_of writes_of r.1.sets.items r.0.numbered) }
     ensures committed { IfOk result (λ r. IsCommitted (run_of catalog.now) config.now.rule tables list.now r.1) }
 {
     touches_few();
@@ -57,8 +57,8 @@ pub(crate) fn commit<P: Pace + Sync, R: Threads + Sync>(
     let start = Snapshot::of(&tables);
     let outcomes = execute_all(rt, alloc, catalog, start, list, workers, pace)?;
     let runs = take_apart(alloc, outcomes)?;
-    let last = mark(rt, alloc, last, &runs.sets, workers, pace)?;
-    let Marked { numbered, closed } = &last.marked;
+    let last = mark(rt, alloc, &runs.sets, workers, pace)?;
+    let Marked { numbered, closed } = &last;
     let (words, tag) = (closed.words(), closed.tag());
     let verdicts = decide_all(rt, alloc, numbered, words, tag, config.rule, workers)?;
     let tables = install_changes(rt, alloc, tables, runs.changes, &verdicts, workers, pace)?;

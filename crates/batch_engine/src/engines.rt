@@ -11,7 +11,6 @@ ghost use Rattle.batch_engine.specs.Lasts.{marks_of};
 ghost use Rattle.batch_engine.specs.Marks.{HasMarked};
 
 use crate::commits::commit;
-use crate::lasts::Last;
 use crate::marks::Marked;
 use crate::settlements::settle;
 use aria_base::{Call, Duplicate, Items, MOST_REQUESTS, Memory, Pace, Request};
@@ -33,7 +32,7 @@ pub struct Engine {
     carried: Items<Request>,
     batches: u64,
     requests: u64,
-    last: Option<Last>,
+    last: Option<Marked>,
 }
 
 impl Model for Engine {
@@ -103,12 +102,13 @@ impl Engine {
             carried,
             batches,
             requests,
-            last,
+            ..
         } = self;
         let total = requests + new.len() as u64;
         let list = number_calls(carried.into_vec(), new, requests)?;
-        let (last, committed) = commit(rt, alloc, &catalog, tables, &list, last, config, pace)?;
-        let settled = settle(rt, alloc, &catalog, list, committed, config, pace)?;
+        let (last, committed) = commit(rt, alloc, &catalog, tables, &list, config, pace)?;
+        let numbered = &last.numbered;
+        let settled = settle(rt, alloc, &catalog, list, committed, numbered, config, pace)?;
         let answer = Answer {
             number: batches + 1,
             lines: settled.lines,
@@ -193,7 +193,6 @@ impl Engine {
         requires { self.now.marked ≢ None }
         ensures { Some (marks_of result.now) ≡ self.now.marked }
     {
-        let last = self.last.as_ref().unwrap();
-        &last.marked
+        self.last.as_ref().unwrap()
     }
 }

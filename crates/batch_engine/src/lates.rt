@@ -1,13 +1,15 @@
 // The late run at the end of a batch, where enough requests wait.
-ghost use Rattle.std.specs.Prelude.{◌≡◌, ◌≤◌, length, map, drop, IfOk};
+ghost use Rattle.std.specs.Prelude.{◌≡◌, ◌≤◌, length, map, drop, All, IfOk};
 ghost use Rattle.aria_base.specs.declared.limits.TheConstants.{MOST_PERCENT, MOST_REQUESTS, MOST_WORKERS};
 ghost use Rattle.proc_lang.specs.Catalogs.{run_of};
 ghost use Rattle.proc_exec.specs.Lates.{fate_of};
+ghost use Rattle.dep_rules.specs.Sheets.{IsTid};
+ghost use Rattle.fallback_locks.specs.Numbers.{StandFor};
 ghost use Rattle.batch_engine.specs.Answers.{still_waiting, first_ended};
 ghost use Rattle.batch_engine.specs.Lates.{is_due, LateRun};
 
 use aria_base::{Memory, Pace, Request};
-use dep_rules::Config;
+use dep_rules::{Config, Numbered};
 use fallback_locks::rerun;
 use proc_exec::{Late, Waiting};
 use proc_lang::Catalog;
@@ -33,11 +35,15 @@ pub(crate) fn run_late<P: Pace + Sync, R: Threads + Sync>(
     catalog: &Catalog,
     tables: Tables,
     waiting: &[Waiting],
+    numbered: &Numbered,
+    tids: &[u32],
     size: usize,
     config: &Config,
     pace: &P,
 ) -> Result<(Tables, Vec<Late>), Memory>
     requires waiting { length waiting.now ≤ size }
+    requires tids { All (λ tid. IsTid numbered.now tid) tids.now }
+    requires numbered { StandFor numbered.now tids.now waiting.now }
     requires size { size ≤ MOST_REQUESTS }
     requires percent { config.now.fallback ≤ MOST_PERCENT }
     requires workers { (1 ≤ config.now.workers) × (config.now.workers ≤ MOST_WORKERS) }
@@ -46,7 +52,17 @@ pub(crate) fn run_late<P: Pace + Sync, R: Threads + Sync>(
     if !is_due(config.fallback, waiting.len(), size) {
         return Ok((tables, Vec::new(alloc)));
     }
-    rerun(rt, alloc, catalog, tables, waiting, config.workers, pace)
+    rerun(
+        rt,
+        alloc,
+        catalog,
+        tables,
+        waiting,
+        numbered,
+        tids,
+        config.workers,
+        pace,
+    )
 }
 
 /// Of the requests that wait, those that still do after these results, for the next batch's list.

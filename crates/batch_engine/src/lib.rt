@@ -9,7 +9,7 @@
 //!      │ number
 //!      v
 //!    list ──execute_all──> keys read and written, rows, ends
-//!                │ Kept::number, reserve
+//!                │ number_by, reserve
 //!                v
 //!           Marked ──decide──> verdicts ──install──> rows
 //!                                 │ who waits          │
@@ -22,7 +22,6 @@
 mod answers;
 mod commits;
 mod engines;
-mod lasts;
 mod lates;
 mod lists;
 mod markings;

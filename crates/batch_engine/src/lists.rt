@@ -1,7 +1,8 @@
 // The list of a batch, and what its requests come to, apart by who needs it.
-ghost use Rattle.std.specs.Prelude.{◌≡◌, ◌++◌, ◌∷◌, [], map, IfOk, OnOk};
+ghost use Rattle.std.specs.Prelude.{◌≡◌, ◌≤◌, ◌++◌, ◌∷◌, [], length, map, IfOk, OnOk};
+ghost use Rattle.aria_base.specs.declared.limits.TheConstants.{MOST_REQUESTS};
 ghost use Rattle.batch_rules.specs.Touches.{keys_of};
-ghost use Rattle.batch_engine.specs.Lists.{sets_in, waiting_among};
+ghost use Rattle.batch_engine.specs.Lists.{sets_in, tids_among, waiting_among};
 
 use aria_base::{Changes, Duplicate, Items, Keys, Memory, Request};
 use batch_rules::verdicts::Verdict;
@@ -19,6 +20,33 @@ pub(crate) fn numbers_of(alloc: Global, list: &[Request]) -> Result<Vec<u64>, Me
         numbers.push(request.q)?;
     }
     Ok(numbers)
+}
+
+/// The TIDs of the requests that wait, in their order.
+pub(crate) fn tids_of(alloc: Global, verdicts: &[Verdict]) -> Result<Vec<u32>, Memory>
+    requires { length verdicts.now ≤ MOST_REQUESTS }
+    ensures { IfOk result (λ tids. tids.items ≡ tids_among 1 verdicts.now) }
+{
+    let mut tids = Vec::new(alloc);
+    let mut tid = 1;
+    for verdict in verdicts {
+        note_if_it_waits(&mut tids, tid, verdict)?;
+        tid += 1;
+    }
+    Ok(tids)
+}
+
+/// Notes the TID of a request that waits.
+fn note_if_it_waits(tids: &mut Vec<u32>, tid: u32, verdict: &Verdict) -> Result<(), Memory>
+    ensures { OnOk result (tids.new.items ≡ tids.old.items ++ tids_among tid (verdict.now ∷ [])) }
+{
+    match verdict {
+        Verdict::Finish { raw: _ } => Ok(()),
+        Verdict::Wait(_) => {
+            tids.push(tid)?;
+            Ok(())
+        }
+    }
 }
 
 /// What the requests of a batch come to on its start.

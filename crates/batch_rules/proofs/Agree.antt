@@ -17,13 +17,13 @@ or_false true e = refl
 or_false false e = e
 
 -- what holds where a or b does still holds where a is weaker
-weaker : (a c b : Bool) → (a ≡ true → c ≡ true) → (a || b) ≡ true → (c || b) ≡ true
+pub weaker : (a c b : Bool) → (a ≡ true → c ≡ true) → (a || b) ≡ true → (c || b) ≡ true
 weaker true c b f e = or_left c b (f refl)
 weaker false c b f e = or_right c b e
 
 module _ {K V : Type 0} (R : K → K → Ordering) where
   -- notes only grow
-  among_noted : (n : Noted K V) (visit : Visit K V) (q : K) → is_among R n.reads q ≡ true → is_among R (noted R n visit).reads q ≡ true
+  pub among_noted : (n : Noted K V) (visit : Visit K V) (q : K) → is_among R n.reads q ≡ true → is_among R (noted R n visit).reads q ≡ true
   among_noted n (Read k) q e = elim (is_among R n.reads k || is_among R (keys_of n.writes) k) as (λ b. is_among R (if b then n.reads else n.reads ++ k ∷ []) q ≡ true) [
     | true ↦ e
     | false ↦ list_any-append (eq_by_cmp R q) n.reads (k ∷ []) ∙ or_left _ _ e
@@ -36,7 +36,7 @@ module _ {K V : Type 0} (R : K → K → Ordering) where
 
 module _ {K V : Type 0} {R : K → K → Ordering} (o : IsTotalOrder R) where
   -- a key that was read is in the read set, or was written before
-  has_read : (n : Noted K V) (k : K) → (is_among R (noted R n (Read k)).reads k || is_among R (keys_of n.writes) k) ≡ true
+  pub has_read : (n : Noted K V) (k : K) → (is_among R (noted R n (Read k)).reads k || is_among R (keys_of n.writes) k) ≡ true
   has_read n k = elim (is_among R n.reads k) as (λ a. is_among R n.reads k ≡ a → (is_among R (if a || is_among R (keys_of n.writes) k then n.reads else n.reads ++ k ∷ []) k || is_among R (keys_of n.writes) k) ≡ true) [
     | true ↦ λ e. or_left _ _ e
     | false ↦ λ e. elim (is_among R (keys_of n.writes) k) as (λ b. (is_among R (if b then n.reads else n.reads ++ k ∷ []) k || b) ≡ true) [

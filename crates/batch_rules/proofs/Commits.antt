@@ -1,5 +1,5 @@
 -- What the verdicts say of two requests that finish, and so of the order in which they are placed.
-use Rattle.std.proofs.Common.{◌≡◌, List, [], ◌∷◌, ◌++◌, reverse, true, false, cond, refl, sym, ap, ◌∙◌, subst, Ordering}
+use Rattle.std.proofs.Common.{◌≡◌, List, [], ◌∷◌, ◌++◌, reverse, Bool, true, false, cond, refl, sym, ap, ◌∙◌, subst, Ordering}
 use Rattle.std.specs.Prelude.{if◌then◌else◌, slice_index_or}
 use Rattle.std.specs.Cmp.{IsTotalOrder}
 use Rattle.std.specs.List.{All, filter}
@@ -9,8 +9,10 @@ use Rattle.std.proofs.lemmas.List.Sorted.{IsPermutation-reverse, All-permutation
 use Rattle.batch_rules.specs.declared.verdicts.Verdict.{Verdict}
 use Rattle.batch_rules.specs.declared.verdicts.Verdict.TheVariants.{Finish, Wait}
 use Rattle.batch_rules.specs.Verdicts.{Dependencies, by_keys, meets, finishes, goes_ahead, keeps_turn}
+use Rattle.batch_rules.specs.Touches.{is_among}
 use Rattle.batch_rules.specs.Batches.{placed}
-use Rattle.batch_rules.proofs.Meets.{meets_turned}
+use Rattle.batch_rules.specs.Runs.{TellsApart}
+use Rattle.batch_rules.proofs.Meets.{apart_at, meets_turned}
 use Rattle.batch_rules.proofs.Lists.{All-filtered}
 use Rattle.batch_rules.proofs.Pairs.{Pairs, Pairs_middle}
 
@@ -42,9 +44,9 @@ pub record IsClean {X : Type 0} (on : Dependencies X) (verdict_of : X → Verdic
   pub war : goes_ahead (verdict_of d) ≡ true → on.war d x ≡ false
   pub raw : keeps_turn (verdict_of d) ≡ true → on.raw d x ≡ false
 
--- d may run behind x as it ran on the start: it reads and writes nothing that x writes
-pub record IsApart {K X : Type 0} (R : K → K → Ordering) (reads writes : X → List K) (x d : X) : Type 0 where
-  pub reads_none : meets R (reads d) (writes x) ≡ false
+-- d may run behind x as it ran on the start: it looked at nothing that x writes, and writes nothing that x writes
+pub record IsApart {K X : Type 0} (R : K → K → Ordering) (sees : X → K → Bool) (writes : X → List K) (x d : X) : Type 0 where
+  pub sees_none : (k : K) → is_among R (writes x) k ≡ true → sees d k ≡ false
   pub writes_none : meets R (writes d) (writes x) ≡ false
 
 pub ahead_finishes : (v : Verdict) → goes_ahead v ≡ true → finishes v ≡ true
@@ -55,29 +57,37 @@ pub turn_finishes : (v : Verdict) → keeps_turn v ≡ true → finishes v ≡ t
 turn_finishes (Finish raw) e = refl
 turn_finishes (Wait cause) e = e
 
-module _ {K X : Type 0} {R : K → K → Ordering} (o : IsTotalOrder R) (anti : IsAntisymmetric R) (verdict_of : X → Verdict) (reads writes : X → List K) where
-  before_it : (x d : X) → IsClean (by_keys R reads writes) verdict_of x d → goes_ahead (verdict_of d) ≡ true → IsApart R reads writes d x
+-- common keys tell
+pub by_keys_tell : {K X : Type 0} {R : K → K → Ordering} → IsTotalOrder R → IsAntisymmetric R → (reads writes : X → List K) → TellsApart R (by_keys R reads writes) (λ x. is_among R (reads x)) writes
+by_keys_tell o anti reads writes = record {
+  waw = λ d x e. e;
+  raw = λ d x e k within. apart_at o anti (writes x) (reads d) k (meets_turned o anti (reads d) (writes x) e) within;
+  war = λ d x e k within. apart_at o anti (writes d) (reads x) k e within;
+}
+
+module _ {K X : Type 0} {R : K → K → Ordering} (o : IsTotalOrder R) (anti : IsAntisymmetric R) (verdict_of : X → Verdict) (on : Dependencies X) (sees : X → K → Bool) (writes : X → List K) (tell : TellsApart R on sees writes) where
+  before_it : (x d : X) → IsClean on verdict_of x d → goes_ahead (verdict_of d) ≡ true → IsApart R sees writes d x
   before_it x d c ahead = record {
-    reads_none = meets_turned o anti (writes d) (reads x) (c.war ahead);
-    writes_none = meets_turned o anti (writes d) (writes x) (c.waw (ahead_finishes _ ahead));
+    sees_none = tell.war d x (c.war ahead);
+    writes_none = meets_turned o anti (writes d) (writes x) (tell.waw d x (c.waw (ahead_finishes _ ahead)));
   }
 
-  behind_it : (x d : X) → IsClean (by_keys R reads writes) verdict_of x d → keeps_turn (verdict_of d) ≡ true → IsApart R reads writes x d
-  behind_it x d c turn = record { reads_none = c.raw turn; writes_none = c.waw (turn_finishes _ turn) }
+  behind_it : (x d : X) → IsClean on verdict_of x d → keeps_turn (verdict_of d) ≡ true → IsApart R sees writes x d
+  behind_it x d c turn = record { sees_none = tell.raw d x (c.raw turn); writes_none = tell.waw d x (c.waw (turn_finishes _ turn)) }
 
   -- of what finishes behind x, that which goes ahead may run before it, and the rest behind it
-  pub ahead_apart : (x : X) (xs : List X) → All (IsClean (by_keys R reads writes) verdict_of x) xs → All (λ d. IsApart R reads writes d x) (reverse (filter (λ d. goes_ahead (verdict_of d)) xs))
-  ahead_apart x xs a = All-ahead verdict_of (λ d. IsApart R reads writes d x) xs (λ k d below. before_it x (slice_index_or xs k d) (a k d below))
+  pub ahead_apart : (x : X) (xs : List X) → All (IsClean on verdict_of x) xs → All (λ d. IsApart R sees writes d x) (reverse (filter (λ d. goes_ahead (verdict_of d)) xs))
+  ahead_apart x xs a = All-ahead verdict_of (λ d. IsApart R sees writes d x) xs (λ k d below. before_it x (slice_index_or xs k d) (a k d below))
 
-  pub turn_apart : (x : X) (xs : List X) → All (IsClean (by_keys R reads writes) verdict_of x) xs → All (IsApart R reads writes x) (filter (λ d. keeps_turn (verdict_of d)) xs)
-  turn_apart x xs a = All-in_turn verdict_of (IsApart R reads writes x) xs (λ k d below. behind_it x (slice_index_or xs k d) (a k d below))
+  pub turn_apart : (x : X) (xs : List X) → All (IsClean on verdict_of x) xs → All (IsApart R sees writes x) (filter (λ d. keeps_turn (verdict_of d)) xs)
+  turn_apart x xs a = All-in_turn verdict_of (IsApart R sees writes x) xs (λ k d below. behind_it x (slice_index_or xs k d) (a k d below))
 
-  pub placed_apart : (xs : List X) → Pairs (IsClean (by_keys R reads writes) verdict_of) xs → Pairs (IsApart R reads writes) (placed verdict_of xs)
+  pub placed_apart : (xs : List X) → Pairs (IsClean on verdict_of) xs → Pairs (IsApart R sees writes) (placed verdict_of xs)
   placed_apart [] p = tt
   placed_apart (x ∷ xs) p =
       let rest = placed_apart xs p.1 in
-      subst (Pairs (IsApart R reads writes)) (sym (placed-cons verdict_of x xs))
-      (elim (finishes (verdict_of x)) as (λ b. Pairs (IsApart R reads writes) (if b then reverse (filter (λ d. goes_ahead (verdict_of d)) xs) ++ x ∷ filter (λ d. keeps_turn (verdict_of d)) xs else placed verdict_of xs)) [
-        | true ↦ Pairs_middle (IsApart R reads writes) _ x _ rest (ahead_apart x xs p.0) (turn_apart x xs p.0)
+      subst (Pairs (IsApart R sees writes)) (sym (placed-cons verdict_of x xs))
+      (elim (finishes (verdict_of x)) as (λ b. Pairs (IsApart R sees writes) (if b then reverse (filter (λ d. goes_ahead (verdict_of d)) xs) ++ x ∷ filter (λ d. keeps_turn (verdict_of d)) xs else placed verdict_of xs)) [
+        | true ↦ Pairs_middle (IsApart R sees writes) _ x _ rest (ahead_apart x xs p.0) (turn_apart x xs p.0)
         | false ↦ rest
       ])

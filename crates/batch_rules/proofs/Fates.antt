@@ -11,17 +11,18 @@ use Rattle.batch_rules.specs.declared.verdicts.Rule.{Rule}
 use Rattle.batch_rules.specs.declared.verdicts.Verdict.{Verdict}
 use Rattle.batch_rules.specs.declared.verdicts.Verdict.TheVariants.{Finish, Wait}
 use Rattle.batch_rules.specs.Trees.{Tree, trace_of, end_of}
-use Rattle.batch_rules.specs.Touches.{Declared, keys_of, outside, map_after, installed}
-use Rattle.batch_rules.specs.Verdicts.{Dependencies, by_keys, finishes, waits}
-use Rattle.batch_rules.specs.Batches.{Carrier, Judged, Entry, Fate, Ended, has_ended, placed, judged, finishing, waiting, late_runs, is_late, fate_by, late_fates, late_left, declared, touching, fate_after, lates_behind, settled, after_commit, late_results, late_rest, on_start, batch}
+use Rattle.batch_rules.specs.Touches.{Declared, is_among, outside, reads_of, writes_of, map_after}
+use Rattle.batch_rules.specs.Verdicts.{Dependencies, finishes, waits}
+use Rattle.batch_rules.specs.Batches.{Carrier, Judged, Entry, Fate, Ended, has_ended, placed, judged, waiting, late_runs, is_late, fate_by, late_fates, late_left, declared, touching, written, fate_after, lates_behind, settled, after_commit, late_results, late_rest, on_start, batch}
+use Rattle.batch_rules.specs.Runs.{Runs, IsFramed, ends_in_turn, map_in_turn}
 use Rattle.batch_rules.specs.Serials.{serial_ends, serial_map}
 use Rattle.batch_rules.specs.Laws.{Serialises, SerialLaw}
-use Rattle.batch_rules.proofs.Commits.{IsClean, All-ahead, All-in_turn, ahead_finishes, turn_finishes, placed_apart}
-use Rattle.batch_rules.proofs.Installs.{installed-map, installed-placed}
-use Rattle.batch_rules.proofs.Judges.{Clean, all_clean, requests-judged}
-use Rattle.batch_rules.proofs.Lists.{filter-map}
-use Rattle.batch_rules.proofs.Pairs.{Pairs, Pairs-mapped, Pairs-weaker}
-use Rattle.batch_rules.proofs.Serials.{serial_apart}
+use Rattle.batch_rules.proofs.Agree.{agreement}
+use Rattle.batch_rules.proofs.Carriers.{placed-map}
+use Rattle.batch_rules.proofs.Commits.{by_keys_tell, All-ahead, All-in_turn, ahead_finishes, turn_finishes}
+use Rattle.batch_rules.proofs.Judges.{requests-judged}
+use Rattle.batch_rules.proofs.Maps.{map_after-is}
+use Rattle.batch_rules.proofs.Serials.{runs_in_turn}
 
 -- where each fate is the end by f, so are all
 fates_are : {K Q A : Type 0} (f : Entry K Q A → A) (es : List (Entry K Q A)) → All (λ e. e.fate ≡ Ended (f e)) es → map Ended (map f es) ≡ map (λ e. e.fate) es
@@ -104,7 +105,23 @@ module _ {K V A O : Type 0} {R : K → K → Ordering} (by : Carrier K V A O) (i
             ]
       ]
 
+-- the runs of trees
+module _ {K V Q A : Type 0} {R : K → K → Ordering} (is_done : A → Bool) (tree : Q → Tree K V A) where
+  abbrev tree_runs : Runs R V A Q
+  tree_runs = record {
+    end = λ q db. end_of (tree q) db;
+    rows = λ q db. writes_of is_done (tree q) db;
+    after = λ q db. map_after is_done (tree q) db;
+    sees = λ q db. is_among R (reads_of (tree q) db);
+  }
+
 module _ {K V Q A : Type 0} {R : K → K → Ordering} (o : IsTotalOrder R) (anti : IsAntisymmetric R) (is_done : A → Bool) (tree : Q → Tree K V A) where
+  trees_framed : (q : Q) → IsFramed (tree_runs {R = R} is_done tree) q
+  trees_framed q = record {
+    frame = λ db. map_after-is o anti is_done (tree q) db;
+    same = λ m n h. let run = agreement o anti is_done (tree q) m n h in (run.end, run.writes);
+  }
+
   commit_run : (rule : Rule) (start : FinMap R V) (list : List Q) (lates : List (Fate K A))
       → let by = on_start is_done tree start in let ds = judged (touching by R) rule [] list in
       Serialises is_done tree start (placed (λ e. e.judged.verdict) (settled by ds lates)) (after_commit by start ds)
@@ -113,20 +130,16 @@ module _ {K V Q A : Type 0} {R : K → K → Ordering} (o : IsTotalOrder R) (ant
       let ds = judged (touching by R) rule [] list in
       let es = settled by ds lates in
       let v = λ (e : Entry K Q A). e.judged.verdict in
-      let reads = λ (e : Entry K Q A). by.reads e.judged.request in
-      let rows = λ (e : Entry K Q A). by.rows e.judged.request in
-      let writes = λ (e : Entry K Q A). keys_of (rows e) in
-      let same = judged-settled by ds lates in
-      let pairs : Pairs (IsClean (by_keys R reads writes) v) es = Pairs-weaker (λ x y. Clean (touching by R) rule x.judged y.judged) (IsClean (by_keys R reads writes) v) (λ x y c. record { waw = c.waw; war = c.war; raw = c.raw }) es
-      (Pairs-mapped (Clean (touching by R) rule) (λ e. e.judged) es (subst (Pairs (Clean (touching by R) rule)) (sym same) (all_clean (touching by R) rule [] list))) in
+      let law = runs_in_turn o anti (tree_runs is_done tree) (touching by R) rule start list (trees_framed) (by_keys_tell o anti by.reads (written by)) in
       let fates : All (λ e. finishes e.judged.verdict ≡ true → e.fate ≡ Ended (by.end e.judged.request)) es = commit_fates by ds lates in
-      let run = serial_apart o anti is_done tree start (λ e. e.judged.request) start (placed v es) (λ k d below. record { same = λ q e. refl }) (placed_apart o anti v reads writes es pairs) in
-      let kept = filter-map (λ e. e.judged) (λ e. finishes (v e)) (λ d. finishes d.verdict) es (λ k d below. refl) in record {
-        ends = ap (map Ended) run.0 ∙ fates_are (λ e. by.end e.judged.request) (placed v es) (All-append (λ e. e.fate ≡ Ended (by.end e.judged.request)) _ _
+      let order : map (λ e. e.judged) (placed v es) ≡ placed (λ d. d.verdict) ds = sym (placed-map (λ e. e.judged) (λ d. d.verdict) es) ∙ ap (placed (λ d. d.verdict)) (judged-settled by ds lates) in
+      let requests : map (λ e. e.judged.request) (placed v es) ≡ map (λ d. d.request) (placed (λ d. d.verdict) ds) = sym (map-map (λ d. d.request) (λ e. e.judged) (placed v es)) ∙ ap (map (λ d. d.request)) order in record {
+        ends = ap (map Ended) (ap (ends_in_turn (tree_runs is_done tree) start) requests ∙ law.ends
+            ∙ ap (map (λ d. by.end d.request)) (sym order) ∙ map-map (λ d. by.end d.request) (λ e. e.judged) (placed v es))
+            ∙ fates_are (λ e. by.end e.judged.request) (placed v es) (All-append (λ e. e.fate ≡ Ended (by.end e.judged.request)) _ _
             (All-ahead v (λ e. e.fate ≡ Ended (by.end e.judged.request)) es (λ k d below e. fates k d below (ahead_finishes _ e)))
             (All-in_turn v (λ e. e.fate ≡ Ended (by.end e.judged.request)) es (λ k d below e. fates k d below (turn_finishes _ e))));
-        map = run.1 ∙ installed-placed o anti v reads rows start es pairs ∙ sym (installed-map (λ d. by.rows d.request) (λ e. e.judged) start (filter (λ e. finishes (v e)) es))
-            ∙ ap (installed (λ d. by.rows d.request) start) (kept ∙ ap finishing same);
+        map = ap (map_in_turn (tree_runs is_done tree) start) requests ∙ law.map;
       }
 
   pub serial_law : (rule : Rule) (percent : ℕ) (start : FinMap R V) (list : List Q) → SerialLaw is_done tree start (batch is_done tree rule percent start list)

@@ -1,5 +1,5 @@
 -- Write sets that do not meet may be installed in any order.
-use Rattle.std.proofs.Common.{◌≡◌, List, [], ◌∷◌, ◌++◌, map, reverse, true, false, cond, Some, None, Option, refl, sym, ap, ◌∙◌, Ordering}
+use Rattle.std.proofs.Common.{◌≡◌, List, [], ◌∷◌, ◌++◌, map, reverse, Bool, true, false, cond, Some, None, Option, refl, sym, ap, ◌∙◌, Ordering}
 use Rattle.std.specs.Prelude.{if◌then◌else◌, is_some}
 use Rattle.std.specs.Cmp.{IsTotalOrder}
 use Rattle.std.specs.List.{All, filter}
@@ -9,8 +9,9 @@ use Rattle.std.specs.FinMap.{FinMap, IsAntisymmetric, find, same_map}
 use Rattle.std.proofs.lemmas.List.Elements.{All-head, All-tail}
 use Rattle.batch_rules.specs.declared.verdicts.Verdict.{Verdict}
 use Rattle.batch_rules.specs.Touches.{is_among, keys_of, overwritten, installed}
-use Rattle.batch_rules.specs.Verdicts.{by_keys, meets, finishes, goes_ahead, keeps_turn}
+use Rattle.batch_rules.specs.Verdicts.{Dependencies, meets, finishes, goes_ahead, keeps_turn}
 use Rattle.batch_rules.specs.Batches.{placed}
+use Rattle.batch_rules.specs.Runs.{TellsApart}
 use Rattle.batch_rules.proofs.Commits.{IsClean, placed-cons, ahead_apart}
 use Rattle.batch_rules.proofs.Pairs.{Pairs}
 use Rattle.batch_rules.proofs.Maps.{get-overwritten}
@@ -69,16 +70,16 @@ pub installed-map : {K V X Y : Type 0} {R : K → K → Ordering} (rows : Y → 
 installed-map rows f db [] = refl
 installed-map rows f db (x ∷ xs) = installed-map rows f (overwritten db (rows (f x))) xs
 
-module _ {K V X : Type 0} {R : K → K → Ordering} (o : IsTotalOrder R) (anti : IsAntisymmetric R) (verdict_of : X → Verdict) (reads : X → List K) (rows : X → List (K × Option V)) where
+module _ {K V X : Type 0} {R : K → K → Ordering} (o : IsTotalOrder R) (anti : IsAntisymmetric R) (verdict_of : X → Verdict) (on : Dependencies X) (sees : X → K → Bool) (rows : X → List (K × Option V)) (tell : TellsApart R on sees (λ x. keys_of (rows x))) where
   -- the rows of what finishes may be installed in the order in which it is placed
-  pub installed-placed : (db : FinMap R V) (xs : List X) → Pairs (IsClean (by_keys R reads (λ x. keys_of (rows x))) verdict_of) xs
+  pub installed-placed : (db : FinMap R V) (xs : List X) → Pairs (IsClean on verdict_of) xs
       → installed rows db (placed verdict_of xs) ≡ installed rows db (filter (λ x. finishes (verdict_of x)) xs)
   installed-placed db [] p = refl
   installed-placed db (x ∷ xs) p =
       ap (installed rows db) (placed-cons verdict_of x xs)
       ∙ elim (finishes (verdict_of x)) as (λ b. installed rows db (if b then reverse (filter (λ d. goes_ahead (verdict_of d)) xs) ++ x ∷ filter (λ d. keeps_turn (verdict_of d)) xs else placed verdict_of xs)
       ≡ installed rows db (cond b (x ∷ filter (λ x. finishes (verdict_of x)) xs) (filter (λ x. finishes (verdict_of x)) xs))) [
-        | true ↦ installed_middle o anti rows db _ x _ (λ k d below. (ahead_apart o anti verdict_of reads (λ x. keys_of (rows x)) x xs p.0 k d below).writes_none)
+        | true ↦ installed_middle o anti rows db _ x _ (λ k d below. (ahead_apart o anti verdict_of on sees (λ x. keys_of (rows x)) tell x xs p.0 k d below).writes_none)
             ∙ installed-placed (overwritten db (rows x)) xs p.1
         | false ↦ installed-placed db xs p.1
       ]

@@ -14,7 +14,7 @@ pub mod Numberings
 pub mod Pairs
 pub mod Places
 pub mod Plays
-mod Serials
+pub mod Serials
 pub mod Waves
 pub mod Within
 pub mod Writers

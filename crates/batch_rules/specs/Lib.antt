@@ -2,6 +2,7 @@ pub mod Batches
 pub mod Laws
 pub mod Numberings
 pub mod Plays
+pub mod Runs
 pub mod Serials
 pub mod Touches
 pub mod Trees

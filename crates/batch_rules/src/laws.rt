@@ -9,6 +9,7 @@ ghost use Rattle.batch_rules.specs.Touches.{Declared};
 ghost use Rattle.batch_rules.specs.Verdicts.{Dependencies, least};
 ghost use Rattle.batch_rules.specs.Batches.{Carrier, Fate, judged, touching, settled, batch};
 ghost use Rattle.batch_rules.specs.Laws.{Agreement, Frame, Outside, SameStray, Confined, OneWriter, AfterCommit, SerialLaw, EachOnce, Progress, Meeting, IsLeast, VerdictLaw, SameVerdict, WaitsForEarlier, SameBatch, DecidedEach};
+ghost use Rattle.batch_rules.specs.Runs.{Runs, RunsInTurn};
 ghost use Rattle.batch_rules.specs.Numberings.{IsOneToOneOn, place_in, NumbersDecide};
 ghost use Rattle.batch_rules.specs.Waves.{ConflictsBothWays, IsInWaves};
 ghost use Rattle.batch_rules.specs.declared.verdicts.Rule.{Rule};
@@ -53,6 +54,12 @@ pub fn after_commit<K, V, A, O>()
 /// the batch's start, the requests of the order end as printed and leave the batch's database.
 pub fn serial_law<K, V, Q, A>()
     ensures { (R : K → K → Ordering) → IsTotalOrder R → IsAntisymmetric R → (is_done : A → Bool) (tree : Q → Tree K V A) (rule : Rule) (percent : ℕ) (start : FinMap R V) (list : List Q) → SerialLaw is_done tree start (batch is_done tree rule percent start list) }
+{}
+
+/// So is the commit phase of requests of any kind, by any dependencies that tell what each looked at and writes: `serial_law` is this
+/// law for trees and common keys, with the late fold behind it.
+pub fn runs_in_turn<K, V, Q, A>()
+    ensures { (R : K → K → Ordering) → IsTotalOrder R → IsAntisymmetric R → (runs : Runs R V A Q) (on : Dependencies Q) (rule : Rule) (start : FinMap R V) (list : List Q) → RunsInTurn runs on rule start list }
 {}
 
 /// The printed order and the requests that wait are together the batch's list, each once, whatever the late fold gave.

@@ -1,5 +1,5 @@
 mod Laying
-mod Leasts
+pub mod Leasts
 mod Lists
 mod Marks
 pub mod Sheets

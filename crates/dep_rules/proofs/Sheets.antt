@@ -21,7 +21,7 @@ module _ {K S : Type 0} (R : K → K → Ordering) (keys : List K) (number : K �
   side-at side lists is k d lt = ap (λ l. get_or l k []) is ∙ get_or-map (λ s. map number (side s)) sets k d [] lt
 
   -- one kind of dependency on all earlier requests
-  same_all : (mine theirs : S → List K) (ms ts : List (List ℕ)) → ms ≡ map (λ s. map number (mine s)) sets → ts ≡ map (λ s. map number (theirs s)) sets
+  pub same_all : (mine theirs : S → List K) (ms ts : List (List ℕ)) → ms ≡ map (λ s. map number (mine s)) sets → ts ≡ map (λ s. map number (theirs s)) sets
       → HasKeysOf R keys mine sets → HasKeysOf R keys theirs sets
       → map (λ t. meets nat_cmp (slice_index_or ms (tid - 1) []) (slice_index_or ts (t - 1) [])) (tids_before tid) ≡ map (λ other. meets R (mine me) (theirs other)) (take (tid - 1) sets)
   same_all mine theirs ms ts ms_are ts_are has_mine has_theirs =

@@ -7,7 +7,7 @@ ghost use Rattle.proc_exec.specs.Outcomes.{outcome_at, within_at};
 ghost use Rattle.tbl_snapshot.specs.Layers.{seen_of};
 
 use aria_base::{Changes, Memory, Request};
-use proc_exec::{Declared, Outcome, Ran, Within, interpret, interpret_within};
+use proc_exec::{Declared, Outcome, Ran, Within, interpret_lent, interpret_lent_within};
 use proc_lang::{Catalog, End};
 use std::alloc::Global;
 use tbl_snapshot::{Overlay, Snapshot};
@@ -24,7 +24,7 @@ pub fn execute(
     ensures { IfOk result (λ outcome. outcome ≡ outcome_at (run_of catalog.now) snapshot.entry request.now) }
 {
     let mut overlay = Overlay::over(alloc, snapshot);
-    let end = interpret(alloc, catalog, request, &mut overlay)?;
+    let end = interpret_lent(alloc, catalog, request, &mut overlay)?;
     Ok(outcome(alloc, end, overlay))
 }
 
@@ -41,7 +41,7 @@ pub fn execute_within(
     ensures { IfOk result (λ within. within ≡ within_at (run_of catalog.now) (touchable declared.now) snapshot.entry request.now) }
 {
     let mut overlay = Overlay::over(alloc, snapshot);
-    match interpret_within(alloc, catalog, request, declared, &mut overlay)? {
+    match interpret_lent_within(alloc, catalog, request, declared, &mut overlay)? {
         Ran::Ended(end) => Ok(Within::Ended(outcome(alloc, end, overlay))),
         Ran::Moved(key) => Ok(Within::Moved(key)),
     }

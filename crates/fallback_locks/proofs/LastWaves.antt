@@ -1,12 +1,11 @@
 -- The wave of a request by the table of last waves.
 use Rattle.std.proofs.Common.{◌≡◌, ℕ, suc, ◌+◌, ◌<◌, ◌≤◌, List, [], ◌∷◌, ◌++◌, map, length, drop, append_assoc, append-nil, Bool, true, false, cond, Option, Some, refl, sym, ap, ◌∙◌, subst, Ordering, arith}
-use Rattle.std.specs.Ordering.{eq_by_cmp, is_eq}
-use Rattle.std.proofs.lemmas.Cmp.{eq_by_cmp_equiv}
-use Rattle.aria_base.specs.Orders.{key_cmp}
-use Rattle.aria_base.specs.declared.keys.Key.{Key}
-use Rattle.aria_base.proofs.Orders.{key_cmp_total, key_cmp-IsAntisymmetric, derived_cmp, derived_same}
-use Rattle.batch_rules.proofs.Maps.{same_key}
-use Rattle.std.specs.Prelude.{slice_index_or, max, if◌then◌else◌, ◌||◌}
+use Rattle.std.specs.Ordering.{eq_by_cmp, nat_cmp}
+use Rattle.std.specs.Cmp.{unsigned_tied}
+use Rattle.std.proofs.lemmas.Bool.{eqb-true, eqb-false}
+use Rattle.std.proofs.lemmas.List.{get_or-set_other}
+use Rattle.std.proofs.lemmas.Grind.{get_or-set_at}
+use Rattle.std.specs.Prelude.{slice_index_or, max, if◌then◌else◌, ◌||◌, nat_eq, set}
 use Rattle.std.specs.List.{All, list_any}
 use Rattle.std.proofs.Math.Seq.{drop-cons}
 use Rattle.std.proofs.lemmas.List.{drop_all}
@@ -14,7 +13,7 @@ use Rattle.std.proofs.lemmas.List.Elements.{All-nil, All-cons, All-head, All-tai
 use Rattle.batch_rules.specs.Touches.{Declared, is_among, may_read, may_write}
 use Rattle.batch_rules.specs.Waves.{Waved, conflicts, wave_behind, waved}
 use Rattle.fallback_locks.specs.declared.lasts.Last.{Last}
-use Rattle.fallback_locks.specs.LastWaves.{or_none, highest, wave_by, IsBelow, last_of, IsTable, IsSoFar, with_reader, with_writer}
+use Rattle.fallback_locks.specs.LastWaves.{last_in, highest, wave_by, IsBelow, last_of, IsTable, IsSoFar, with_reader, with_writer}
 
 highest_same : {K : Type 0} (f g : K → ℕ) → ((k : K) → f k ≡ g k) → (n : ℕ) (ks : List K) → highest f n ks ≡ highest g n ks
 highest_same f g h n [] = refl
@@ -80,32 +79,42 @@ module _ {K W : Type 0} (R : K → K → Ordering) (declared_of : W → Declared
       → IsTable R declared_of (λ q. with_writer e.wave (is_among R (declared_of e.item).writes q) (with_reader e.wave (is_among R (declared_of e.item).reads q) (table q))) (e ∷ es)
   table_more table e es h q = ap (λ last. with_writer e.wave (is_among R (declared_of e.item).writes q) (with_reader e.wave (is_among R (declared_of e.item).reads q) last)) (h q)
 
--- one key more is noted. The map goes by the derived order
-pub plain : (f g : (Key → Key → Ordering) → Option Last) (q k : Key) (next : Last) → g derived_cmp ≡ cond (is_eq (derived_cmp k q)) (Some next) (f derived_cmp)
-    → g key_cmp ≡ cond (eq_by_cmp key_cmp q k) (Some next) (f key_cmp)
-plain f g q k next h = subst (λ cmp. g cmp ≡ cond (is_eq (cmp k q)) (Some next) (f cmp)) derived_same h ∙ ap (λ b. cond b (Some next) (f key_cmp)) ((eq_by_cmp_equiv key_cmp_total).symm k q)
+-- ---- the table, when a key's entry is set
 
-pub reader_more : (wave : ℕ) (here rest : Bool) (old : Option Last) (last : Last) → (here ≡ true → last ≡ or_none old)
-    → with_reader wave rest (or_none (cond here (Some (record { reader = max last.reader wave; writer = last.writer })) old)) ≡ with_reader wave (here || rest) (or_none old)
-reader_more wave true true old last is = let e : max (max last.reader wave) wave ≡ max last.reader wave = omega arith in ap (λ n. record { reader = n; writer = last.writer }) e ∙ ap (with_reader wave true) (is refl)
-reader_more wave true false old last is = ap (with_reader wave true) (is refl)
-reader_more wave false rest old last is = refl
+abbrev none : Last
+none = record { reader = 0; writer = 0 }
 
-pub writer_more : (wave : ℕ) (here rest : Bool) (old : Option Last) (last : Last) → (here ≡ true → last ≡ or_none old)
-    → with_writer wave rest (or_none (cond here (Some (record { reader = last.reader; writer = max last.writer wave })) old)) ≡ with_writer wave (here || rest) (or_none old)
-writer_more wave true true old last is = let e : max (max last.writer wave) wave ≡ max last.writer wave = omega arith in ap (λ n. record { reader = last.reader; writer = n }) e ∙ ap (with_writer wave true) (is refl)
-writer_more wave true false old last is = ap (with_writer wave true) (is refl)
-writer_more wave false rest old last is = refl
+-- what stands at each number
+at_set : (lasts : List Last) (k q : ℕ) (next : Last) → k < length lasts → last_in (set lasts k next) q ≡ (if eq_by_cmp nat_cmp q k then next else last_in lasts q)
+at_set lasts k q next below = (elim (nat_eq q k) as (λ b. nat_eq q k ≡ b → last_in (set lasts k next) q ≡ (if b then next else last_in lasts q)) [
+  | true ↦ λ e. get_or-set_at lasts k q next none (eqb-true q k e) below
+  | false ↦ λ e. get_or-set_other lasts k q next none (eqb-false q k e)
+] refl) ∙ ap (λ b. if b then next else last_in lasts q) (sym (unsigned_tied q k))
 
-pub reads_more : (f g : (Key → Key → Ordering) → Option Last) (wave : ℕ) (q k : Key) (rest : List Key) (last : Last)
-    → g derived_cmp ≡ cond (is_eq (derived_cmp k q)) (Some (record { reader = max last.reader wave; writer = last.writer })) (f derived_cmp) → (q ≡ k → last ≡ or_none (f key_cmp))
-    → with_reader wave (is_among key_cmp rest q) (or_none (g key_cmp)) ≡ with_reader wave (is_among key_cmp (k ∷ rest) q) (or_none (f key_cmp))
-reads_more f g wave q k rest last h is = ap (λ g. with_reader wave (is_among key_cmp rest q) (or_none g)) (plain f g q k _ h) ∙ reader_more wave (eq_by_cmp key_cmp q k) (is_among key_cmp rest q) (f key_cmp) last (λ e. is (same_key key_cmp-IsAntisymmetric q k e))
+pub read_set : (lasts : List Last) (k wave : ℕ) → k < length lasts → (q : ℕ)
+    → last_in (set lasts k (record { reader = max (last_in lasts k).reader wave; writer = (last_in lasts k).writer })) q ≡ with_reader wave (is_among nat_cmp (k ∷ []) q) (last_in lasts q)
+read_set lasts k wave below q = at_set lasts k q (record { reader = max (last_in lasts k).reader wave; writer = (last_in lasts k).writer }) below ∙ (elim (eq_by_cmp nat_cmp q k) as (λ b. eq_by_cmp nat_cmp q k ≡ b → (if b then record { reader = max (last_in lasts k).reader wave; writer = (last_in lasts k).writer } else last_in lasts q) ≡ with_reader wave (b || false) (last_in lasts q)) [
+  | true ↦ λ e. ap (λ n. record { reader = max (last_in lasts n).reader wave; writer = (last_in lasts n).writer }) (sym (eqb-true q k (sym (unsigned_tied q k) ∙ e)))
+  | false ↦ λ e. refl
+] refl)
 
-pub writes_more : (f g : (Key → Key → Ordering) → Option Last) (wave : ℕ) (q k : Key) (rest : List Key) (last : Last)
-    → g derived_cmp ≡ cond (is_eq (derived_cmp k q)) (Some (record { reader = last.reader; writer = max last.writer wave })) (f derived_cmp) → (q ≡ k → last ≡ or_none (f key_cmp))
-    → with_writer wave (is_among key_cmp rest q) (or_none (g key_cmp)) ≡ with_writer wave (is_among key_cmp (k ∷ rest) q) (or_none (f key_cmp))
-writes_more f g wave q k rest last h is = ap (λ g. with_writer wave (is_among key_cmp rest q) (or_none g)) (plain f g q k _ h) ∙ writer_more wave (eq_by_cmp key_cmp q k) (is_among key_cmp rest q) (f key_cmp) last (λ e. is (same_key key_cmp-IsAntisymmetric q k e))
+pub write_set : (lasts : List Last) (k wave : ℕ) → k < length lasts → (q : ℕ)
+    → last_in (set lasts k (record { reader = (last_in lasts k).reader; writer = max (last_in lasts k).writer wave })) q ≡ with_writer wave (is_among nat_cmp (k ∷ []) q) (last_in lasts q)
+write_set lasts k wave below q = at_set lasts k q (record { reader = (last_in lasts k).reader; writer = max (last_in lasts k).writer wave }) below ∙ (elim (eq_by_cmp nat_cmp q k) as (λ b. eq_by_cmp nat_cmp q k ≡ b → (if b then record { reader = (last_in lasts k).reader; writer = max (last_in lasts k).writer wave } else last_in lasts q) ≡ with_writer wave (b || false) (last_in lasts q)) [
+  | true ↦ λ e. ap (λ n. record { reader = (last_in lasts n).reader; writer = max (last_in lasts n).writer wave }) (sym (eqb-true q k (sym (unsigned_tied q k) ∙ e)))
+  | false ↦ λ e. refl
+] refl)
+
+-- noted once for this key, and then for the others
+pub reader_twice : (wave : ℕ) (here rest : Bool) (last : Last) → with_reader wave rest (with_reader wave (here || false) last) ≡ with_reader wave (here || rest) last
+reader_twice wave true true last = let e : max (max last.reader wave) wave ≡ max last.reader wave = omega arith in ap (λ n. record { reader = n; writer = last.writer }) e
+reader_twice wave true false last = refl
+reader_twice wave false rest last = refl
+
+pub writer_twice : (wave : ℕ) (here rest : Bool) (last : Last) → with_writer wave rest (with_writer wave (here || false) last) ≡ with_writer wave (here || rest) last
+writer_twice wave true true last = let e : max (max last.writer wave) wave ≡ max last.writer wave = omega arith in ap (λ n. record { reader = last.reader; writer = n }) e
+writer_twice wave true false last = refl
+writer_twice wave false rest last = refl
 
 module _ {K W : Type 0} (R : K → K → Ordering) (declared_of : W → Declared K) where
   last_of_most : (test : Declared K → Bool) (n : ℕ) (es : List (Waved W)) → All (λ e. e.wave ≤ n) es → last_of R declared_of test es ≤ n

@@ -1,2 +1,3 @@
 pub mod LastWaves
 pub mod Filling
+mod Numbers

@@ -1,21 +1,14 @@
 -- The last waves that touched a key, as a table of them tells.
-use Rattle.std.specs.Prelude.{ℕ, suc, drop, map, ◌++◌, ◌≤◌, ◌<◌, max, List, [], ◌∷◌, Bool, Option, Some, None, ◌≡◌, if◌then◌else◌}
+use Rattle.std.specs.Prelude.{ℕ, suc, drop, map, ◌++◌, ◌≤◌, ◌<◌, max, List, [], ◌∷◌, Bool, ◌≡◌, if◌then◌else◌, slice_index_or}
 use Rattle.std.specs.declared.cmp.Ordering.{Ordering}
-use Rattle.std.specs.BTreeMap as tree
-use Rattle.aria_base.specs.Orders.{key_cmp}
-use Rattle.aria_base.specs.declared.keys.Key.{Key}
 use Rattle.batch_rules.specs.Touches.{Declared, is_among, may_write}
 use Rattle.batch_rules.specs.Waves.{Waved, waved}
 use Rattle.std.specs.List.{All}
 use Rattle.fallback_locks.specs.declared.lasts.Last.{Last}
 
-abbrev pub or_none : Option Last → Last
-or_none None = record { reader = 0; writer = 0 }
-or_none (Some last) = last
-
--- what the table has at a key
-abbrev pub last_in : tree.BTreeMap Key Last → Key → Last
-last_in lasts q = or_none (tree.get key_cmp lasts q)
+-- what the table has at a key, by its number
+abbrev pub last_in : List Last → ℕ → Last
+last_in lasts q = slice_index_or lasts q (record { reader = 0; writer = 0 })
 
 -- a key's last waves, where a request of this wave reads it, and where one writes it
 abbrev pub with_reader : ℕ → Bool → Last → Last

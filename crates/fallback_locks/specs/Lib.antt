@@ -1,2 +1,3 @@
 pub mod LastWaves
+pub mod Numbers
 pub mod Reruns

@@ -1,9 +1,11 @@
 // All that wait, wave after wave.
-ghost use Rattle.std.specs.Prelude.{◌≤◌, length, IfOk};
+ghost use Rattle.std.specs.Prelude.{◌≤◌, length, All, IfOk};
 ghost use Rattle.aria_base.specs.Schemas.{IsConsistent};
 ghost use Rattle.aria_base.specs.declared.limits.TheConstants.{MOST_REQUESTS, MOST_WORKERS};
 ghost use Rattle.proc_lang.specs.Catalogs.{run_of};
 ghost use Rattle.proc_exec.specs.Lates.{IsLateFold};
+ghost use Rattle.dep_rules.specs.Sheets.{IsTid};
+ghost use Rattle.fallback_locks.specs.Numbers.{StandFor};
 ghost use Rattle.fallback_locks.specs.Reruns.{AllFit};
 
 use crate::groups::groups;
@@ -11,6 +13,7 @@ use crate::levels::waves;
 use crate::rounds::run_wave;
 use crate::settlements::{all_of, empty_slots, settle};
 use aria_base::{Memory, Pace};
+use dep_rules::Numbered;
 use proc_exec::{Late, Waiting};
 use proc_lang::Catalog;
 use std::alloc::Global;
@@ -20,7 +23,8 @@ use tbl_snapshot::Snapshot;
 
 /// Runs the waiting requests, at most 10,000, again within the keys that they declared: what becomes of
 /// each, in the order of the list, and the tables that they leave. Both are as if the requests ran one after
-/// the other, each on what the ones before it left; one that moved leaves nothing.
+/// the other, each on what the ones before it left; one that moved leaves nothing. Their waves are found by the
+/// numbers of the declared keys, which stand at these TIDs.
 ///
 /// The requests of a wave run at once, each of the workers, from 1 to 64, drawing the next one; then their
 /// rows are installed, and the next wave runs. `pace` is told `Rerun` before each run. Where the catalogue
@@ -32,16 +36,20 @@ pub fn rerun<P: Pace + Sync, R: Threads + Sync>(
     catalog: &Catalog,
     tables: Tables,
     waiting: &[Waiting],
+    numbered: &Numbered,
+    tids: &[u32],
     workers: u32,
     pace: &P,
 ) -> Result<(Tables, Vec<Late>), Memory>
     requires waiting { length waiting.now ≤ MOST_REQUESTS }
+    requires tids { All (λ tid. IsTid numbered.now tid) tids.now }
+    requires numbered { StandFor numbered.now tids.now waiting.now }
     requires workers { (1 ≤ workers) × (workers ≤ MOST_WORKERS) }
     ensures fold { IfOk result (λ r. IsLateFold (run_of catalog.now) tables waiting.now r.1.items r.0) }
     ensures fit { AllFit catalog.now waiting.now tables → IfOk result (λ r. IsConsistent catalog.now.tables r.0) }
 {
     let mut tables = tables;
-    let numbers = waves(alloc, waiting)?;
+    let numbers = waves(alloc, numbered, tids)?;
     let groups = groups(alloc, &numbers)?;
     let mut lates = empty_slots(alloc, waiting.len())?;
     for group in &groups {

@@ -14,6 +14,9 @@ use std::thread::Threads;
 use tbl_snapshot::Snapshot;
 use work_crew::{Task, gather};
 
+/// To start a thread takes longer than to run so many requests again.
+const LEAST_A_WORKER: u32 = 8;
+
 /// The requests at some places of the list of all that wait, on the rows that their wave finds.
 #[derive(Drop)]
 struct Round<'a> {
@@ -76,7 +79,8 @@ pub(crate) fn run_wave<P: Pace + Sync, R: Threads + Sync>(
         places,
         count: places.len() as u32,
     };
-    gather(rt, alloc, &round, workers, pace)
+    let most = round.count / LEAST_A_WORKER + 1;
+    gather(rt, alloc, &round, workers.min(most), pace)
 }
 
 /// Runs the request that stands at this place of the list within the keys that it declared. One that

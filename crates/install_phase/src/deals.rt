@@ -14,10 +14,15 @@ use std::marker::Model;
 use tbl_rows::{SHARDS, shard_of};
 
 /// The writes of some requests: for each shard those to its keys, in the order in which they are to be
-/// made.
+/// made. A contract sees these lists.
+///
+/// Beside them is what is left over of the requests: the lists of those that finish, which are empty, and the
+/// writes of those that wait. It goes with the deal, and not before: a thread that drops blocks of other threads
+/// waits for their heaps where several do.
 #[derive(Drop)]
 pub(crate) struct Deal {
     lists: Vec<Vec<Write>>,
+    spent: Vec<Changes>,
 }
 
 impl Model for Deal {
@@ -41,7 +46,10 @@ impl Deal {
         for _ in 0..SHARDS {
             lists.push(Vec::with_capacity(alloc, room)?)?;
         }
-        Ok(Deal { lists })
+        Ok(Deal {
+            lists,
+            spent: Vec::new(alloc),
+        })
     }
 
     /// One write more.
@@ -51,6 +59,14 @@ impl Deal {
     {
         let place = usize::from(shard_of(&key));
         self.lists[place].push((key, row))?;
+        Ok(())
+    }
+
+    /// Keeps what is left over of a request until the deal goes.
+    fn keep(&mut self, spent: Changes) -> Result<(), Memory>
+        ensures { self.new ≡ self.old }
+    {
+        self.spent.push(spent)?;
         Ok(())
     }
 
@@ -122,7 +138,7 @@ fn deal_if(deal: &mut Deal, changes: Changes, verdict: &Verdict) -> Result<(), M
 {
     match verdict {
         Verdict::Finish { raw: _ } => deal_one(deal, changes),
-        Verdict::Wait(_) => Ok(()),
+        Verdict::Wait(_) => deal.keep(changes),
     }
 }
 
@@ -135,5 +151,5 @@ fn deal_one(deal: &mut Deal, changes: Changes) -> Result<(), Memory>
     while let Some((key, row)) = changes.pop() {
         deal.add(key, row)?;
     }
-    Ok(())
+    deal.keep(Changes::from_vec(changes))
 }

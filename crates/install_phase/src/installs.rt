@@ -8,12 +8,15 @@ use crate::deals::Dealing;
 use crate::hands::hand_out;
 use crate::jobs::Job;
 use crate::shares::{PartWork, share_out};
-use aria_base::{Changes, Memory, Pace};
+use aria_base::{Changes, MOST_WORKERS, Memory, Pace};
 use batch_rules::verdicts::Verdict;
 use proc_exec::Outcome;
 use std::alloc::Global;
 use std::thread::Threads;
-use tbl_rows::{Shard, Tables};
+use tbl_rows::{Shard, Spent, Tables};
+
+/// To start a thread takes longer than to deal the writes of so many requests.
+const LEAST_A_DEALER: usize = 128;
 
 /// The tables with the writes of all that finish, one request after the other, by 1 to 64 workers, who share
 /// them as [`install_changes`] says. An error: there was no memory, and the tables are gone.
@@ -84,11 +87,19 @@ pub fn install_changes<P: Pace + Sync, R: Threads + Sync>(
     requires workers { (1 ≤ workers) × (workers ≤ MOST_WORKERS) }
     ensures { IfOk result (λ after. after ≡ after_changes 1 tables list.items verdicts.now) }
 {
-    let deals = share_out(rt, alloc, &Dealing { alloc, verdicts }, list, workers)?;
+    let dealers = workers.min(dealers_of(list.len()));
+    let deals = share_out(rt, alloc, &Dealing { alloc, verdicts }, list, dealers)?;
     let jobs = hand_out(alloc, tables.split(), deals)?;
     let parts = share_out(rt, alloc, &Making { alloc, pace }, jobs, workers)?;
-    let shards = all_of(alloc, parts)?;
+    let shards = shards_of(alloc, parts)?;
     Ok(Tables::gather(shards))
+}
+
+/// How many workers deal the writes of so many requests.
+fn dealers_of(requests: usize) -> u32
+    ensures { 1 ≤ result }
+{
+    (requests / LEAST_A_DEALER).clamp(1, MOST_WORKERS as usize) as u32
 }
 
 /// The making of the writes, at this pace.
@@ -104,31 +115,45 @@ impl<'a, P: Pace> PartWork for Making<'a, P> {
 
     type Item = Job;
 
-    type Made = Vec<Shard>;
+    type Made = Changed;
 
-    ghost makes = { λ _ _ jobs shards. shards.items ≡ map finished jobs };
+    ghost makes = { λ _ _ jobs changed. changed.shards.items ≡ map finished jobs };
 
-    fn run(&self, part: Vec<Job>, _first: usize, who: u32) -> Result<Vec<Shard>, Memory>
-        ensures { IfOk result (λ shards. shards.items ≡ map finished part.items) }
+    fn run(&self, part: Vec<Job>, _first: usize, who: u32) -> Result<Changed, Memory>
+        ensures { IfOk result (λ changed. changed.shards.items ≡ map finished part.items) }
     {
         finish_all(self.alloc, part, who, self.pace)
     }
 }
 
+/// Shards after their writes, and what these left over.
+#[derive(Drop)]
+struct Changed {
+    shards: Vec<Shard>,
+    spent: Vec<Spent>,
+}
+
 /// The shards after their writes, by one worker.
-fn finish_all<P: Pace>(
-    alloc: Global,
-    jobs: Vec<Job>,
-    who: u32,
-    pace: &P,
-) -> Result<Vec<Shard>, Memory>
-    ensures { IfOk result (λ shards. shards.items ≡ map finished jobs.items) }
+fn finish_all<P: Pace>(alloc: Global, jobs: Vec<Job>, who: u32, pace: &P) -> Result<Changed, Memory>
+    ensures { IfOk result (λ changed. changed.shards.items ≡ map finished jobs.items) }
 {
     let mut shards = Vec::with_capacity(alloc, jobs.len())?;
+    let mut spent = Vec::new(alloc);
     for job in jobs {
-        shards.push(job.finish(who, pace)?)?;
+        shards.push(job.finish(&mut spent, who, pace)?)?;
     }
-    Ok(shards)
+    Ok(Changed { shards, spent })
+}
+
+/// The shards of all parts, one part behind the other. What was left over goes here.
+fn shards_of(alloc: Global, parts: Vec<Changed>) -> Result<Vec<Shard>, Memory>
+    ensures { IfOk result (λ all. all.items ≡ flat_map (λ part. part.shards.items) parts.items) }
+{
+    let mut all = Vec::new(alloc);
+    for mut part in parts {
+        all.append(&mut part.shards)?;
+    }
+    Ok(all)
 }
 
 /// What the parts hold, one part behind the other. It is moved in whole parts.

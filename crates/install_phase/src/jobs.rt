@@ -7,7 +7,7 @@ ghost use Rattle.install_phase.specs.Jobs.{idle_due, with_writes, finished, appl
 use aria_base::{Key, Memory, Pace, Place, Row};
 use std::alloc::Global;
 use std::marker::Model;
-use tbl_rows::Shard;
+use tbl_rows::{Shard, Spent};
 
 /// A key with the row that it gets, or with none where its row goes.
 pub(crate) type Write = (Key, Option<Row>);
@@ -53,12 +53,17 @@ impl Job {
         Ok(())
     }
 
-    /// The shard after its writes, made by the worker `who`.
-    pub(crate) fn finish<P: Pace>(self, who: u32, pace: &P) -> Result<Shard, Memory>
+    /// The shard after its writes, made by the worker `who`. What they leave over comes behind `spent`.
+    pub(crate) fn finish<P: Pace>(
+        self,
+        spent: &mut Vec<Spent>,
+        who: u32,
+        pace: &P,
+    ) -> Result<Shard, Memory>
         ensures { IfOk result (λ shard. shard ≡ finished self) }
     {
         let Job { shard, lists } = self;
-        write_lists(shard, lists, who, pace)
+        write_lists(shard, lists, spent, who, pace)
     }
 }
 
@@ -66,6 +71,7 @@ impl Job {
 fn write_lists<P: Pace>(
     mut shard: Shard,
     lists: Vec<Vec<Write>>,
+    spent: &mut Vec<Spent>,
     who: u32,
     pace: &P,
 ) -> Result<Shard, Memory>
@@ -73,7 +79,7 @@ fn write_lists<P: Pace>(
     ensures { IfOk result (λ after. after ≡ record { number = shard.number; rows = applied shard.rows (flat_map (λ list. list.items) lists.items) }) }
 {
     for list in lists {
-        shard = write_all(shard, list, who, pace)?;
+        shard = write_all(shard, list, spent, who, pace)?;
     }
     Ok(shard)
 }
@@ -82,6 +88,7 @@ fn write_lists<P: Pace>(
 fn write_all<P: Pace>(
     mut shard: Shard,
     writes: Vec<Write>,
+    spent: &mut Vec<Spent>,
     who: u32,
     pace: &P,
 ) -> Result<Shard, Memory>
@@ -90,19 +97,27 @@ fn write_all<P: Pace>(
 {
     for (key, row) in writes {
         pace.at(who, Place::Install);
-        write(&mut shard, key, row)?;
+        write(&mut shard, key, row, spent)?;
     }
     Ok(shard)
 }
 
 /// Sets the row at a key of the shard, or removes it.
-fn write(shard: &mut Shard, key: Key, row: Option<Row>) -> Result<(), Memory>
+fn write(
+    shard: &mut Shard,
+    key: Key,
+    row: Option<Row>,
+    spent: &mut Vec<Spent>,
+) -> Result<(), Memory>
     requires { home key ≡ shard.old.number }
     ensures { OnOk result (shard.new ≡ record { number = shard.old.number; rows = set_at shard.old.rows key row }) }
 {
     match row {
         Some(row) => {
-            shard.put(key, row)?;
+            let left = shard.put(key, row)?;
+            if !left.is_empty() {
+                spent.push(left)?;
+            }
             Ok(())
         }
         None => {

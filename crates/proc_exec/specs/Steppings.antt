@@ -1,5 +1,6 @@
 -- What the steps of the interpreter say of the run that the meaning gives. Out of memory says nothing, here and below.
-use Rattle.std.specs.Prelude.{◌≡◌, ◌+◌, true, false, nat_lt, Option, Result}
+use Rattle.std.specs.Prelude.{◌≡◌, ℕ, ◌+◌, Bool, true, false, nat_lt, List, Option, Some, None, Result}
+use Rattle.std.specs.Bool.{MatchBool}
 use Rattle.std.specs.declared.result.Result.TheVariants.{Ok, Err}
 use Rattle.std.specs.FinMap as fin
 use Rattle.aria_base.specs.Orders.{key_cmp, Cells}
@@ -11,7 +12,7 @@ use Rattle.proc_lang.specs.declared.ends.End.{End}
 use Rattle.proc_lang.specs.declared.ends.End.TheVariants as end
 use Rattle.proc_lang.specs.declared.ends.Trap.TheVariants.{Many}
 use Rattle.proc_lang.specs.declared.limits.TheConstants.{MOST_ACCESSES}
-use Rattle.proc_lang.specs.Meaning.{Frame, Next, Run}
+use Rattle.proc_lang.specs.Meaning.{Frame, Next, Run, set_to, set_all}
 use Rattle.proc_exec.specs.declared.outcomes.Ran.{Ran}
 use Rattle.proc_exec.specs.declared.outcomes.Ran.TheVariants as ran
 use Rattle.proc_exec.specs.declared.early_ends.EvalFault.{EvalFault}
@@ -45,21 +46,30 @@ Follows (Ok x) limits next frame seen played = played ≡ play limits (next fram
 Follows (Err stop.Memory) limits next frame seen played = Unit {0}
 Follows (Err (stop.Back code)) limits next frame seen played = played ≡ stopped (end.Back code) seen
 Follows (Err (stop.Trap trap)) limits next frame seen played = played ≡ stopped (end.Trap trap) seen
-Follows (Err (stop.Moved key)) limits next frame seen played = played ≡ record { end = Strays key; seen = seen }
+Follows (Err (stop.Moved key)) limits next frame seen played = played ≡ record { end = Strays key.value; seen = seen }
 
 -- A part of a run, as what comes before what is next: played from the old frame on the old window, it is followed so.
 abbrev pub Performs : {A : Type 0} → Result A RunStop → Option (Touchable Key) → (Next → Next) → Frame → Frame → Window → Window → Type 0
 Performs result limits part old new seen seen' = (next : Next) → Follows result limits next new seen' (play limits (part next old) seen)
 
--- one read of the key: the row, the frame and the window after it, or why it is not made
-abbrev pub Fetched : Result (Option Cells) RunStop → Option (Touchable Key) → Key → Frame → Frame → Window → Window → Type 0
-Fetched (Ok row) limits key old new seen seen' = (nat_lt old.made MOST_ACCESSES ≡ true)
-    × (allows_read key_cmp limits key ≡ true) × (row ≡ fin.get seen.map key)
-    × (new ≡ record { regs = old.regs; gives = old.gives; made = old.made + 1 }) × (seen' ≡ after_read seen key)
-Fetched (Err stop.Memory) limits key old new seen seen' = Unit {0}
-Fetched (Err (stop.Back code)) limits key old new seen seen' = ⊥
-Fetched (Err (stop.Trap trap)) limits key old new seen seen' = (trap ≡ Many) × (nat_lt old.made MOST_ACCESSES ≡ false) × (seen' ≡ seen)
-Fetched (Err (stop.Moved other)) limits key old new seen seen' = (other ≡ key) × (nat_lt old.made MOST_ACCESSES ≡ true)
+-- what was found in registers, where it is a row; else the frame stays
+abbrev pub Filled : Bool → Option Cells → List ℕ → Frame → Frame → Type 0
+Filled there found ns old new = MatchBool there
+    ((row : Cells) × (found ≡ Some row) × (new ≡ set_to old (set_all ns row old.regs)))
+    ((found ≡ None) × (new ≡ old))
+
+-- one read of the key into registers: the frame and the window after it
+abbrev pub Taken : Bool → Key → List ℕ → Frame → Frame → Window → Window → Type 0
+Taken there key ns old new seen seen' = (seen' ≡ after_read seen key) × Filled there (fin.get seen.map key) ns old new
+
+-- the same of a read that is counted, or why it is not made
+abbrev pub Fetched : Result Bool RunStop → Option (Touchable Key) → Key → List ℕ → Frame → Frame → Window → Window → Type 0
+Fetched (Ok found) limits key ns old new seen seen' = (nat_lt old.made MOST_ACCESSES ≡ true) × (allows_read key_cmp limits key ≡ true)
+    × Taken found key ns (record { regs = old.regs; gives = old.gives; made = old.made + 1 }) new seen seen'
+Fetched (Err stop.Memory) limits key ns old new seen seen' = Unit {0}
+Fetched (Err (stop.Back code)) limits key ns old new seen seen' = ⊥
+Fetched (Err (stop.Trap trap)) limits key ns old new seen seen' = (trap ≡ Many) × (nat_lt old.made MOST_ACCESSES ≡ false) × (seen' ≡ seen)
+Fetched (Err (stop.Moved other)) limits key ns old new seen seen' = (other.value ≡ key) × (nat_lt old.made MOST_ACCESSES ≡ true)
     × (allows_read key_cmp limits key ≡ false) × (seen' ≡ seen)
 
 -- the end that a run comes to, or the key at which it stops

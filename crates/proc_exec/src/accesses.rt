@@ -8,13 +8,15 @@ ghost use Rattle.proc_exec.specs.Steppings.{Performs, Fetched};
 use crate::early_ends::RunStop;
 use crate::frames::Running;
 use crate::limits::Limits;
+use crate::readings::Reads;
 use crate::scopes::Setting;
 use aria_base::{Key, Row};
 use proc_lang::{Access, Exprs, Regs, Trap};
+use std::alloc::Global;
 
 /// Reads a row into registers. Where there is none, the trap `Absent`.
-pub fn get<L: Limits, A: Access>(
-    setting: &Setting<L>,
+pub fn get<L: Limits, A: Access, S: Reads<A>>(
+    setting: &Setting<L, S>,
     table: u16,
     key: &Exprs,
     registers: &Regs,
@@ -24,16 +26,15 @@ pub fn get<L: Limits, A: Access>(
     ensures { Performs result (L.declared setting.now.limits.now) (step_in setting.now.scope (step.Read step.Traps table key.now registers.now)) state.old state.new (A.seen access.old) (A.seen access.new) }
 {
     let key = state.key(&setting.scope, table, key)?;
-    let Some(row) = fetch(setting.limits, key, state, access)? else {
+    if !fetch(setting, key, registers, state, access)? {
         return Err(RunStop::Trap(Trap::Absent));
-    };
-    state.set_row(registers, row);
+    }
     Ok(())
 }
 
 /// Reads the row of a key into registers. Where there is none, the run fails with the code.
-pub fn need<L: Limits, A: Access>(
-    setting: &Setting<L>,
+pub fn need<L: Limits, A: Access, S: Reads<A>>(
+    setting: &Setting<L, S>,
     table: u16,
     key: &Exprs,
     registers: &Regs,
@@ -44,17 +45,16 @@ pub fn need<L: Limits, A: Access>(
     ensures { Performs result (L.declared setting.now.limits.now) (step_in setting.now.scope (step.Read (step.Fails code) table key.now registers.now)) state.old state.new (A.seen access.old) (A.seen access.new) }
 {
     let key = state.key(&setting.scope, table, key)?;
-    let Some(row) = fetch(setting.limits, key, state, access)? else {
+    if !fetch(setting, key, registers, state, access)? {
         return Err(RunStop::Back(code));
-    };
-    state.set_row(registers, row);
+    }
     Ok(())
 }
 
 /// Reads the row of a key into registers. Where there is none, the registers get blanks. The flag, set last,
 /// tells 1 or 0.
-pub fn find<L: Limits, A: Access>(
-    setting: &Setting<L>,
+pub fn find<L: Limits, A: Access, S: Reads<A>>(
+    setting: &Setting<L, S>,
     table: u16,
     key: &Exprs,
     registers: &Regs,
@@ -65,16 +65,17 @@ pub fn find<L: Limits, A: Access>(
     ensures { Performs result (L.declared setting.now.limits.now) (step_in setting.now.scope (step.Read (step.Blanks flag) table key.now registers.now)) state.old state.new (A.seen access.old) (A.seen access.new) }
 {
     let key = state.key(&setting.scope, table, key)?;
-    match fetch(setting.limits, key, state, access)? {
-        Some(row) => state.set_found(registers, row, flag),
-        None => state.set_missed(setting.scope.alloc, registers, flag)?,
+    if fetch(setting, key, registers, state, access)? {
+        state.set_flag(flag);
+        return Ok(());
     }
+    state.set_missed(setting.scope.alloc, registers, flag)?;
     Ok(())
 }
 
 /// Writes a row.
-pub fn put<L: Limits, A: Access>(
-    setting: &Setting<L>,
+pub fn put<L: Limits, A: Access, S: Reads<A>>(
+    setting: &Setting<L, S>,
     table: u16,
     key: &Exprs,
     columns: &Exprs,
@@ -85,12 +86,19 @@ pub fn put<L: Limits, A: Access>(
 {
     let key = state.key(&setting.scope, table, key)?;
     let row = state.row(&setting.scope, columns)?;
-    store(setting.limits, key, Some(row), state, access)
+    store(
+        setting.scope.alloc,
+        setting.limits,
+        key,
+        Some(row),
+        state,
+        access,
+    )
 }
 
 /// Deletes a row, which need not be there.
-pub fn delete<L: Limits, A: Access>(
-    setting: &Setting<L>,
+pub fn delete<L: Limits, A: Access, S: Reads<A>>(
+    setting: &Setting<L, S>,
     table: u16,
     key: &Exprs,
     state: &mut Running,
@@ -99,27 +107,41 @@ pub fn delete<L: Limits, A: Access>(
     ensures { Performs result (L.declared setting.now.limits.now) (step_in setting.now.scope (step.Del table key.now)) state.old state.new (A.seen access.old) (A.seen access.new) }
 {
     let key = state.key(&setting.scope, table, key)?;
-    store(setting.limits, key, None, state, access)
+    store(
+        setting.scope.alloc,
+        setting.limits,
+        key,
+        None,
+        state,
+        access,
+    )
 }
 
-/// Reads the row of a key.
-fn fetch<L: Limits, A: Access>(
-    limits: &L,
+/// Reads the row of a key into registers, as far as there are both, and tells whether there is one.
+fn fetch<L: Limits, A: Access, S: Reads<A>>(
+    setting: &Setting<L, S>,
     key: Key,
+    registers: &Regs,
     state: &mut Running,
     access: &mut A,
-) -> Result<Option<Row>, RunStop>
-    ensures { Fetched result (L.declared limits.now) key state.old state.new (A.seen access.old) (A.seen access.new) }
+) -> Result<bool, RunStop>
+    ensures { Fetched result (L.declared setting.now.limits.now) key registers.now state.old state.new (A.seen access.old) (A.seen access.new) }
 {
+    let alloc = setting.scope.alloc;
     state.count()?;
-    if !limits.allows_read(&key) {
-        return Err(RunStop::Moved(key));
+    if !setting.limits.allows_read(&key) {
+        return Err(RunStop::Moved(Box::new(alloc, key)?));
     }
-    Ok(access.read(&key)?)
+    Ok(
+        setting
+            .reads
+            .read_row(alloc, access, key, registers, state)?,
+    )
 }
 
 /// Sets or removes the row of a key.
 fn store<L: Limits, A: Access>(
+    alloc: Global,
     limits: &L,
     key: Key,
     row: Option<Row>,
@@ -130,7 +152,7 @@ fn store<L: Limits, A: Access>(
 {
     state.count()?;
     if !limits.allows_write(&key) {
-        return Err(RunStop::Moved(key));
+        return Err(RunStop::Moved(Box::new(alloc, key)?));
     }
     access.write(key, row)?;
     Ok(())

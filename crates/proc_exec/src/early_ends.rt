@@ -26,8 +26,9 @@ pub enum RunStop {
     Back(u16),
     /// It ends with this trap.
     Trap(Trap),
-    /// Its next access, of this key, is not declared.
-    Moved(Key),
+    /// Its next access, of this key, is not declared. The key stands apart, so that each step hands on a
+    /// few bytes.
+    Moved(Box<Key>),
 }
 
 impl From<Memory> for EvalFault {
@@ -58,6 +59,14 @@ impl From<Memory> for RunStop {
     ghost from_gives = { λ _ made. made ≡ stop.Memory };
 
     fn from(_: Memory) -> RunStop {
+        RunStop::Memory
+    }
+}
+
+impl From<AllocFailed<Key>> for RunStop {
+    ghost from_gives = { λ _ made. made ≡ stop.Memory };
+
+    fn from(_: AllocFailed<Key>) -> RunStop {
         RunStop::Memory
     }
 }

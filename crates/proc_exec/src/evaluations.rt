@@ -1,17 +1,19 @@
 // The values of expressions.
 ghost use Rattle.std.specs.Prelude.{◌≡◌, IfOk, length};
 ghost use Rattle.proc_lang.specs.TermOf.{term_of};
-ghost use Rattle.proc_lang.specs.Values.{both};
+ghost use Rattle.std.specs.declared.result.Result.TheVariants.{Ok};
+ghost use Rattle.proc_lang.specs.Values.{both, got, is_true};
+ghost use Rattle.proc_lang.specs.Meaning.{part_of};
 ghost use Rattle.proc_exec.specs.Faults.{Computes};
 ghost use Rattle.proc_exec.specs.Scopes.{value_in, values_in};
 
-use crate::arithmetic::product_divided_by;
+use crate::arithmetic::{holds, product_divided_by};
 use crate::early_ends::EvalFault;
-use crate::operands::{direct_number, named, number_at};
+use crate::operands::{named, number_of};
 use crate::operators::{by_binary, by_unary};
 use crate::scopes::RunScope;
 use crate::texts::front_of;
-use aria_base::{Duplicate, Items, Value};
+use aria_base::{Duplicate, Items, Part, Value};
 use proc_lang::{Expr, Exprs, Shape};
 
 /// The value of the expression, for this request, this tuple of an `Each` and these registers.
@@ -19,7 +21,7 @@ use proc_lang::{Expr, Exprs, Shape};
 pub fn eval(scope: &RunScope, registers: &Vec<Value>, expr: &Expr) -> Result<Value, EvalFault>
     ensures { Computes result (value_in scope.now registers.now.items (term_of expr.now)) }
 {
-    match direct_number(scope, registers, expr) {
+    match number_of(scope, registers, expr) {
         Some(number) => Ok(Value::Int(number)),
         None => eval_shape(scope, registers, expr),
     }
@@ -67,14 +69,8 @@ fn eval_both(
 ) -> Result<(Value, Value), EvalFault>
     ensures { Computes result (both (value_in scope.now registers.now.items (term_of first.now)) (value_in scope.now registers.now.items (term_of second.now))) }
 {
-    let value = match number_at(scope, registers, first) {
-        Some(number) => Value::Int(number),
-        None => eval(scope, registers, first)?,
-    };
-    match number_at(scope, registers, second) {
-        Some(number) => Ok((value, Value::Int(number))),
-        None => Ok((value, eval(scope, registers, second)?)),
-    }
+    let value = eval(scope, registers, first)?;
+    Ok((value, eval(scope, registers, second)?))
 }
 
 /// The values of a list of expressions, from the left.
@@ -91,4 +87,34 @@ pub fn eval_all(
         values.push(eval(scope, registers, expr)?)?;
     }
     Ok(Items::from_vec(values))
+}
+
+/// Whether the value of the expression is a number other than 0.
+pub fn test(scope: &RunScope, registers: &Vec<Value>, expr: &Expr) -> Result<bool, EvalFault>
+    ensures { Computes result (got (value_in scope.now registers.now.items (term_of expr.now)) (λ v. Ok (is_true v))) }
+{
+    match number_of(scope, registers, expr) {
+        Some(number) => Ok(number != 0),
+        None => Ok(holds(&eval_shape(scope, registers, expr)?)),
+    }
+}
+
+/// The value of the expression as a part of a key.
+pub fn part(scope: &RunScope, registers: &Vec<Value>, expr: &Expr) -> Result<Part, EvalFault>
+    ensures { Computes result (got (value_in scope.now registers.now.items (term_of expr.now)) (λ v. Ok (part_of v))) }
+{
+    match number_of(scope, registers, expr) {
+        Some(number) => Ok(Part::Int(number)),
+        None => Ok(as_part(eval_shape(scope, registers, expr)?)),
+    }
+}
+
+/// The value as a part of a key.
+fn as_part(value: Value) -> Part
+    ensures { result ≡ part_of value }
+{
+    match value {
+        Value::Int(number) => Part::Int(number),
+        Value::Text(text) => Part::Text(text),
+    }
 }

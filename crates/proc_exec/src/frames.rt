@@ -4,17 +4,19 @@ ghost use Rattle.std.specs.declared.result.Result.TheVariants.{Ok};
 ghost use Rattle.aria_base.specs.declared.values.Value.TheVariants as value;
 ghost use Rattle.proc_lang.specs.Steps as step;
 ghost use Rattle.proc_lang.specs.TermOf.{term_of};
-ghost use Rattle.proc_lang.specs.Values.{blank, got};
-ghost use Rattle.proc_lang.specs.Meaning.{Next, begun, set_to, set_all, blank_all, blank_one, key_from, row_from, part_of, parts_of};
+ghost use Rattle.proc_lang.specs.Values.{blank, got, is_true};
+ghost use Rattle.proc_lang.specs.Meaning.{Next, begun, set_to, set_all, blank_all, blank_one, key_from, row_from, parts_of};
 ghost use Rattle.proc_exec.specs.Faults.{Computes};
 ghost use Rattle.proc_exec.specs.Scopes.{value_in, values_in, step_in};
 ghost use Rattle.proc_exec.specs.Steppings.{Counts, Goes};
 
 use crate::early_ends::EvalFault;
-use crate::evaluations::{eval, eval_all};
+use crate::evaluations::{eval, eval_all, part, test};
 use crate::scopes::RunScope;
 use crate::texts::kept;
-use aria_base::{Key, Kind, Kinded, Kinds, MOST_COLUMNS, Memory, Part, Parts, Row, Value};
+use aria_base::{
+    Duplicate, Key, Kind, Kinded, Kinds, MOST_COLUMNS, Memory, Part, Parts, Row, Value,
+};
 use proc_lang::{Expr, Exprs, Gives, MOST_ACCESSES, MOST_GIVEN, Regs, Trap};
 use std::alloc::Global;
 use std::marker::Model;
@@ -58,6 +60,13 @@ impl Running {
         eval(scope, &self.registers, expr)
     }
 
+    /// Whether the value of an expression is a number other than 0.
+    pub fn test(&self, scope: &RunScope, expr: &Expr) -> Result<bool, EvalFault>
+        ensures { Computes result (got (value_in scope.now self.now.regs (term_of expr.now)) (λ v. Ok (is_true v))) }
+    {
+        test(scope, &self.registers, expr)
+    }
+
     /// The key in this table with the values of these expressions.
     pub fn key(&self, scope: &RunScope, table: u16, exprs: &Exprs) -> Result<Key, EvalFault>
         ensures { Computes result (key_from scope.now.request.now scope.now.item.now self.now.regs table exprs.now) }
@@ -71,25 +80,28 @@ impl Running {
         ensures { Computes result (got (values_in scope.now self.now.regs exprs.now) (λ vs. Ok (parts_of vs))) }
     {
         match exprs.as_slice() {
-            [a] => Ok(Parts::one(part(self.value(scope, a)?))),
-            [a, b] => Ok(Parts::two(part(self.value(scope, a)?), part(self.value(scope, b)?))),
+            [a] => Ok(Parts::one(part(scope, &self.registers, a)?)),
+            [a, b] => Ok(Parts::two(
+                part(scope, &self.registers, a)?,
+                part(scope, &self.registers, b)?,
+            )),
             [a, b, c] => Ok(Parts::three(
-                part(self.value(scope, a)?),
-                part(self.value(scope, b)?),
-                part(self.value(scope, c)?),
+                part(scope, &self.registers, a)?,
+                part(scope, &self.registers, b)?,
+                part(scope, &self.registers, c)?,
             )),
             [a, b, c, d] => Ok(Parts::four(
-                part(self.value(scope, a)?),
-                part(self.value(scope, b)?),
-                part(self.value(scope, c)?),
-                part(self.value(scope, d)?),
+                part(scope, &self.registers, a)?,
+                part(scope, &self.registers, b)?,
+                part(scope, &self.registers, c)?,
+                part(scope, &self.registers, d)?,
             )),
             [a, b, c, d, e] => Ok(Parts::five(
-                part(self.value(scope, a)?),
-                part(self.value(scope, b)?),
-                part(self.value(scope, c)?),
-                part(self.value(scope, d)?),
-                part(self.value(scope, e)?),
+                part(scope, &self.registers, a)?,
+                part(scope, &self.registers, b)?,
+                part(scope, &self.registers, c)?,
+                part(scope, &self.registers, d)?,
+                part(scope, &self.registers, e)?,
             )),
             // no key: all are evaluated, since one may trap, and the single 0 stands for the parts
             _ => {
@@ -118,12 +130,12 @@ impl Running {
     }
 
     /// Sets a register, where there is one.
+    #[inline(always)]
     fn set(&mut self, register: u32, value: Value)
         ensures { self.new ≡ set_to self.old (slice_set self.old.regs register value) }
     {
-        let at = register as usize;
-        if at < self.registers.len() {
-            self.registers[at] = value;
+        if let Some(place) = self.registers.get_mut(register as usize) {
+            *place = value;
         }
     }
 
@@ -141,11 +153,26 @@ impl Running {
         }
     }
 
-    /// Puts the columns of a row into registers, as far as there are both, and then 1 into the flag.
-    pub fn set_found(&mut self, registers: &Regs, row: Row, flag: u32)
-        ensures { self.new ≡ set_to self.old (slice_set (set_all registers.now row self.old.regs) flag (value.Int (pos 1))) }
+    /// Puts copies of the columns of a row into registers, as far as there are both.
+    #[tactic(auto, using(crate::proofs::Registers::set_all_none, std::proofs::lemmas::Grind::common_steps))]
+    pub fn copy_row(&mut self, alloc: Global, registers: &Regs, row: &Row) -> Result<(), Memory>
+        ensures { IfOk result (λ _. self.new ≡ set_to self.old (set_all registers.now row.now self.old.regs)) }
     {
-        self.set_row(registers, row);
+        let mut values = row.as_slice().iter();
+        for register in registers.as_slice() {
+            let Some(value) = values.next() else {
+                return Ok(());
+            };
+            let value = value.duplicate(alloc)?;
+            self.set(*register, value);
+        }
+        Ok(())
+    }
+
+    /// Puts 1 into the flag of a row that was found.
+    pub fn set_flag(&mut self, flag: u32)
+        ensures { self.new ≡ set_to self.old (slice_set self.old.regs flag (value.Int (pos 1))) }
+    {
         self.set(flag, Value::Int(1));
     }
 
@@ -223,14 +250,4 @@ fn blanks(alloc: Global, kinds: &Kinds) -> Result<Vec<Value>, Memory>
         values.push(blank_of(alloc, *kind)?)?;
     }
     Ok(values)
-}
-
-/// The value as a part of a key.
-fn part(value: Value) -> Part
-    ensures { result ≡ part_of value }
-{
-    match value {
-        Value::Int(number) => Part::Int(number),
-        Value::Text(text) => Part::Text(text),
-    }
 }

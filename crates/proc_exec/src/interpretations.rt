@@ -7,8 +7,10 @@ ghost use Rattle.proc_exec.specs.Steppings.{ComesTo};
 
 use crate::limits::{Limits, Unlimited};
 use crate::outcomes::{Declared, Ran};
+use crate::readings::{Lent, Reads, Whole};
 use crate::statements::run_proc;
 use aria_base::{Memory, Request};
+use lent_rows::Lends;
 use proc_lang::{Access, Catalog, End, Gives};
 use std::alloc::Global;
 
@@ -25,7 +27,7 @@ pub fn interpret<A: Access>(
 ) -> Result<End, Memory>
     ensures { IfOk result (EndsAs (run_of catalog.now request.now) (A.seen access.old) (A.seen access.new)) }
 {
-    match run_request(alloc, &Unlimited, catalog, request, access)? {
+    match run_request(alloc, &Unlimited, &Whole, catalog, request, access)? {
         Ran::Ended(end) => Ok(end),
         Ran::Moved(_) => unreachable!(),
     }
@@ -43,13 +45,43 @@ pub fn interpret_within<A: Access>(
 ) -> Result<Ran, Memory>
     ensures { IfOk result (EndsWithin (touchable declared.now) (run_of catalog.now request.now) (A.seen access.old) (A.seen access.new)) }
 {
-    run_request(alloc, declared, catalog, request, access)
+    run_request(alloc, declared, &Whole, catalog, request, access)
 }
 
-/// Runs a request within these limits, whichever they are.
-fn run_request<L: Limits, A: Access>(
+/// The same as [`interpret`] through a window that lends its rows, without a copy of the rows that are read.
+pub fn interpret_lent<A: Lends>(
+    alloc: Global,
+    catalog: &Catalog,
+    request: &Request,
+    access: &mut A,
+) -> Result<End, Memory>
+    ensures { IfOk result (EndsAs (run_of catalog.now request.now) (A.seen access.old) (A.seen access.new)) }
+{
+    match run_request(alloc, &Unlimited, &Lent, catalog, request, access)? {
+        Ran::Ended(end) => Ok(end),
+        Ran::Moved(_) => unreachable!(),
+    }
+}
+
+/// The same as [`interpret_within`] through a window that lends its rows.
+#[tactic(auto, using(crate::proofs::Ended::ends_within))]
+pub fn interpret_lent_within<A: Lends>(
+    alloc: Global,
+    catalog: &Catalog,
+    request: &Request,
+    declared: &Declared,
+    access: &mut A,
+) -> Result<Ran, Memory>
+    ensures { IfOk result (EndsWithin (touchable declared.now) (run_of catalog.now request.now) (A.seen access.old) (A.seen access.new)) }
+{
+    run_request(alloc, declared, &Lent, catalog, request, access)
+}
+
+/// Runs a request within these limits, whichever they are, and reads rows in this way.
+fn run_request<L: Limits, A: Access, S: Reads<A>>(
     alloc: Global,
     limits: &L,
+    reads: &S,
     catalog: &Catalog,
     request: &Request,
     access: &mut A,
@@ -57,7 +89,7 @@ fn run_request<L: Limits, A: Access>(
     ensures { IfOk result (ComesTo (L.declared limits.now) (run_of catalog.now request.now) (A.seen access.old) (A.seen access.new)) }
 {
     match catalog.procs().get(usize::from(request.call.proc)) {
-        Some(checked) => run_proc(alloc, limits, checked.proc(), request, access),
+        Some(checked) => run_proc(alloc, limits, reads, checked.proc(), request, access),
         None => Ok(Ran::Ended(End::Done(Gives::from_vec(Vec::new(alloc))))),
     }
 }

@@ -12,6 +12,7 @@
 //! accesses  evaluations ─ operands         what expressions name, read where it stands
 //!      |             \─── operators        what is made of it: numbers, texts
 //!   limits            what the run may touch
+//!   readings          how it takes a row from the window
 //!      |
 //!   Access            the window
 //! ```
@@ -32,9 +33,10 @@ mod limits;
 mod operands;
 mod operators;
 mod outcomes;
+mod readings;
 mod scopes;
 mod statements;
 mod texts;
 
-pub use interpretations::{interpret, interpret_within};
+pub use interpretations::{interpret, interpret_lent, interpret_lent_within, interpret_within};
 pub use outcomes::{Declared, Late, Outcome, Ran, Waiting, Within};

@@ -1,9 +1,9 @@
 // What an expression names: it is read where it stands, and copied only where it is wanted whole.
-ghost use Rattle.std.specs.Prelude.{◌≡◌, IfOk, IfSome, slice_index_or, pos};
+ghost use Rattle.std.specs.Prelude.{◌≡◌, ◌&&◌, ◌||◌, IfOk, IfSome, slice_index_or, pos};
 ghost use Rattle.std.specs.declared.result.Result.TheVariants.{Ok};
 ghost use Rattle.aria_base.specs.declared.values.Value.TheVariants as value;
 ghost use Rattle.proc_lang.specs.TermOf.{term_of};
-ghost use Rattle.proc_lang.specs.Values.{both, got, number, same_value};
+ghost use Rattle.proc_lang.specs.Values.{both, got, is_true, number, same_value, truth};
 ghost use Rattle.proc_lang.specs.Meaning.{named_value};
 ghost use Rattle.proc_exec.specs.Scopes.{value_in};
 
@@ -58,9 +58,50 @@ fn text_at<'a>(scope: &RunScope<'a>, registers: &'a Vec<Value>, expr: &'a Expr) 
     }
 }
 
-/// The number of a literal, a register, an argument or a tuple's place, where it stands. None of what
-/// is a text there, nor of any other expression.
-pub fn number_at(scope: &RunScope, registers: &Vec<Value>, expr: &Expr) -> Option<i64>
+/// The number, where it is within the 64-bit numbers.
+fn fitting(exact: i128) -> Option<i64>
+    ensures { IfSome result (λ n. number exact ≡ Ok (value.Int n)) }
+{
+    match i64::try_from(exact) {
+        Ok(small) => Some(small),
+        Err(_) => None,
+    }
+}
+
+/// 1 or 0.
+fn number_of_truth(holds: bool) -> i64
+    ensures { value.Int result ≡ truth holds }
+{
+    if holds { 1 } else { 0 }
+}
+
+/// Whether two texts are equal where they stand.
+fn equal_texts(
+    scope: &RunScope,
+    registers: &Vec<Value>,
+    first: &Expr,
+    second: &Expr,
+) -> Option<bool>
+    ensures { IfSome result (λ equal. got (both (value_in scope.now registers.now.items (term_of first.now)) (value_in scope.now registers.now.items (term_of second.now))) (λ p. Ok (same_value p.0 p.1)) ≡ Ok equal) }
+{
+    Some(text_at(scope, registers, first)? == text_at(scope, registers, second)?)
+}
+
+/// Whether two operands are equal, both numbers, or both texts where they stand.
+#[cycle(counting)]
+fn equal(scope: &RunScope, registers: &Vec<Value>, first: &Expr, second: &Expr) -> Option<bool>
+    ensures { IfSome result (λ equal. got (both (value_in scope.now registers.now.items (term_of first.now)) (value_in scope.now registers.now.items (term_of second.now))) (λ p. Ok (same_value p.0 p.1)) ≡ Ok equal) }
+{
+    match number_of(scope, registers, first) {
+        Some(x) => Some(x == number_of(scope, registers, second)?),
+        None => equal_texts(scope, registers, first, second),
+    }
+}
+
+/// The number of an expression, where it is found without memory and without a trap. None of what is a
+/// text, nor of what only `eval` works out.
+#[cycle(counting)]
+pub fn number_of(scope: &RunScope, registers: &Vec<Value>, expr: &Expr) -> Option<i64>
     ensures { IfSome result (λ n. value_in scope.now registers.now.items (term_of expr.now) ≡ Ok (value.Int n)) }
 {
     match expr {
@@ -74,48 +115,57 @@ pub fn number_at(scope: &RunScope, registers: &Vec<Value>, expr: &Expr) -> Optio
             _ => None,
         },
         Expr::Item(at) => Some(scope.number(*at)),
+        Expr::Add(a, b) => {
+            let x = number_of(scope, registers, a)?;
+            let y = number_of(scope, registers, b)?;
+            fitting(i128::from(x) + i128::from(y))
+        }
+        Expr::Sub(a, b) => {
+            let x = number_of(scope, registers, a)?;
+            let y = number_of(scope, registers, b)?;
+            fitting(i128::from(x) - i128::from(y))
+        }
+        Expr::Mul(a, b) => {
+            let x = number_of(scope, registers, a)?;
+            let y = number_of(scope, registers, b)?;
+            fitting(i128::from(x) * i128::from(y))
+        }
+        Expr::Eq(a, b) => Some(number_of_truth(equal(scope, registers, a, b)?)),
+        Expr::Ne(a, b) => Some(number_of_truth(!equal(scope, registers, a, b)?)),
+        Expr::Lt(a, b) => {
+            let x = number_of(scope, registers, a)?;
+            let y = number_of(scope, registers, b)?;
+            Some(number_of_truth(x < y))
+        }
+        Expr::Le(a, b) => {
+            let x = number_of(scope, registers, a)?;
+            let y = number_of(scope, registers, b)?;
+            Some(number_of_truth(x <= y))
+        }
+        Expr::And(a, b) => {
+            let x = number_of(scope, registers, a)?;
+            let y = number_of(scope, registers, b)?;
+            Some(number_of_truth(both_hold(x, y)))
+        }
+        Expr::Or(a, b) => {
+            let x = number_of(scope, registers, a)?;
+            let y = number_of(scope, registers, b)?;
+            Some(number_of_truth(one_holds(x, y)))
+        }
         _ => None,
     }
 }
 
-/// The number, where it is within the 64-bit numbers.
-fn fitting(exact: i128) -> Option<i64>
-    ensures { IfSome result (λ n. number exact ≡ Ok (value.Int n)) }
+/// Whether both numbers are not 0.
+fn both_hold(x: i64, y: i64) -> bool
+    ensures { result ≡ (is_true (value.Int x) && is_true (value.Int y)) }
 {
-    match i64::try_from(exact) {
-        Ok(small) => Some(small),
-        Err(_) => None,
-    }
+    x != 0 && y != 0
 }
 
-/// Whether two operands are equal, both numbers or both texts where they stand.
-fn equal_at(scope: &RunScope, registers: &Vec<Value>, first: &Expr, second: &Expr) -> Option<bool>
-    ensures { IfSome result (λ equal. got (both (value_in scope.now registers.now.items (term_of first.now)) (value_in scope.now registers.now.items (term_of second.now))) (λ p. Ok (same_value p.0 p.1)) ≡ Ok equal) }
+/// Whether one of the numbers is not 0.
+fn one_holds(x: i64, y: i64) -> bool
+    ensures { result ≡ (is_true (value.Int x) || is_true (value.Int y)) }
 {
-    match number_at(scope, registers, first) {
-        Some(x) => Some(x == number_at(scope, registers, second)?),
-        None => Some(text_at(scope, registers, first)? == text_at(scope, registers, second)?),
-    }
-}
-
-/// The number of an expression, where it is found without memory: that of an operand where it stands,
-/// and what a sum, a difference or a test for equality makes of two such operands.
-pub fn direct_number(scope: &RunScope, registers: &Vec<Value>, expr: &Expr) -> Option<i64>
-    ensures { IfSome result (λ n. value_in scope.now registers.now.items (term_of expr.now) ≡ Ok (value.Int n)) }
-{
-    match expr {
-        Expr::Add(a, b) => {
-            let x = number_at(scope, registers, a)?;
-            let y = number_at(scope, registers, b)?;
-            fitting(i128::from(x) + i128::from(y))
-        }
-        Expr::Sub(a, b) => {
-            let x = number_at(scope, registers, a)?;
-            let y = number_at(scope, registers, b)?;
-            fitting(i128::from(x) - i128::from(y))
-        }
-        Expr::Eq(a, b) => Some(i64::from(equal_at(scope, registers, a, b)?)),
-        Expr::Ne(a, b) => Some(i64::from(!equal_at(scope, registers, a, b)?)),
-        _ => number_at(scope, registers, expr),
-    }
+    x != 0 || y != 0
 }

@@ -19,11 +19,13 @@ pub struct RunScope<'a> {
 
 /// Where a statement is run: what stays the same from one statement of a block to the next.
 #[derive_where(Clone, Copy)]
-pub struct Setting<'a, L> {
+pub struct Setting<'a, L, S> {
     /// Where its expressions are evaluated.
     pub scope: RunScope<'a>,
     /// What its accesses may touch.
     pub limits: &'a L,
+    /// How it reads rows.
+    pub reads: &'a S,
 }
 
 impl<'a> RunScope<'a> {

@@ -7,20 +7,21 @@ ghost use Rattle.proc_exec.specs.Scopes.{step_in, steps_in};
 ghost use Rattle.proc_exec.specs.Steppings.{Performs, ComesTo};
 
 use crate::accesses::{delete, find, get, need, put};
-use crate::arithmetic::holds;
 use crate::early_ends::RunStop;
 use crate::frames::Running;
 use crate::limits::Limits;
 use crate::outcomes::Ran;
+use crate::readings::Reads;
 use crate::scopes::{RunScope, Setting};
 use aria_base::{Memory, Request};
 use proc_lang::{Access, Block, End, Proc, Stmt};
 use std::alloc::Global;
 
-/// Runs a procedure for a request, within these limits.
-pub fn run_proc<L: Limits, A: Access>(
+/// Runs a procedure for a request, within these limits. Rows are read in this way.
+pub fn run_proc<L: Limits, A: Access, S: Reads<A>>(
     alloc: Global,
     limits: &L,
+    reads: &S,
     proc: &Proc,
     request: &Request,
     access: &mut A,
@@ -33,19 +34,24 @@ pub fn run_proc<L: Limits, A: Access>(
         item: &[],
     };
     let mut state = Running::start(alloc, &proc.regs)?;
-    match run_block(&Setting { scope, limits }, &proc.body, &mut state, access) {
+    let setting = Setting {
+        scope,
+        limits,
+        reads,
+    };
+    match run_block(&setting, &proc.body, &mut state, access) {
         Ok(()) => Ok(Ran::Ended(End::Done(state.into_given()))),
         Err(RunStop::Back(code)) => Ok(Ran::Ended(End::Back(code))),
         Err(RunStop::Trap(trap)) => Ok(Ran::Ended(End::Trap(trap))),
-        Err(RunStop::Moved(key)) => Ok(Ran::Moved(key)),
+        Err(RunStop::Moved(key)) => Ok(Ran::Moved(Box::into_inner(key))),
         Err(RunStop::Memory) => Err(Memory),
     }
 }
 
 /// Runs the statements of a block, one after another.
 #[cycle(running)]
-fn run_block<L: Limits, A: Access>(
-    setting: &Setting<L>,
+fn run_block<L: Limits, A: Access, S: Reads<A>>(
+    setting: &Setting<L, S>,
     block: &Block,
     state: &mut Running,
     access: &mut A,
@@ -60,8 +66,8 @@ fn run_block<L: Limits, A: Access>(
 
 /// Runs one statement.
 #[cycle(running)]
-fn run_stmt<L: Limits, A: Access>(
-    setting: &Setting<L>,
+fn run_stmt<L: Limits, A: Access, S: Reads<A>>(
+    setting: &Setting<L, S>,
     stmt: &Stmt,
     state: &mut Running,
     access: &mut A,
@@ -80,7 +86,7 @@ fn run_stmt<L: Limits, A: Access>(
         Stmt::Put(table, key, columns) => put(setting, *table, key, columns, state, access),
         Stmt::Del(table, key) => delete(setting, *table, key, state, access),
         Stmt::If(test, first, second) => {
-            let test = holds(&state.value(&setting.scope, test)?);
+            let test = state.test(&setting.scope, test)?;
             let block = if test { first } else { second };
             run_block(setting, block, state, access)
         }
@@ -92,8 +98,8 @@ fn run_stmt<L: Limits, A: Access>(
 
 /// Runs a block for each tuple of a list argument.
 #[cycle(running)]
-fn run_each<L: Limits, A: Access>(
-    setting: &Setting<L>,
+fn run_each<L: Limits, A: Access, S: Reads<A>>(
+    setting: &Setting<L, S>,
     argument: u32,
     block: &Block,
     state: &mut Running,
@@ -109,6 +115,7 @@ fn run_each<L: Limits, A: Access>(
                 ..*scope
             },
             limits: setting.limits,
+            reads: setting.reads,
         };
         run_block(&inner, block, state, access)?;
     }

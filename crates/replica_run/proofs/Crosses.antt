@@ -9,9 +9,8 @@ use Rattle.aria_base.proofs.texts.Txt.TheSendSync as txt
 use Rattle.aria_base.proofs.values.Kind.TheSendSync as kind
 use Rattle.batch_core.proofs.answers.Line.TheSendSync as line
 use Rattle.batch_engine.specs.contracts.engines.Engine as Engine
-use Rattle.batch_engine.specs.contracts.lasts.Last as Last
+use Rattle.batch_engine.specs.contracts.marks.Marked as Marked
 use Rattle.dep_rules.specs.contracts.numberings.Numbered as Numbered
-use Rattle.key_numbering.proofs.kept.Kept.TheSendSync as kept
 use Rattle.proc_lang.proofs.expressions.Expr.TheLaws.TheKnot as expr_knot
 use Rattle.proc_lang.proofs.procs.ArgKind.TheSendSync as arg_kind
 use Rattle.proc_lang.proofs.statements.Block.TheLaws.TheKnot as block_knot
@@ -42,11 +41,11 @@ closed_send = search (crosses, sendable) depth 30
 numbered_send : IsSend Numbered.the_row
 numbered_send = search (crosses, sendable) depth 30
 
-last_send : IsSend Last.the_row
-last_send = search (kept.the_send, closed_send, numbered_send, crosses, sendable) depth 30
+marked_send : IsSend Marked.the_row
+marked_send = search (closed_send, numbered_send, crosses, sendable) depth 30
 
 engine_send : IsSend Engine.the_row
-engine_send = search (catalog_send, tables.the_send, items.the_send, request.the_send, last_send, crosses, sendable) depth 30
+engine_send = search (catalog_send, tables.the_send, items.the_send, request.the_send, marked_send, crosses, sendable) depth 30
 
 pub job_send : IsSend Job.the_row
 job_send = search (engine_send, items.the_send, call.the_send, crosses, sendable) depth 30

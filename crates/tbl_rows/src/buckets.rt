@@ -13,6 +13,7 @@ ghost use Rattle.tbl_rows.specs.declared.homes.TheConstants.{LAST_LEVEL};
 
 use crate::entries::Entry;
 use crate::refusals::Refused;
+use crate::spents::Spent;
 use aria_base::{Duplicate, Key, Memory, Row};
 use std::alloc::{AllocError, Global};
 use std::marker::Model;
@@ -67,28 +68,36 @@ impl Bucket {
         }
     }
 
-    /// Sets the row at the key of this hash, and tells whether there was none. `Refused` means out of
-    /// memory.
-    pub(crate) fn put(&mut self, hash: u64, key: Key, row: Row) -> Result<bool, Refused>
+    /// Sets the row at the key of this hash, and tells whether there was none, with what is left over.
+    /// `Refused` means out of memory.
+    pub(crate) fn put(&mut self, hash: u64, key: Key, row: Row) -> Result<(bool, Spent), Refused>
         requires { hash ≡ hash_of key }
         ensures put { OnOk result (self.new ≡ fin.insert self.old key row) }
-        ensures added { IfOk result (λ added. added ≡ not (fin.contains_key self.old key)) }
+        ensures added { IfOk result (λ r. r.0 ≡ not (fin.contains_key self.old key)) }
         ensures refused { IfErr result (λ refused. (refused.key ≡ key) × (refused.row ≡ row)) }
         ensures kept { OnErr result (self.new ≡ self.old) }
     {
         match place_of(&self.entries, hash, &key) {
             Some(place) => {
                 let entry = &mut self.entries[place];
-                entry.set_row(row);
+                let was = entry.set_row(row);
                 drop(key);
-                Ok(false)
+                Ok((
+                    false,
+                    Spent {
+                        row: Some(was),
+                        list: None,
+                    },
+                ))
             }
             None => {
-                if make_room(&mut self.entries).is_err() {
-                    return Err(Refused { key, row });
+                match make_room(&mut self.entries) {
+                    Ok(list) => {
+                        self.entries.push_reserved(Entry::new(hash, key, row));
+                        Ok((true, Spent { row: None, list }))
+                    }
+                    Err(_) => Err(Refused { key, row }),
                 }
-                self.entries.push_reserved(Entry::new(hash, key, row));
-                Ok(true)
             }
         }
     }
@@ -153,16 +162,19 @@ fn place_of(entries: &Vec<Entry>, hash: u64, key: &Key) -> Option<usize>
 }
 
 /// Makes room for one more row. A list grows by a quarter, and not to its double, since a bucket is
-/// short and a table has many.
-fn make_room(entries: &mut Vec<Entry>) -> Result<(), AllocError>
+/// short and a table has many. Where it needs another block it hands out the old one.
+fn make_room(entries: &mut Vec<Entry>) -> Result<Option<Vec<Entry>>, AllocError>
     ensures items { entries.new.items ≡ entries.old.items }
     ensures room { OnOk result (vec_len entries.new < vec_capacity entries.new) }
 {
     let len = entries.len();
+    let alloc = *entries.allocator();
     if len < entries.capacity() {
-        return Ok(());
+        return Ok(None);
     }
-    entries.reserve_exact(1 + len / 4)
+    let mut more = Vec::with_capacity(alloc, len + 1 + len / 4)?;
+    more.append(entries)?;
+    Ok(Some(mem::replace(entries, more)))
 }
 
 /// How many of the rows move when the next of so many buckets is made.

@@ -10,6 +10,7 @@ use crate::homes::bucket_at;
 use aria_base::{Duplicate, Key, Memory, Row, same_key};
 use std::alloc::Global;
 use std::marker::Model;
+use std::mem;
 
 /// A row with its key, and with the key's hash, so that a search compares keys only where the hashes
 /// are one. A contract sees the key and the row.
@@ -82,11 +83,11 @@ impl Entry {
         bucket_at(level, count + 1, self.hash) == count
     }
 
-    /// Sets the row.
-    pub(crate) fn set_row(&mut self, row: Row)
+    /// Sets the row, and hands out the one that stood there.
+    pub(crate) fn set_row(&mut self, row: Row) -> Row
         ensures { self.new ≡ (self.old.0, row) }
     {
-        self.row = fitted(row);
+        mem::replace(&mut self.row, fitted(row))
     }
 }
 

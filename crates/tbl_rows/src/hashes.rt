@@ -11,9 +11,10 @@ const SPREAD: u64 = 0x9E37_79B9_7F4A_7C15;
 /// The bits of half a word.
 const HALF_BITS: u32 = 32;
 
-/// The hash of a key. It is no secret: who chooses keys can choose them with one hash.
+/// The hash of a key, which [`Tables::get_at`](crate::Tables::get_at) takes. It is no secret: who chooses keys
+/// can choose them with one hash. No memory.
 #[tactic(auto, unfolding(crate::specs::Hashes::hash_of))]
-pub(crate) fn hash_of(key: &Key) -> u64
+pub fn hash_of(key: &Key) -> u64
     ensures { result ≡ hash_of key.now }
 {
     let mut hash = u64::from(key.table);

@@ -30,11 +30,14 @@ mod pools;
 mod refusals;
 mod rows;
 mod shards;
+mod spents;
 mod tables;
 
+pub use hashes::hash_of;
 pub use homes::{SHARDS, shard_of};
 pub use refusals::Refused;
 pub use shards::Shard;
+pub use spents::Spent;
 pub use tables::Tables;
 
 #[cfg(test)]

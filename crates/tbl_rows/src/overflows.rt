@@ -5,6 +5,7 @@ ghost use Rattle.std.specs.Map.Iter.{deref_pair};
 ghost use Rattle.std.specs.FinMap as fin;
 
 use crate::refusals::Refused;
+use crate::spents::Spent;
 use aria_base::{Duplicate, Key, Memory, Row};
 use std::alloc::Global;
 use std::collections::BTreeMap;
@@ -47,13 +48,13 @@ impl Overflow {
     }
 
     /// Sets the row at a key. `Refused` means out of memory.
-    pub(crate) fn put(&mut self, key: Key, row: Row) -> Result<(), Refused>
+    pub(crate) fn put(&mut self, key: Key, row: Row) -> Result<Spent, Refused>
         ensures put { OnOk result (self.new ≡ fin.insert self.old key row) }
         ensures refused { IfErr result (λ refused. (refused.key ≡ key) × (refused.row ≡ row)) }
         ensures kept { OnErr result (self.new ≡ self.old) }
     {
         match self.rows.insert(key, row) {
-            Ok(_) => Ok(()),
+            Ok(row) => Ok(Spent { row, list: None }),
             Err(failed) => {
                 let (key, row) = failed.value;
                 Err(Refused { key, row })

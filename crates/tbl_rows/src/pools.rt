@@ -10,6 +10,7 @@ ghost use Rattle.tbl_rows.specs.declared.homes.TheConstants.{LAST_LEVEL};
 use crate::buckets::Bucket;
 use crate::homes::{LAST_LEVEL, bucket_at};
 use crate::refusals::Refused;
+use crate::spents::Spent;
 use aria_base::{Duplicate, Key, Memory, Row};
 use std::alloc::Global;
 use std::marker::Model;
@@ -75,7 +76,7 @@ impl Pool {
     }
 
     /// Sets the row at the key of this hash. `Refused` means out of memory.
-    pub(crate) fn put(&mut self, hash: u64, key: Key, row: Row) -> Result<(), Refused>
+    pub(crate) fn put(&mut self, hash: u64, key: Key, row: Row) -> Result<Spent, Refused>
         requires { hash ≡ hash_of key }
         ensures put { OnOk result (self.new ≡ fin.insert self.old key row) }
         ensures refused { IfErr result (λ refused. (refused.key ≡ key) × (refused.row ≡ row)) }
@@ -88,7 +89,7 @@ impl Pool {
     }
 
     /// Sets the row at the key of this hash, in the buckets that there are. `Refused` means out of memory.
-    fn put_here(&mut self, hash: u64, key: Key, row: Row) -> Result<(), Refused>
+    fn put_here(&mut self, hash: u64, key: Key, row: Row) -> Result<Spent, Refused>
         requires { hash ≡ hash_of key }
         ensures put { OnOk result (self.new ≡ fin.insert self.old key row) }
         ensures refused { IfErr result (λ refused. (refused.key ≡ key) × (refused.row ≡ row)) }
@@ -96,9 +97,9 @@ impl Pool {
     {
         let place = place_of(self.level, &self.buckets, hash, &key);
         let bucket = &mut self.buckets[place];
-        let added = bucket.put(hash, key, row)?;
+        let (added, spent) = bucket.put(hash, key, row)?;
         self.len = self.len.saturating_add(usize::from(added));
-        Ok(())
+        Ok(spent)
     }
 
     /// Makes one bucket more, if there is memory.

@@ -10,6 +10,7 @@ ghost use Rattle.tbl_rows.specs.Pools.{IsApart};
 use crate::overflows::Overflow;
 use crate::pools::Pool;
 use crate::refusals::Refused;
+use crate::spents::Spent;
 use aria_base::{Duplicate, Key, Memory, Row};
 use std::alloc::Global;
 use std::marker::Model;
@@ -59,18 +60,18 @@ impl Rows {
     }
 
     /// Sets the row at the key of this hash. `Refused` means out of memory.
-    pub(crate) fn put(&mut self, hash: u64, key: Key, row: Row) -> Result<(), Refused>
+    pub(crate) fn put(&mut self, hash: u64, key: Key, row: Row) -> Result<Spent, Refused>
         requires { hash ≡ hash_of key }
         ensures put { OnOk result (self.new ≡ fin.insert self.old key row) }
         ensures refused { IfErr result (λ refused. (refused.key ≡ key) × (refused.row ≡ row)) }
         ensures kept { OnErr result (self.new ≡ self.old) }
     {
         if overflows(&self.pool, &self.overflow, hash, &key) {
-            self.overflow.put(key, row)?;
-            return Ok(());
+            let spent = self.overflow.put(key, row)?;
+            return Ok(spent);
         }
-        self.pool.put(hash, key, row)?;
-        Ok(())
+        let spent = self.pool.put(hash, key, row)?;
+        Ok(spent)
     }
 
     /// Removes the row at the key of this hash, and tells whether there was one.

@@ -10,6 +10,7 @@ ghost use Rattle.tbl_rows.specs.declared.homes.TheConstants.{SHARDS};
 use crate::hashes::hash_of;
 use crate::refusals::Refused;
 use crate::rows::Rows;
+use crate::spents::Spent;
 use aria_base::{Duplicate, Key, Memory, Row};
 use std::alloc::Global;
 use std::marker::Model;
@@ -62,7 +63,7 @@ impl Shard {
     }
 
     /// Sets the row at a key. `Refused` means out of memory.
-    pub fn put(&mut self, key: Key, row: Row) -> Result<(), Refused>
+    pub fn put(&mut self, key: Key, row: Row) -> Result<Spent, Refused>
         requires { home key ≡ self.old.number }
         ensures put { OnOk result (self.new ≡ with_row self.old key row) }
         ensures refused { IfErr result (λ refused. (refused.key ≡ key) × (refused.row ≡ row)) }
@@ -74,7 +75,7 @@ impl Shard {
     }
 
     /// Sets the row at a key with this hash. `Refused` means out of memory.
-    pub(crate) fn put_at(&mut self, hash: u64, key: Key, row: Row) -> Result<(), Refused>
+    pub(crate) fn put_at(&mut self, hash: u64, key: Key, row: Row) -> Result<Spent, Refused>
         requires hash { hash ≡ hash_of key }
         requires home { home key ≡ self.old.number }
         ensures put { OnOk result (self.new ≡ with_row self.old key row) }
@@ -83,8 +84,8 @@ impl Shard {
         ensures number { self.new.number ≡ self.old.number }
         ensures own { IsOwn self.new }
     {
-        self.rows.put(hash, key, row)?;
-        Ok(())
+        let spent = self.rows.put(hash, key, row)?;
+        Ok(spent)
     }
 
     /// Removes the row at a key, and tells whether there was one.

@@ -4,6 +4,7 @@ ghost use Rattle.std.specs.Option.{option_copied};
 ghost use Rattle.std.specs.Map.Iter.{deref_pair};
 ghost use Rattle.std.specs.FinMap as fin;
 ghost use Rattle.aria_base.specs.declared.keys.Key.{Key as Name};
+ghost use Rattle.tbl_rows.specs.Hashes.{hash_of};
 ghost use Rattle.tbl_rows.specs.Shards.{IsWhole, AllNumbered, joined, at_home};
 ghost use Rattle.tbl_rows.specs.declared.homes.TheConstants.{SHARDS};
 
@@ -52,7 +53,14 @@ impl Tables {
     pub fn get(&self, key: &Key) -> Option<&Row>
         ensures { option_copied result ≡ fin.get self.now key.now }
     {
-        let hash = hash_of(key);
+        self.get_at(hash_of(key), key)
+    }
+
+    /// The row at a key with this hash. No memory.
+    pub fn get_at(&self, hash: u64, key: &Key) -> Option<&Row>
+        requires { hash ≡ hash_of key.now }
+        ensures { option_copied result ≡ fin.get self.now key.now }
+    {
         let shard = &self.shards[usize::from(shard_at(hash, key))];
         shard.get(hash, key)
     }
@@ -65,7 +73,8 @@ impl Tables {
     {
         let hash = hash_of(&key);
         let shard = &mut self.shards[usize::from(shard_at(hash, &key))];
-        shard.put_at(hash, key, row)
+        let _spent = shard.put_at(hash, key, row)?;
+        Ok(())
     }
 
     /// Removes the row at a key, and tells whether there was one. No memory.

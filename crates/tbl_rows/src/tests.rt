@@ -2,7 +2,7 @@
 // meant, and that keys are spread over the shards. The expected values were worked by hand.
 ghost use Rattle.tbl_rows.specs.Shards.{IsWhole};
 
-use crate::{Refused, SHARDS, Shard, Tables, shard_of};
+use crate::{Refused, SHARDS, Shard, Spent, Tables, shard_of};
 use aria_base::{Key, Memory, Part, Parts, Row, Txt, Value};
 use std::alloc::Global;
 use std::test::Fail;
@@ -214,7 +214,7 @@ const CHANGED: &[(i64, i64)] = &[
     (7, 77),
 ];
 
-fn put(shards: &mut Vec<Shard>, key: Key, row: Row) -> Result<(), Refused>
+fn put(shards: &mut Vec<Shard>, key: Key, row: Row) -> Result<Spent, Refused>
     requires { IsWhole shards.old.items }
     ensures { IsWhole shards.new.items }
 {

@@ -16,12 +16,19 @@ pub record Layer : Type 0 where
 abbrev pub seen_of : Layer → Seen key_cmp Cells
 seen_of layer = record { map = overwritten layer.base layer.noted.writes; noted = layer.noted }
 
+-- writes, as the overlay has them
+abbrev pub Buffer : Type 0
+Buffer = List (Key × Option Cells)
+
+abbrev pub buffer_code : Coded Buffer
+buffer_code = coded_list (coded× (key.the_row).coded (coded_option cells_code))
+
 abbrev Stored : Type 0
-Stored = Database × (List Key × List (Key × Option Cells))
+Stored = Database × (List Key × Buffer)
 
 abbrev stored_code : Coded Stored
 stored_code =
-    coded× database_code (coded× (coded_list (key.the_row).coded) (coded_list (coded× (key.the_row).coded (coded_option cells_code))))
+    coded× database_code (coded× (coded_list (key.the_row).coded) buffer_code)
 
 abbrev pub layer_code : Coded Layer
 layer_code =

@@ -13,9 +13,12 @@
 //! ```
 #![tactic(auto)]
 
+mod bits;
 mod overlays;
+mod reads;
 mod searches;
 mod snapshots;
+mod writes;
 
 pub use overlays::Overlay;
 pub use snapshots::Snapshot;

@@ -1,11 +1,10 @@
 // The searches of an overlay in its lists.
-ghost use Rattle.std.specs.Prelude.{◌≡◌, ◌++◌, ◌∷◌, [], IfOk, OnOk, OnErr, position, if◌then◌else◌};
+ghost use Rattle.std.specs.Prelude.{◌≡◌, IfOk, position};
 ghost use Rattle.std.specs.Ordering.{eq_by_cmp};
 ghost use Rattle.std.specs.Option.{option_copied};
 ghost use Rattle.aria_base.specs.Orders.{key_cmp};
-ghost use Rattle.batch_rules.specs.Touches.{is_among};
 
-use aria_base::{Duplicate, Key, Memory, Row, contains_key, same_key};
+use aria_base::{Duplicate, Key, Memory, Row, same_key};
 use std::alloc::Global;
 
 /// The place of a key's write.
@@ -13,19 +12,6 @@ pub(crate) fn place_of(writes: &Vec<(Key, Option<Row>)>, key: &Key) -> Option<us
     ensures { result ≡ position (λ w. eq_by_cmp key_cmp key.now w.0) writes.now.items }
 {
     writes.iter().position(|write| same_key(key, &write.0))
-}
-
-/// Adds a key to those that were read, where it is none of them.
-pub(crate) fn note(alloc: Global, reads: &mut Vec<Key>, key: &Key) -> Result<(), Memory>
-    ensures noted { OnOk result (reads.new.items ≡ (if is_among key_cmp reads.old.items key.now then reads.old.items else reads.old.items ++ key.now ∷ [])) }
-    ensures kept { OnErr result (reads.new.items ≡ reads.old.items) }
-{
-    if contains_key(reads.as_slice(), key) {
-        return Ok(());
-    }
-    let key = key.duplicate(alloc)?;
-    reads.push(key)?;
-    Ok(())
 }
 
 /// A row that was found, as a value of its own.

@@ -2,6 +2,7 @@
 ghost use Rattle.std.specs.Prelude.{◌≡◌};
 ghost use Rattle.std.specs.Option.{option_copied};
 ghost use Rattle.std.specs.FinMap as fin;
+ghost use Rattle.tbl_rows.specs.Hashes.{hash_of};
 
 use aria_base::{Key, Row};
 use std::marker::Model;
@@ -47,5 +48,13 @@ impl<'a> Snapshot<'a> {
         ensures { option_copied result ≡ fin.get self.now key.now }
     {
         self.tables.get(key)
+    }
+
+    /// The row at the key of this hash. No memory.
+    pub(crate) fn get_at(&self, hash: u64, key: &Key) -> Option<&Row>
+        requires { hash ≡ hash_of key.now }
+        ensures { option_copied result ≡ fin.get self.now key.now }
+    {
+        self.tables.get_at(hash, key)
     }
 }

@@ -1,7 +1,6 @@
 use Rattle.std.proofs.Common.{rules, ◌≡◌, sym, ap, subst, ◌∙◌, map, ◌≤◌, List}
 use Rattle.std.specs.List.{All}
 use Rattle.std.proofs.lemmas.Simd.{map-map}
-use Rattle.aria_base.specs.declared.calls.Request.{Request}
 use Rattle.batch_rules.specs.Batches.{reads_at, rows_at}
 use Rattle.batch_rules.specs.Touches.{keys_of}
 use Rattle.dep_rules.specs.Decisions.{reads_of, writes_of}
@@ -11,9 +10,9 @@ use Rattle.proc_exec.specs.Outcomes.{outcome_at}
 use Rattle.proc_lang.specs.Catalogs.{run_of}
 use Rattle.proc_lang.specs.Meaning.{is_done}
 use Rattle.proc_lang.specs.declared.limits.TheConstants.{MOST_ACCESSES}
-use Rattle.batch_engine.specs.Lasts.{marks_of_last}
+use Rattle.batch_engine.specs.Lasts.{marks_of}
 use Rattle.batch_engine.specs.Lists.{sets_in}
-use Rattle.batch_engine.specs.Marks.{MarksSets}
+use Rattle.batch_engine.specs.Marks.{MarksSets, NumbersKeys}
 use Rattle.batch_engine.proofs.Committing.{touched-few, marks-through, rows-are}
 use Rattle.batch_engine.proofs.Judging.{verdicts-are}
 use Rattle.batch_engine.proofs.commits.commit.Goals as goal
@@ -30,8 +29,11 @@ returns-clause-marked g c =
     let tree = run_of c.args.catalog.now in
     let outcomes : c.in_ok-outcomes.outcomes.items ≡ map (outcome_at tree c.args.tables) c.args.list.now = search rules in
     let sets = c.deref.ensures.value ∙ c.in_ok-runs.ensures.sets ∙ ap (map sets_in) outcomes ∙ map-map sets_in (outcome_at tree c.args.tables) c.args.list.now in
-    marks-through reads_of writes_of (λ q. sets_in (outcome_at tree c.args.tables q)) c.args.list.now (marks_of_last c.in_ok-last.last)
-    (subst (λ (l : List Sets). MarksSets reads_of writes_of l (marks_of_last c.in_ok-last.last)) sets c.in_ok-last.ensures)
+    marks-through reads_of writes_of (λ q. sets_in (outcome_at tree c.args.tables q)) c.args.list.now (marks_of c.in_ok-last.last)
+    (subst (λ (l : List Sets). MarksSets reads_of writes_of l (marks_of c.in_ok-last.last)) sets c.in_ok-last.ensures.marks)
+
+pub returns-clause-numbered : goal.returns-clause-numbered
+returns-clause-numbered g c = subst (λ (l : List Sets). NumbersKeys reads_of writes_of l c.in_ok-last.last.numbered) c.deref.ensures.value c.in_ok-last.ensures.marks.numbered
 
 pub returns-clause-committed : goal.returns-clause-committed
 returns-clause-committed g c =
@@ -41,10 +43,10 @@ returns-clause-committed g c =
     let list = c.args.list.now in
     let outcomes : c.in_ok-outcomes.outcomes.items ≡ map (outcome_at tree start) list = search rules in
     let sets = c.in_ok-runs.ensures.sets ∙ ap (map sets_in) outcomes ∙ map-map sets_in (outcome_at tree start) list in
-    let marked = marks-through reads_of writes_of (λ q. sets_in (outcome_at tree start q)) list (marks_of_last c.in_ok-last.last)
-    (subst (λ (l : List Sets). MarksSets reads_of writes_of l (marks_of_last c.in_ok-last.last)) (c.deref.ensures.value ∙ sets) c.in_ok-last.ensures) in
+    let marked = marks-through reads_of writes_of (λ q. sets_in (outcome_at tree start q)) list (marks_of c.in_ok-last.last)
+    (subst (λ (l : List Sets). MarksSets reads_of writes_of l (marks_of c.in_ok-last.last)) (c.deref.ensures.value ∙ sets) c.in_ok-last.ensures.marks) in
     let verdicts = c.in_ok-verdicts.ensures
-    ∙ verdicts-are (reads_at is_done tree start) (λ q. keys_of (rows_at is_done tree start q)) list c.in_ok-last.last.marked.numbered marked.numbered rule in
+    ∙ verdicts-are (reads_at is_done tree start) (λ q. keys_of (rows_at is_done tree start q)) list c.in_ok-last.last.numbered marked.numbered rule in
     let changes = c.in_ok-runs.ensures.changes ∙ ap (map (λ o. o.writes)) outcomes ∙ map-map (λ o. o.writes) (outcome_at tree start) list in
     let ends = c.in_ok-runs.ensures.ends ∙ ap (map (λ o. o.end)) outcomes ∙ map-map (λ o. o.end) (outcome_at tree start) list in
     record {

@@ -1,12 +1,9 @@
-use Rattle.std.proofs.Common.{◌≡◌, ◌≤◌, ◌*◌, arith, ap, ℕ, List, [], ◌∷◌, length}
-use Rattle.std.specs.FinMap as fin
+use Rattle.std.proofs.Common.{◌≤◌, ◌*◌, arith, List, [], ◌∷◌, length}
 use Rattle.std.specs.List.{All, sum_by}
 use Rattle.std.proofs.lemmas.List.Sums.{sum_by-cons}
 use Rattle.std.proofs.lemmas.List.Elements.{All-head, All-tail}
-use Rattle.aria_base.specs.Orders.{key_cmp}
 use Rattle.dep_rules.specs.declared.sets.Sets.{Sets}
 use Rattle.key_numbering.specs.Numbers.{touch_count}
-use Rattle.key_numbering.proofs.Growing.{long_sets, longer_sets}
 use Rattle.proc_lang.specs.declared.limits.TheConstants.{MOST_ACCESSES}
 use Rattle.batch_engine.proofs.markings.mark.Goals as goal
 
@@ -17,16 +14,5 @@ few-touched (s ∷ ss) a =
     let rest = few-touched ss (All-tail (λ s. touch_count s ≤ MOST_ACCESSES) s ss a) in
     omega (arith, rest, All-head (λ s. touch_count s ≤ MOST_ACCESSES) s ss a, sum_by-cons touch_count s ss)
 
-pub number-requires-clause-touched : goal.number-requires-clause-touched
-number-requires-clause-touched g c κs within =
-    let sets = c.args.sets.now in
-    omega (arith, long_sets fin.empty sets, fin.len-empty key_cmp ℕ, few-touched sets c.requires.touched, c.requires.few)
-
-pub reserve-requires-clause-keys : goal.reserve-requires-clause-keys
-reserve-requires-clause-keys g c κs within =
-    let sets = c.args.sets.now in
-    omega (arith, c.in_ok-kept.ensures.keys, ap fin.len c.in_ok-kept.ensures.kept, long_sets c.resume-kept.result.kept sets, few-touched sets c.requires.touched, c.requires.few, c.resume-kept.ensures.kept)
-
-pub reserve-requires-clause-old : goal.reserve-requires-clause-old
-reserve-requires-clause-old g c κs within =
-    omega (arith, c.in_ok-kept.ensures.keys, ap fin.len c.in_ok-kept.ensures.kept, longer_sets c.resume-kept.result.kept c.args.sets.now, c.resume-kept.ensures.old)
+pub number_by-requires-clause-touched : goal.number_by-requires-clause-touched
+number_by-requires-clause-touched g c κs within = omega (arith, few-touched c.args.sets.now c.requires.touched, c.requires.few)

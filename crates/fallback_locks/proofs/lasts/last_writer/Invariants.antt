@@ -1,8 +1,6 @@
 use Rattle.std.proofs.Common.{◌≡◌, drop}
-use Rattle.std.specs.BTreeMap as tree
-use Rattle.aria_base.specs.Orders.{key_cmp}
-use Rattle.fallback_locks.specs.LastWaves.{or_none, highest}
+use Rattle.fallback_locks.specs.LastWaves.{last_in, highest}
 use Rattle.fallback_locks.proofs.lasts.last_writer.Given as goal
 
-abbrev pub invariant-loop-key : goal.invariant-loop-key
-invariant-loop-key l = highest (λ q. (or_none (tree.get key_cmp l.lasts q)).writer) l.most (drop l.key-index l.keys) ≡ highest (λ q. (or_none (tree.get key_cmp l.lasts q)).writer) 0 l.keys
+abbrev pub invariant-loop-number : goal.invariant-loop-number
+invariant-loop-number l = highest (λ q. (last_in l.lasts q).writer) l.most (drop l.number-index l.numbers) ≡ highest (λ q. (last_in l.lasts q).writer) 0 l.numbers

@@ -1,21 +1,21 @@
-use Rattle.std.proofs.Common.{◌≡◌, suc, drop, ap, sym, ◌∙◌, Some, ◌+◌, rules, arith, ◌∷◌, cond}
+use Rattle.std.proofs.Common.{◌≡◌, suc, drop, ap, sym, ◌∙◌, ◌+◌, arith, ◌∷◌, []}
+use Rattle.std.specs.Prelude.{slice_index_or}
 use Rattle.std.proofs.Math.Seq.{drop-cons}
-use Rattle.std.specs.Ordering.{is_eq}
-use Rattle.aria_base.proofs.Orders.{derived_cmp}
-use Rattle.std.specs.BTreeMap as tree
-use Rattle.aria_base.specs.Orders.{key_cmp}
+use Rattle.std.specs.Ordering.{nat_cmp, eq_by_cmp}
 use Rattle.batch_rules.specs.Touches.{is_among}
-use Rattle.fallback_locks.specs.LastWaves.{or_none, with_writer}
-use Rattle.fallback_locks.proofs.LastWaves.{writes_more}
+use Rattle.fallback_locks.specs.LastWaves.{last_in, with_writer}
+use Rattle.fallback_locks.proofs.LastWaves.{writer_twice}
 use Rattle.fallback_locks.proofs.lasts.note_writes.Goals as goal
 
-pub loop-key-preserved : goal.loop-key-preserved
-loop-key-preserved c = λ q.
-    let k = c.key-item.result in
-    let rest = drop (c.loop-key.key-index + 1) c.args.keys.now in
-    let copied : c.in_ok-duplicate.field-0 ≡ k = search rules in
-    let cons : drop c.loop-key.key-index c.args.keys.now ≡ k ∷ rest = let e : suc c.loop-key.key-index ≡ c.loop-key.key-index + 1 = omega arith in
-    drop-cons c.args.keys.now c.loop-key.key-index k c.loop-key-test.true ∙ (λ i. sym c.key-item.is i ∷ drop (e i) c.args.keys.now) in
-    let is : (q ≡ k) → c.last_at-last.result ≡ or_none (tree.get key_cmp c.loop-key.lasts q) = λ e. c.last_at-last.ensures ∙ ap (λ k. or_none (tree.get key_cmp c.loop-key.lasts k)) (sym e) in
-    let more = writes_more (λ cmp. tree.get cmp c.loop-key.lasts q) (λ cmp. tree.get cmp c.insert.new.self q) c.args.wave q k rest c.last_at-last.result (c.in_ok-insert.ensures.updates.0 q ∙ (λ i. cond (is_eq (derived_cmp (copied i) q)) (Some (record { reader = c.last_at-last.result.reader; writer = c.max.ensures i })) (tree.get derived_cmp c.loop-key.lasts q))) is in
-    more ∙ ap (λ keys. with_writer c.args.wave (is_among key_cmp keys q) (or_none (tree.get key_cmp c.loop-key.lasts q))) (sym cons) ∙ c.loop-key.invariant q
+pub loop-number-preserved : goal.loop-number-preserved
+loop-number-preserved c =
+    let k = slice_index_or c.args.numbers.now c.loop-number.number-index 0 in
+    let rest = drop (c.loop-number.number-index + 1) c.args.numbers.now in
+    let cons : drop c.loop-number.number-index c.args.numbers.now ≡ k ∷ rest = let e : suc c.loop-number.number-index ≡ c.loop-number.number-index + 1 = omega arith in
+    drop-cons c.args.numbers.now c.loop-number.number-index 0 c.loop-number-test.true ∙ ap (λ n. k ∷ drop n c.args.numbers.now) e in (
+      c.note_write.ensures.length ∙ c.loop-number.invariant.0,
+      λ q. ap (with_writer c.args.wave (is_among nat_cmp rest q)) (c.note_write.ensures.noted q)
+          ∙ writer_twice c.args.wave (eq_by_cmp nat_cmp q k) (is_among nat_cmp rest q) (last_in c.loop-number.lasts.items q)
+          ∙ ap (λ numbers. with_writer c.args.wave (is_among nat_cmp numbers q) (last_in c.loop-number.lasts.items q)) (sym cons)
+          ∙ c.loop-number.invariant.1 q,
+    )

@@ -1,10 +1,9 @@
-use Rattle.std.proofs.Common.{◌≡◌, drop}
-use Rattle.std.specs.BTreeMap as tree
-use Rattle.aria_base.specs.Orders.{key_cmp}
-use Rattle.aria_base.specs.declared.keys.Key.{Key as Name}
+use Rattle.std.proofs.Common.{◌≡◌, ℕ, drop, length}
+use Rattle.std.specs.Ordering.{nat_cmp}
 use Rattle.batch_rules.specs.Touches.{is_among}
-use Rattle.fallback_locks.specs.LastWaves.{or_none, with_writer}
+use Rattle.fallback_locks.specs.LastWaves.{last_in, with_writer}
 use Rattle.fallback_locks.proofs.lasts.note_writes.Given as goal
 
-abbrev pub invariant-loop-key : goal.invariant-loop-key
-invariant-loop-key l = (q : Name) → with_writer l.wave (is_among key_cmp (drop l.key-index l.keys) q) (or_none (tree.get key_cmp l.lasts q)) ≡ with_writer l.wave (is_among key_cmp l.keys q) (or_none (tree.get key_cmp l.fn.lasts q))
+abbrev pub invariant-loop-number : goal.invariant-loop-number
+invariant-loop-number l = (length l.lasts.items ≡ length l.fn.lasts.items)
+    × ((q : ℕ) → with_writer l.wave (is_among nat_cmp (drop l.number-index l.numbers) q) (last_in l.lasts.items q) ≡ with_writer l.wave (is_among nat_cmp l.numbers q) (last_in l.fn.lasts.items q))

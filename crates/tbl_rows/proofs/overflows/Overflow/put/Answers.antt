@@ -1,6 +1,10 @@
-use Rattle.std.proofs.Common.{refl}
+use Rattle.std.proofs.Common.{refl, rules}
 use Rattle.tbl_rows.proofs.Trees.{from_entries-insert}
 use Rattle.tbl_rows.proofs.overflows.Overflow.put.Goals as goal
+use Rattle.tbl_rows.proofs.overflows.Overflow.put.Goals.{in-Ok, in-Err}
 
-pub returns-in-Ok-clause-put : goal.returns-in-Ok-clause-put
-returns-in-Ok-clause-put c = rw (← c.self.view_is, from_entries-insert _ _ _ _ c.in-Ok.ensures.updates.0) refl
+pub returns-clause-put : goal.returns-clause-put
+returns-clause-put c = elim c.match-insert.branch [
+  | in-Ok w ↦ rw (w.result-is, ← c.self.view_is, from_entries-insert _ _ _ _ w.in-Ok.ensures.updates.0) refl
+  | in-Err w ↦ search rules
+]

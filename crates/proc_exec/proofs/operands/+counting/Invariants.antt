@@ -1,0 +1,10 @@
+use Rattle.std.proofs.Common.{◌+◌, ◌*◌}
+use Rattle.proc_lang.specs.Terms.{term_size}
+use Rattle.proc_lang.specs.TermOf.{term_of}
+use Rattle.proc_exec.proofs.operands.+counting.Given as goal
+
+abbrev pub decreases-number_of : goal.decreases-number_of
+decreases-number_of l = 2 * term_size (term_of l.expr.now)
+
+abbrev pub decreases-equal : goal.decreases-equal
+decreases-equal l = 2 * (term_size (term_of l.first.now) + term_size (term_of l.second.now)) + 1
