@@ -4,3 +4,4 @@ pub mod Coursed
 pub mod Founds
 pub mod Lines
 pub mod Written
+mod Somes

@@ -11,6 +11,10 @@ use Rattle.aria_store.specs.Courses.{Event, IsCourse}
 abbrev pub ReopensOnce : Type 0
 ReopensOnce = (images : ℕ → List ℕ) (one other : Reopened) → Reopens images one → Reopens images other → one ≡ other
 
+-- and as something: that there is nothing which they read as cannot be
+abbrev pub ReopensSome : Type 0
+ReopensSome = (images : ℕ → List ℕ) → ¬ ((found : Reopened) → ¬ (Reopens images found))
+
 -- every image that a stop now may leave reads as what the disk holds
 abbrev pub StandingIsFound : Type 0
 StandingIsFound =

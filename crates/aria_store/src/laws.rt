@@ -1,9 +1,14 @@
 // The laws of what a store's files read as. Each is the contract of a function that does nothing: a caller has it after the call.
-ghost use Rattle.aria_store.specs.Laws.{ReopensOnce, StandingIsFound, FoundAgain, NeverDamaged};
+ghost use Rattle.aria_store.specs.Laws.{ReopensOnce, ReopensSome, StandingIsFound, FoundAgain, NeverDamaged};
 
 /// Four files read as one thing alone.
 pub fn reopens_once()
     ensures { ReopensOnce }
+{}
+
+/// And as something: that there is nothing which they read as cannot be.
+pub fn reopens_some()
+    ensures { ReopensSome }
 {}
 
 /// What an open store's disk holds is what every image of its files reads as.
