@@ -17,10 +17,13 @@ records : (c : Checkpoint) (batches requests : ℕ) (payloads : List Payload)
     → ((at : ℕ) → ¬ (FirstWrong c batches requests payloads at)) → ⊥
 records c batches requests [] none right = none [] tt
 records c batches requests (payload ∷ payloads) none right =
-    right payload.at (inl (refl, λ batch follows.
-    records c (batches + 1) (requests + length batch.calls) payloads
-    (λ later are. none (batch ∷ later) (follows, are))
-    (λ at wrong. right at (inr (batch, follows, wrong)))))
+    right payload.at (inl (
+      refl,
+      λ batch follows.
+          records c (batches + 1) (requests + length batch.calls) payloads
+          (λ later are. none (batch ∷ later) (follows, are))
+          (λ at wrong. right at (inr (batch, follows, wrong))),
+    ))
 
 logs : (slot : ℕ) (c : Checkpoint) (log : Log) → ((found : Reopened) → ¬ (LogReads slot c log found)) → ⊥
 logs slot c (Breaks at) none = none (Damaged (2 + slot) at) refl
@@ -33,9 +36,16 @@ by_opened : (opened : Opened) → ((found : Reopened) → ¬ (OpenedReads opened
 by_opened NoGate none = none NoStore refl
 by_opened (Damage file at) none = none (Damaged file at) refl
 by_opened (Taken slot head body log) none =
-    none (Damaged slot 40) (images.Broken 40, (refl, λ v is.
-    logs slot (checkpoint_of head v) log
-    (λ found reads. none found (images.Says (checkpoint_of head v), (refl, is), reads))), refl)
+    none (Damaged slot 40) (
+      images.Broken 40,
+      (
+        refl,
+        λ v is.
+            logs slot (checkpoint_of head v) log
+            (λ found reads. none found (images.Says (checkpoint_of head v), (refl, is), reads)),
+      ),
+      refl,
+    )
 
 pub reopens_some : (files : ℕ → List ℕ) → ((found : Reopened) → ¬ (Reopens files found)) → ⊥
 reopens_some files none = by_opened (opened_of files) none

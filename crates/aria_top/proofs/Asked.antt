@@ -36,7 +36,8 @@ module _ (asked : Option Task) (task : Task) (is : asked ≡ Some task) (images 
   pub told_asked : (left rest old new : Option (List ℕ)) → IsToldFor (Some task) images found left rest old new → IsToldFor asked images found left rest old new
   told_asked left rest old new h = subst (λ (a : Option Task). IsToldFor a images found left rest old new) (sym is) h
 
-  pub leaves_asked : (left : Option (List ℕ)) (was is_now : History) (old new : Option (List ℕ)) (status : ℕ) → LeavesDisk (Some task) images found left was is_now old new status
+  pub leaves_asked : (left : Option (List ℕ)) (was is_now : History) (old new : Option (List ℕ)) (status : ℕ)
+      → LeavesDisk (Some task) images found left was is_now old new status
       → LeavesDisk asked images found left was is_now old new status
   leaves_asked left was is_now old new status h = subst (λ (a : Option Task). LeavesDisk a images found left was is_now old new status) (sym is) h
 
@@ -55,12 +56,15 @@ module _ (asked : Option Task) (task : Task) (is : asked ≡ Some task) where
 
 -- ---- arguments that are no command
 
-pub out_refused : (asked : Option Task) (left : Option (List ℕ)) (images : ℕ → List ℕ) (found : Reopened) (P : Out → Type 0) → asked ≡ None → P refused_usage → IfSome (out_by asked left images found) P
+pub out_refused : (asked : Option Task) (left : Option (List ℕ)) (images : ℕ → List ℕ) (found : Reopened) (P : Out → Type 0) → asked ≡ None → P refused_usage
+    → IfSome (out_by asked left images found) P
 out_refused asked left images found P is h = subst (λ (a : Option Task). IfSome (out_by a left images found) P) (sym is) h
 
-pub leaves_refused : (asked : Option Task) (images : ℕ → List ℕ) (found : Reopened) (left : Option (List ℕ)) (was is_now : History) (old new : Option (List ℕ)) (status : ℕ) → asked ≡ None
+pub leaves_refused : (asked : Option Task) (images : ℕ → List ℕ) (found : Reopened) (left : Option (List ℕ)) (was is_now : History) (old new : Option (List ℕ))
+    (status : ℕ) → asked ≡ None
     → LeavesDisk asked images found left was is_now old new status
-leaves_refused asked images found left was is_now old new status is = subst (λ (a : Option Task). LeavesDisk a images found left was is_now old new status) (sym is) tt
+leaves_refused asked images found left was is_now old new status is =
+    subst (λ (a : Option Task). LeavesDisk a images found left was is_now old new status) (sym is) tt
 
 pub reads_none : (asked : Option Task) → asked ≡ None → reads asked ≡ true → ⊥
 reads_none asked is h = absurd (let both : false ≡ true = sym (ap reads is) ∙ h in cc)
@@ -83,11 +87,13 @@ untouched_over : (settings : Run) (found : Reopened) (text : List ℕ) (disk : H
 untouched_over settings NoStore text disk now = untouched_all disk (MayLeave disk disk.now) (λ images may. may)
 untouched_over settings (Damaged file at) text disk now = untouched_all disk (MayLeave disk disk.now) (λ images may. may)
 untouched_over settings (Found c later) text disk now = record {
-  images = untouched_all disk (λ images. MayLeave disk disk.now images ⊎ ReopensToPassed (PassesOver settings.drain (start_over settings c later) text) c.plan images) (λ images may. inl may);
+  images = untouched_all disk (λ images. MayLeave disk disk.now images
+      ⊎ ReopensToPassed (PassesOver settings.drain (start_over settings c later) text) c.plan images) (λ images may. inl may);
   exit = λ images may. inr (may, Appends-nil now);
 }
 
-untouched_text : (settings : Run) (found : Reopened) (left : Option (List ℕ)) (disk : History) (now : Option (List ℕ)) → IfSome left (λ text. LeavesOver settings found text disk disk now now)
+untouched_text : (settings : Run) (found : Reopened) (left : Option (List ℕ)) (disk : History) (now : Option (List ℕ))
+    → IfSome left (λ text. LeavesOver settings found text disk disk now now)
 untouched_text settings found None disk now = tt
 untouched_text settings found (Some text) disk now = untouched_over settings found text disk now
 
@@ -96,7 +102,8 @@ each_text None P h = tt
 each_text (Some text) P h = h text
 
 -- there was no memory to read the arguments
-pub leaves_untouched : (asked : Option Task) (images : ℕ → List ℕ) (found : Reopened) (left : Option (List ℕ)) (disk : History) (now : Option (List ℕ)) → LeavesDisk asked images found left disk disk now now 7
+pub leaves_untouched : (asked : Option Task) (images : ℕ → List ℕ) (found : Reopened) (left : Option (List ℕ)) (disk : History) (now : Option (List ℕ))
+    → LeavesDisk asked images found left disk disk now now 7
 leaves_untouched None images found left disk now = tt
 leaves_untouched (Some (task.Once settings)) images found left disk now = tt
 leaves_untouched (Some (task.Init settings)) images found left disk now = record {

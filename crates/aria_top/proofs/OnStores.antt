@@ -51,12 +51,14 @@ module _ (disk : History) (images : ℕ → List ℕ) (reads : ReadsAs disk imag
   taken_is true (inr h) = sym (either_open (is_open (images 0)) (is_open (images 1)) (inr (gate_at 1 true (omega arith) h)))
   taken_is false h = sym (neither_open (is_open (images 0)) (is_open (images 1)) (gate_at 0 false (omega arith) h.0) (gate_at 1 false (omega arith) h.1))
 
-  module _ (settings : Init) (is : History) (left rest old new : Option (List ℕ)) (result : Result ℕ Stop) (h : Inits settings disk is left rest old new result) where
+  module _ (settings : Init) (is : History) (left rest old new : Option (List ℕ)) (result : Result ℕ Stop)
+      (h : Inits settings disk is left rest old new result) where
     pub init_completes : Completes told_of (out_of settings (is_taken images)) left rest old new result
     init_completes = subst (λ (taken : Bool). Completes told_of (out_of settings taken) left rest old new result) (taken_is h.taken h.looked) h.completes
 
     pub init_unmade : IfSome left (λ text. (out_of settings (is_taken images) text).status ≢ DONE → Still disk is)
-    init_unmade = subst (λ (taken : Bool). IfSome left (λ text. (out_of settings taken text).status ≢ DONE → Still disk is)) (taken_is h.taken h.looked) h.unwritten
+    init_unmade = subst (λ (taken : Bool). IfSome left (λ text. (out_of settings taken text).status ≢ DONE → Still disk is))
+        (taken_is h.taken h.looked) h.unwritten
 
 -- ---- a command that prints what this output is
 
@@ -67,7 +69,8 @@ module _ (out : Out) (old new : Option (List ℕ)) where
   pub one_front : (status : ℕ) → Finishes out old new (Ok status) → AppendsFront old new out.bytes
   one_front status h = front_all old new out.bytes h.1
 
-  pub one_cut : (why : Stop) (status : ℕ) → status ≡ status_of why → FinishesCut out old new why → IsAnswered status → (status ≡ out.status) × Appends old new out.bytes
+  pub one_cut : (why : Stop) (status : ℕ) → status ≡ status_of why → FinishesCut out old new why → IsAnswered status
+      → (status ≡ out.status) × Appends old new out.bytes
   one_cut stop.Refused status is h a = (is ∙ sym h.0, h.1)
   one_cut stop.NoMemory status is h a = absurd (grind (arith, is, a))
   one_cut stop.NoWrite status is h a = absurd (grind (arith, is, a))
@@ -85,14 +88,16 @@ module _ (settings : Run) (left rest old new : Option (List ℕ)) where
       by_left (out_from settings.drain (start_over settings c later)) left (λ o. (status ≡ o.status) × Appends old new o.bytes)
       (answered_end (out_from settings.drain (start_over settings c later)) left old new status h.0)
 
-  pub over_front : (found : Reopened) (status : ℕ) → CompletesOver settings found left rest old new (Ok status) → IfSome (out_over settings found left) (λ o. AppendsFront old new o.bytes)
+  pub over_front : (found : Reopened) (status : ℕ) → CompletesOver settings found left rest old new (Ok status)
+      → IfSome (out_over settings found left) (λ o. AppendsFront old new o.bytes)
   over_front NoStore status h = one_front none_out old new status h.0
   over_front (Damaged file at) status h = one_front (damaged_out file at) old new status h.0
   over_front (Found c later) status h =
       by_left (out_from settings.drain (start_over settings c later)) left (λ o. AppendsFront old new o.bytes)
       (front_end (out_from settings.drain (start_over settings c later)) left old new status h.0)
 
-  pub over_cut : (found : Reopened) (why : Stop) (status : ℕ) → status ≡ status_of why → CompletesOver settings found left rest old new (Err why) → IsAnswered status
+  pub over_cut : (found : Reopened) (why : Stop) (status : ℕ) → status ≡ status_of why → CompletesOver settings found left rest old new (Err why)
+      → IsAnswered status
       → IfSome (out_over settings found left) (λ o. (status ≡ o.status) × Appends old new o.bytes)
   over_cut NoStore why status is h a = one_cut none_out old new why status is h.0 a
   over_cut (Damaged file at) why status is h a = one_cut (damaged_out file at) old new why status is h.0 a
@@ -100,7 +105,8 @@ module _ (settings : Run) (left rest old new : Option (List ℕ)) where
       by_left (out_from settings.drain (start_over settings c later)) left (λ o. (status ≡ o.status) × Appends old new o.bytes)
       (answered_cut (out_from settings.drain (start_over settings c later)) left old new why status is h.0 a)
 
-  pub over_cut_front : (found : Reopened) (why : Stop) → CompletesOver settings found left rest old new (Err why) → IfSome (out_over settings found left) (λ o. AppendsFront old new o.bytes)
+  pub over_cut_front : (found : Reopened) (why : Stop) → CompletesOver settings found left rest old new (Err why)
+      → IfSome (out_over settings found left) (λ o. AppendsFront old new o.bytes)
   over_cut_front NoStore why h = cut_front none_out old new why h.0
   over_cut_front (Damaged file at) why h = cut_front (damaged_out file at) old new why h.0
   over_cut_front (Found c later) why h =
@@ -124,7 +130,8 @@ module _ (settings : Run) (left rest old new : Option (List ℕ)) where
 -- ---- the causes of a stop, with a disk
 
 module _ (source sink disk : Type 0) (status : ℕ) where
-  pub others_store : (why : Stop) → status ≡ status_of why → (status ≡ 0) ⊎ (status ≡ 6) ⊎ (status ≡ 1) ⊎ (status ≡ 3) ⊎ (status ≡ 4) ⊎ (status ≡ 5) ⊎ (status ≡ 7)
+  pub others_store : (why : Stop) → status ≡ status_of why → (status ≡ 0) ⊎ (status ≡ 6) ⊎ (status ≡ 1) ⊎ (status ≡ 3) ⊎ (status ≡ 4) ⊎ (status ≡ 5)
+      ⊎ (status ≡ 7)
   others_store stop.Refused is = grind (arith, is)
   others_store stop.NoMemory is = grind (arith, is)
   others_store stop.NoWrite is = grind (arith, is)

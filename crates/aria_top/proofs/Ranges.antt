@@ -27,7 +27,8 @@ use Rattle.aria_top.specs.declared.tasks.Task.{Task}
 
 -- ---- where a reader reads something, this holds of it
 
-if_then : {A B : Type 0} (o : Option A) (f : A → Option B) (P : A → Type 0) (Q : B → Type 0) → IfSome o P → ((a : A) → P a → IfSome (f a) Q) → IfSome (option_and_then f o) Q
+if_then : {A B : Type 0} (o : Option A) (f : A → Option B) (P : A → Type 0) (Q : B → Type 0) → IfSome o P → ((a : A) → P a → IfSome (f a) Q)
+    → IfSome (option_and_then f o) Q
 if_then None f P Q h next = tt
 if_then (Some a) f P Q h next = next a h
 
@@ -53,11 +54,13 @@ both_true true false n P h = tt
 both_true false b n P h = tt
 
 within_holds : (range : Range) (n : ℕ) → IfSome (within range n) (IsWithin range)
-within_holds range n = both_true (nat_le range.low n) (nat_le n range.high) n (IsWithin range) (λ low high. (leb-true range.low n low, leb-true n range.high high))
+within_holds range n = both_true (nat_le range.low n) (nat_le n range.high) n (IsWithin range)
+    (λ low high. (leb-true range.low n low, leb-true n range.high high))
 
 number_holds : (range : Range) (given : Option (List ℕ)) → IsWithin range range.usual → IfSome (number_or range given) (IsWithin range)
 number_holds range None usual = usual
-number_holds range (Some text) usual = if_then (number_of text) (within range) (λ _. Unit {0}) (IsWithin range) (anything (number_of text)) (λ n _. within_holds range n)
+number_holds range (Some text) usual = if_then (number_of text) (within range) (λ _. Unit {0}) (IsWithin range) (anything (number_of text))
+    (λ n _. within_holds range n)
 
 in_range : (l : Line) (range : Range) → IsWithin range range.usual → IfSome (number_in l range) (IsWithin range)
 in_range l range usual = number_holds range (text_in l range.name) usual
@@ -65,13 +68,25 @@ in_range l range usual = number_holds range (text_in l range.name) usual
 -- ---- the settings of each command
 
 abbrev OfOnce : Line → ℕ → ℕ → Rule → ℕ → Listing → Option Once
-OfOnce l w r u f s = Some (record { workers = w; replicas = r; rule = u; fallback = f; listing = s; drain = flag_in l option.drain; batons = flag_in l option.batons })
+OfOnce l w r u f s = Some (record {
+  workers = w;
+  replicas = r;
+  rule = u;
+  fallback = f;
+  listing = s;
+  drain = flag_in l option.drain;
+  batons =
+      flag_in l option.batons;
+})
 
 once_holds : (l : Line) → IfSome (once_of l) IsInRange
 once_holds l =
-    if_then (number_in l option.workers) (λ w. with_some (number_in l option.replicas) (λ r. with_some (choice_in l option.rule) (λ u. with_some (number_in l option.fallback) (λ f. with_some (choice_in l option.listing) (λ s. OfOnce l w r u f s)))))
+    if_then (number_in l option.workers) (λ w. with_some (number_in l option.replicas)
+    (λ r. with_some (choice_in l option.rule) (λ u. with_some (number_in l option.fallback)
+    (λ f. with_some (choice_in l option.listing) (λ s. OfOnce l w r u f s)))))
     (IsWithin option.workers) IsInRange (in_range l option.workers (omega arith, omega arith)) (λ w of_w.
-    if_then (number_in l option.replicas) (λ r. with_some (choice_in l option.rule) (λ u. with_some (number_in l option.fallback) (λ f. with_some (choice_in l option.listing) (λ s. OfOnce l w r u f s))))
+    if_then (number_in l option.replicas) (λ r. with_some (choice_in l option.rule)
+    (λ u. with_some (number_in l option.fallback) (λ f. with_some (choice_in l option.listing) (λ s. OfOnce l w r u f s))))
     (IsWithin option.replicas) IsInRange (in_range l option.replicas (omega arith, omega arith)) (λ r of_r.
     if_then (choice_in l option.rule) (λ u. with_some (number_in l option.fallback) (λ f. with_some (choice_in l option.listing) (λ s. OfOnce l w r u f s)))
     (λ _. Unit {0}) IsInRange (anything (choice_in l option.rule)) (λ u _.
@@ -85,7 +100,8 @@ InitRange settings = settings.fallback ≤ MOST_PERCENT
 
 init_holds : (l : Line) → IfSome (init_of l) InitRange
 init_holds l =
-    if_then (choice_in l option.rule) (λ u. with_some (number_in l option.fallback) (λ f. Some (record { rule = u; fallback = f; over = flag_in l option.over })))
+    if_then (choice_in l option.rule) (λ u. with_some (number_in l option.fallback)
+    (λ f. Some (record { rule = u; fallback = f; over = flag_in l option.over })))
     (λ _. Unit {0}) InitRange (anything (choice_in l option.rule)) (λ u _.
     if_then (number_in l option.fallback) (λ f. Some (record { rule = u; fallback = f; over = flag_in l option.over }))
     (IsWithin option.fallback) InitRange (in_range l option.fallback (omega arith, omega arith)) (λ f of_f. of_f.1))
@@ -98,7 +114,8 @@ OfRun l w r c s = Some (record { workers = w; replicas = r; checkpoint = c; list
 
 run_holds : (l : Line) → IfSome (run_of l) RunRange
 run_holds l =
-    if_then (number_in l option.workers) (λ w. with_some (number_in l option.replicas) (λ r. with_some (number_in l option.checkpoint) (λ c. with_some (choice_in l option.listing) (λ s. OfRun l w r c s))))
+    if_then (number_in l option.workers) (λ w. with_some (number_in l option.replicas)
+    (λ r. with_some (number_in l option.checkpoint) (λ c. with_some (choice_in l option.listing) (λ s. OfRun l w r c s))))
     (IsWithin option.workers) RunRange (in_range l option.workers (omega arith, omega arith)) (λ w of_w.
     if_then (number_in l option.replicas) (λ r. with_some (number_in l option.checkpoint) (λ c. with_some (choice_in l option.listing) (λ s. OfRun l w r c s)))
     (IsWithin option.replicas) RunRange (in_range l option.replicas (omega arith, omega arith)) (λ r of_r.
@@ -124,16 +141,29 @@ replay_holds l =
 
 -- all of it but the workload, of which there is a law
 abbrev BenchRange : Bench → Type 0
-BenchRange settings = ((1 ≤ settings.workers) × (settings.workers ≤ MOST_WORKERS)) × ((1 ≤ settings.replicas) × (settings.replicas ≤ MOST_REPLICAS)) × (settings.fallback ≤ MOST_PERCENT)
+BenchRange settings = ((1 ≤ settings.workers) × (settings.workers ≤ MOST_WORKERS)) × ((1 ≤ settings.replicas) × (settings.replicas ≤ MOST_REPLICAS))
+    × (settings.fallback ≤ MOST_PERCENT)
 
 abbrev OfBench : Line → Workload → ℕ → ℕ → Rule → ℕ → Option Bench
-OfBench l d w r u f = Some (record { workload = d; workers = w; replicas = r; rule = u; fallback = f; drain = flag_in l option.drain; batons = flag_in l option.batons })
+OfBench l d w r u f = Some (record {
+  workload = d;
+  workers = w;
+  replicas = r;
+  rule = u;
+  fallback = f;
+  drain = flag_in l option.drain;
+  batons =
+      flag_in l option.batons;
+})
 
 bench_holds : (l : Line) → IfSome (bench_of l) BenchRange
 bench_holds l =
-    if_then (workload_of l) (λ d. with_some (number_in l option.workers) (λ w. with_some (number_in l option.replicas) (λ r. with_some (choice_in l option.rule) (λ u. with_some (number_in l option.fallback) (λ f. OfBench l d w r u f)))))
+    if_then (workload_of l) (λ d. with_some (number_in l option.workers)
+    (λ w. with_some (number_in l option.replicas) (λ r. with_some (choice_in l option.rule)
+    (λ u. with_some (number_in l option.fallback) (λ f. OfBench l d w r u f)))))
     (λ _. Unit {0}) BenchRange (anything (workload_of l)) (λ d _.
-    if_then (number_in l option.workers) (λ w. with_some (number_in l option.replicas) (λ r. with_some (choice_in l option.rule) (λ u. with_some (number_in l option.fallback) (λ f. OfBench l d w r u f))))
+    if_then (number_in l option.workers) (λ w. with_some (number_in l option.replicas)
+    (λ r. with_some (choice_in l option.rule) (λ u. with_some (number_in l option.fallback) (λ f. OfBench l d w r u f))))
     (IsWithin option.workers) BenchRange (in_range l option.workers (omega arith, omega arith)) (λ w of_w.
     if_then (number_in l option.replicas) (λ r. with_some (choice_in l option.rule) (λ u. with_some (number_in l option.fallback) (λ f. OfBench l d w r u f)))
     (IsWithin option.replicas) BenchRange (in_range l option.replicas (omega arith, omega arith)) (λ r of_r.

@@ -18,11 +18,15 @@ if_some (Some a) P Q f h = f a h
 -- ---- it ended
 
 module _ (out : List ℕ → Out) (left old new : Option (List ℕ)) (status : ℕ) where
-  pub answered_end : IfSome left (λ text. ((out text).status ≡ status) × Appends old new (out text).bytes) → IfSome left (λ text. (status ≡ (out text).status) × Appends old new (out text).bytes)
-  answered_end h = if_some left (λ text. ((out text).status ≡ status) × Appends old new (out text).bytes) (λ text. (status ≡ (out text).status) × Appends old new (out text).bytes) (λ text k. (sym k.0, k.1)) h
+  pub answered_end : IfSome left (λ text. ((out text).status ≡ status) × Appends old new (out text).bytes)
+      → IfSome left (λ text. (status ≡ (out text).status) × Appends old new (out text).bytes)
+  answered_end h = if_some left (λ text. ((out text).status ≡ status) × Appends old new (out text).bytes)
+      (λ text. (status ≡ (out text).status) × Appends old new (out text).bytes) (λ text k. (sym k.0, k.1)) h
 
-  pub front_end : IfSome left (λ text. ((out text).status ≡ status) × Appends old new (out text).bytes) → IfSome left (λ text. AppendsFront old new (out text).bytes)
-  front_end h = if_some left (λ text. ((out text).status ≡ status) × Appends old new (out text).bytes) (λ text. AppendsFront old new (out text).bytes) (λ text k. front_all old new (out text).bytes k.1) h
+  pub front_end : IfSome left (λ text. ((out text).status ≡ status) × Appends old new (out text).bytes)
+      → IfSome left (λ text. AppendsFront old new (out text).bytes)
+  front_end h = if_some left (λ text. ((out text).status ≡ status) × Appends old new (out text).bytes) (λ text. AppendsFront old new (out text).bytes)
+      (λ text k. front_all old new (out text).bytes k.1) h
 
 -- ---- it was cut off
 
@@ -38,14 +42,16 @@ module _ (out : List ℕ → Out) (left old new : Option (List ℕ)) where
   Cut why = IfSome left (λ text. FinishesCut (out text) old new why)
 
   pub front_cut : (why : Stop) → Cut why → IfSome left (λ text. AppendsFront old new (out text).bytes)
-  front_cut why h = if_some left (λ text. FinishesCut (out text) old new why) (λ text. AppendsFront old new (out text).bytes) (λ text k. cut_front (out text) old new why k) h
+  front_cut why h = if_some left (λ text. FinishesCut (out text) old new why) (λ text. AppendsFront old new (out text).bytes)
+      (λ text k. cut_front (out text) old new why k) h
 
   abbrev Answered : ℕ → Type 0
   Answered status = IfSome left (λ text. (status ≡ (out text).status) × Appends old new (out text).bytes)
 
   pub answered_cut : (why : Stop) (status : ℕ) → status ≡ status_of why → Cut why → IsAnswered status → Answered status
   answered_cut stop.Refused status is h a =
-      if_some left (λ text. FinishesCut (out text) old new stop.Refused) (λ text. (status ≡ (out text).status) × Appends old new (out text).bytes) (λ text k. (is ∙ sym k.0, k.1)) h
+      if_some left (λ text. FinishesCut (out text) old new stop.Refused) (λ text. (status ≡ (out text).status) × Appends old new (out text).bytes)
+      (λ text k. (is ∙ sym k.0, k.1)) h
   answered_cut stop.NoMemory status is h a = absurd (grind (arith, is, a))
   answered_cut stop.NoWrite status is h a = absurd (grind (arith, is, a))
   answered_cut stop.NoDisk status is h a = absurd (grind (arith, is, a))
@@ -62,14 +68,16 @@ no_source stop.NoDisk sink disk h = h
 no_source stop.NoRead sink disk h = h
 
 module _ (source sink : Type 0) (status : ℕ) where
-  pub done_cut : (why : Stop) → status ≡ status_of why → IsReadCause why source sink ⊥ → (status ≡ 0) ⊎ (status ≡ 1) ⊎ (status ≡ 3) ⊎ (status ≡ 4) ⊎ (status ≡ 7)
+  pub done_cut : (why : Stop) → status ≡ status_of why → IsReadCause why source sink ⊥ → (status ≡ 0) ⊎ (status ≡ 1) ⊎ (status ≡ 3) ⊎ (status ≡ 4)
+      ⊎ (status ≡ 7)
   done_cut stop.Refused is h = inr (inl is)
   done_cut stop.NoMemory is h = inr (inr (inr (inr is)))
   done_cut stop.NoWrite is h = inr (inr (inr (inl is)))
   done_cut stop.NoDisk is h = absurd h
   done_cut stop.NoRead is h = inr (inr (inl is))
 
-  pub others_cut : (why : Stop) → status ≡ status_of why → IsReadCause why source sink ⊥ → IsEnded status ⊎ (status ≡ 1) ⊎ (status ≡ 3) ⊎ (status ≡ 4) ⊎ (status ≡ 7)
+  pub others_cut : (why : Stop) → status ≡ status_of why → IsReadCause why source sink ⊥ → IsEnded status ⊎ (status ≡ 1) ⊎ (status ≡ 3) ⊎ (status ≡ 4)
+      ⊎ (status ≡ 7)
   others_cut why is h = elim (done_cut why is h) [
     | inl done ↦ inl (inl done)
     | inr other ↦ inr other

@@ -34,7 +34,8 @@ use Rattle.bench_command.specs.declared.tallies.Tally.{Tally}
 use Rattle.bench_command.specs.declared.turns.Turn.{Turn}
 
 -- a line for each request of the list
-pub lines_are : (tree : Request → Tree Key Cells End) (state : State) (handed : Handed) → length (answer tree state handed).lines ≡ length state.waiting + length handed.calls
+pub lines_are : (tree : Request → Tree Key Cells End) (state : State) (handed : Handed)
+    → length (answer tree state handed).lines ≡ length state.waiting + length handed.calls
 lines_are tree state handed =
     length-map (outcome tree state handed).entries (line_of (λ request. request) (list_of state handed))
     ∙ sym (length-map (outcome tree state handed).entries (λ e. e.judged.request))
@@ -48,7 +49,8 @@ few_lines before calls may =
     omega (arith, all, may.room)
 
 -- there is room for them in the tally
-pub has_room : (plan : Plan) (before : Turn) (calls : List Call) → Stands plan before → (state_of before.live).batches < MOST_BATCHES → MayServe before.live calls
+pub has_room : (plan : Plan) (before : Turn) (calls : List Call) → Stands plan before → (state_of before.live).batches < MOST_BATCHES
+    → MayServe before.live calls
     → HasRoom before.tally (length (next_answer before.live calls).lines)
 has_room plan before calls stands early may =
     let few = few_lines before calls may in
@@ -61,11 +63,13 @@ has_room plan before calls stands early may =
 
 -- ---- a batch behind another
 
-counted : (p : Line → Bool) (lines : List Line) (now later batches : ℕ) → length lines ≤ MOST_REQUESTS → now ≤ MOST_REQUESTS * batches → later ≡ now + count_by p lines
+counted : (p : Line → Bool) (lines : List Line) (now later batches : ℕ) → length lines ≤ MOST_REQUESTS → now ≤ MOST_REQUESTS * batches
+    → later ≡ now + count_by p lines
     → later ≤ MOST_REQUESTS * (batches + 1)
 counted p lines now later batches few within same = let some = count_by-le-length p lines in omega (arith, some, few, within, same)
 
-pub behind_next : (before after : Turn) (calls : List Call) → IsNext before.live calls after.live → after.tally ≡ with_lines before.tally (next_answer before.live calls).lines
+pub behind_next : (before after : Turn) (calls : List Call) → IsNext before.live calls after.live
+    → after.tally ≡ with_lines before.tally (next_answer before.live calls).lines
     → IsBehind before calls after
 behind_next before after calls next tally =
     let same = handed_is before.live calls in
@@ -76,7 +80,8 @@ behind_next before after calls next tally =
       config = next.config;
     }
 
-pub stands_next : (plan : Plan) (before after : Turn) (calls : List Call) → Stands plan before → MayServe before.live calls → IsNext before.live calls after.live
+pub stands_next : (plan : Plan) (before after : Turn) (calls : List Call) → Stands plan before → MayServe before.live calls
+    → IsNext before.live calls after.live
     → after.tally ≡ with_lines before.tally (next_answer before.live calls).lines → Stands plan after
 stands_next plan before after calls stands may next tally =
     let few = few_lines before calls may in
@@ -90,9 +95,12 @@ stands_next plan before after calls stands may next tally =
       runnable = next.runnable;
       requests = subst (Bound (state_of after.live).requests) (sym later) (omega (arith, more, stands.requests, may.room));
       ok = subst (Bound after.tally.ok) (sym later) (counted (of_line is_ok) lines before.tally.ok after.tally.ok batches few stands.ok (ap (λ t. t.ok) tally));
-      back = subst (Bound after.tally.back) (sym later) (counted (of_line is_back) lines before.tally.back after.tally.back batches few stands.back (ap (λ t. t.back) tally));
-      trap = subst (Bound after.tally.trap) (sym later) (counted (of_line is_trap) lines before.tally.trap after.tally.trap batches few stands.trap (ap (λ t. t.trap) tally));
-      waits = subst (Bound after.tally.waits) (sym later) (counted (of_line is_wait) lines before.tally.waits after.tally.waits batches few stands.waits (ap (λ t. t.waits) tally));
+      back = subst (Bound after.tally.back) (sym later) (counted (of_line is_back) lines before.tally.back after.tally.back batches few stands.back
+          (ap (λ t. t.back) tally));
+      trap = subst (Bound after.tally.trap) (sym later) (counted (of_line is_trap) lines before.tally.trap after.tally.trap batches few stands.trap
+          (ap (λ t. t.trap) tally));
+      waits = subst (Bound after.tally.waits) (sym later) (counted (of_line is_wait) lines before.tally.waits after.tally.waits batches few stands.waits
+          (ap (λ t. t.waits) tally));
     }
 
 -- ---- what may be run
@@ -143,7 +151,8 @@ few_drawn g size state draws =
     omega (arith, all)
 
 -- before the first batch
-pub stands_first : (plan : Plan) (turn : Turn) → plan_of turn.live ≡ plan → IsRunnable turn.live → (state_of turn.live).requests ≡ 0 → turn.tally ≡ blank_tally → Stands plan turn
+pub stands_first : (plan : Plan) (turn : Turn) → plan_of turn.live ≡ plan → IsRunnable turn.live → (state_of turn.live).requests ≡ 0 → turn.tally ≡ blank_tally
+    → Stands plan turn
 stands_first plan turn of_plan runnable none blank =
     let ok : turn.tally.ok ≡ 0 = ap (λ (t : Tally). t.ok) blank in
     let back : turn.tally.back ≡ 0 = ap (λ (t : Tally). t.back) blank in
@@ -166,6 +175,7 @@ pub may_drawn : {V E : Type 0} (items : V → List Call) (result : Result V E) (
 may_drawn items (Ok v) live g size count number draws drawn fit as_many as_numbered plan runnable early within =
     let same = drawn_at g size (state_of live) draws count number as_many as_numbered in
     let calls : items v ≡ (calls_at g size (state_of live) draws).0 = drawn ∙ ap (λ (x : List Call × Lcg). x.0) same in
-    let few : length (items v) ≤ room (state_of live) = subst (λ (l : List Call). length l ≤ room (state_of live)) (sym calls) (few_drawn g size (state_of live) draws) in
+    let few : length (items v) ≤ room (state_of live) = subst (λ (l : List Call). length l ≤ room (state_of live)) (sym calls)
+    (few_drawn g size (state_of live) draws) in
     may_serve live (items v) runnable (subst (λ (p : Plan). All (λ call. takes p call ≡ true) (items v)) (sym plan) fit) few early within
 may_drawn items (Err e) live g size count number draws drawn fit as_many as_numbered plan runnable early within = tt

@@ -29,7 +29,8 @@ use Rattle.bench_command.proofs.Bounds.{lines_are}
 
 -- a request has ended in one way, or is carried
 kinds : (list : List Request) (fate : Fate Key End)
-    → cond (is_ok (reply_of list fate)) 1 0 + cond (is_back (reply_of list fate)) 1 0 + cond (is_trap (reply_of list fate)) 1 0 + cond (cond (has_ended fate) false true) 1 0 ≡ 1
+    → cond (is_ok (reply_of list fate)) 1 0 + cond (is_back (reply_of list fate)) 1 0 + cond (is_trap (reply_of list fate)) 1 0 + cond
+    (cond (has_ended fate) false true) 1 0 ≡ 1
 kinds list (Ended (end.Done given)) = refl
 kinds list (Ended (end.Back code)) = refl
 kinds list (Ended (end.Trap trap)) = refl
@@ -108,7 +109,8 @@ unfolding drains_ran
 drains_add plan zero state = adds_none state
 drains_add plan (suc n) state =
     adds_either (length state.waiting == 0) state (none_ran state) _ (adds_none state)
-    (adds_one (run_of plan) state (no_calls state) (drains_ran plan n (step (run_of plan) state (no_calls state))) (drains_add plan n (step (run_of plan) state (no_calls state))))
+    (adds_one (run_of plan) state (no_calls state) (drains_ran plan n (step (run_of plan) state (no_calls state)))
+    (drains_add plan n (step (run_of plan) state (no_calls state))))
 
 sum_lines : (xs ys : List Answer) → ends_in (lines_of (xs ++ ys)) ≡ ends_in (lines_of xs) + ends_in (lines_of ys)
 sum_lines xs ys = ap ends_in (flat_map-append (λ (a : Answer). a.lines) xs ys) ∙ ends_behind (lines_of xs) (lines_of ys)

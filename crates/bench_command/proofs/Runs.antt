@@ -109,7 +109,8 @@ module _ (start now next : Turn) (whole : Ran) where
       behind.tally ∙ ap (λ (p : Plan). with_lines now.tally (answer (run_of p) state (handed_at state calls.0)).lines) plan in
       leads_on start now next whole (batches_ran g size (count - past) state draws) (batches_ran g size left (state_of next.live) later) one leads cut more
 
-  pub drain_leads : (plan : Plan) (count past : ℕ) → past < count → (length (state_of now.live).waiting == 0) ≡ false → plan_of now.live ≡ plan → IsBehind now [] next
+  pub drain_leads : (plan : Plan) (count past : ℕ) → past < count → (length (state_of now.live).waiting == 0) ≡ false → plan_of now.live ≡ plan
+      → IsBehind now [] next
       → Leads now (drains_ran plan (count - past) (state_of now.live)) start whole
       → Leads next (drains_ran plan (count - (past + 1)) (state_of next.live)) start whole
   drain_leads plan count past within some of_plan behind leads =

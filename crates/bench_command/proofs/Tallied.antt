@@ -41,10 +41,30 @@ one_answer tally answer later = with_lines-append tally answer.lines (lines_of l
 -- ---- one line more
 
 pub noted_by : (tally : Tally) (q : ℕ) (r : Reply) → noted tally r ≡ with_lines tally (record { q = q; reply = r } ∷ [])
-noted_by tally q (reply.Ended (end.Done given)) = λ i. record { ok = tally.ok + 1; back = sym (none_more tally.back) i; trap = sym (none_more tally.trap) i; waits = sym (none_more tally.waits) i }
-noted_by tally q (reply.Ended (end.Back code)) = λ i. record { ok = sym (none_more tally.ok) i; back = tally.back + 1; trap = sym (none_more tally.trap) i; waits = sym (none_more tally.waits) i }
-noted_by tally q (reply.Ended (end.Trap trap)) = λ i. record { ok = sym (none_more tally.ok) i; back = sym (none_more tally.back) i; trap = tally.trap + 1; waits = sym (none_more tally.waits) i }
-noted_by tally q (reply.Waits wait) = λ i. record { ok = sym (none_more tally.ok) i; back = sym (none_more tally.back) i; trap = sym (none_more tally.trap) i; waits = tally.waits + 1 }
+noted_by tally q (reply.Ended (end.Done given)) = λ i. record {
+  ok = tally.ok + 1;
+  back = sym (none_more tally.back) i;
+  trap = sym (none_more tally.trap) i;
+  waits = sym (none_more tally.waits) i;
+}
+noted_by tally q (reply.Ended (end.Back code)) = λ i. record {
+  ok = sym (none_more tally.ok) i;
+  back = tally.back + 1;
+  trap = sym (none_more tally.trap) i;
+  waits = sym (none_more tally.waits) i;
+}
+noted_by tally q (reply.Ended (end.Trap trap)) = λ i. record {
+  ok = sym (none_more tally.ok) i;
+  back = sym (none_more tally.back) i;
+  trap = tally.trap + 1;
+  waits = sym (none_more tally.waits) i;
+}
+noted_by tally q (reply.Waits wait) = λ i. record {
+  ok = sym (none_more tally.ok) i;
+  back = sym (none_more tally.back) i;
+  trap = sym (none_more tally.trap) i;
+  waits = tally.waits + 1;
+}
 
 -- what is left of the lines is counted behind it
 pub noted_on : (tally : Tally) (line : Line) (later all : List Line) → all ≡ line ∷ later → with_lines (noted tally line.reply) later ≡ with_lines tally all
@@ -55,10 +75,39 @@ noted_on tally line later all same =
 
 -- and there is room for it
 pub room_on : (tally : Tally) (r : Reply) (n m : ℕ) → n ≡ suc m → HasRoom tally n → HasRoom (noted tally r) m
-room_on tally (reply.Ended (end.Done given)) n m same h = record { ok = omega (arith, h.ok, same); back = omega (arith, h.back, same); trap = omega (arith, h.trap, same); waits = omega (arith, h.waits, same) }
-room_on tally (reply.Ended (end.Back code)) n m same h = record { ok = omega (arith, h.ok, same); back = omega (arith, h.back, same); trap = omega (arith, h.trap, same); waits = omega (arith, h.waits, same) }
-room_on tally (reply.Ended (end.Trap trap)) n m same h = record { ok = omega (arith, h.ok, same); back = omega (arith, h.back, same); trap = omega (arith, h.trap, same); waits = omega (arith, h.waits, same) }
-room_on tally (reply.Waits wait) n m same h = record { ok = omega (arith, h.ok, same); back = omega (arith, h.back, same); trap = omega (arith, h.trap, same); waits = omega (arith, h.waits, same) }
+room_on tally (reply.Ended (end.Done given)) n m same h = record {
+  ok = omega (arith, h.ok, same);
+  back = omega (arith, h.back, same);
+  trap =
+      omega (arith, h.trap, same);
+  waits = omega (arith, h.waits, same);
+}
+room_on tally (reply.Ended (end.Back code)) n m same h = record {
+  ok = omega (arith, h.ok, same);
+  back = omega (arith, h.back, same);
+  trap =
+      omega (arith, h.trap, same);
+  waits = omega (arith, h.waits, same);
+}
+room_on tally (reply.Ended (end.Trap trap)) n m same h = record {
+  ok = omega (arith, h.ok, same);
+  back = omega (arith, h.back, same);
+  trap =
+      omega (arith, h.trap, same);
+  waits = omega (arith, h.waits, same);
+}
+room_on tally (reply.Waits wait) n m same h = record {
+  ok = omega (arith, h.ok, same);
+  back = omega (arith, h.back, same);
+  trap = omega (arith, h.trap, same);
+  waits = omega (arith, h.waits, same);
+}
 
 pub room_one : (tally : Tally) (n m : ℕ) → n ≡ suc m → HasRoom tally n → HasRoom tally 1
-room_one tally n m same h = record { ok = omega (arith, h.ok, same); back = omega (arith, h.back, same); trap = omega (arith, h.trap, same); waits = omega (arith, h.waits, same) }
+room_one tally n m same h = record {
+  ok = omega (arith, h.ok, same);
+  back = omega (arith, h.back, same);
+  trap = omega (arith, h.trap, same);
+  waits =
+      omega (arith, h.waits, same);
+}

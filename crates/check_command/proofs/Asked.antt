@@ -61,7 +61,8 @@ module _ (n : ℕ) where
   catalog_keeps p name =
       keeps_if (not (has_catalog p.mode && is_unnamed p.head)) (Err Site) _ (λ e. tt)
       (keeps_if (is_audit p.mode && not (bytes_eq name (codes "tpcc"))) (Err Name) _ (λ e. tt)
-      (keeps_if (bytes_eq name (codes "text")) (Ok (record p { head = head.Text [] }, deed.Nothing)) (found p (builtin_named name)) (λ e. tt) (found_keeps p (builtin_named name))))
+      (keeps_if (bytes_eq name (codes "text")) (Ok (record p { head = head.Text [] }, deed.Nothing)) (found p (builtin_named name)) (λ e. tt)
+      (found_keeps p (builtin_named name))))
 
   row_keeps : (p : Place) (table : List ℕ) (parts : List Part) (row : Cells) → Keeps n (at_row p table parts row)
   row_keeps p table parts row =
@@ -72,7 +73,8 @@ module _ (n : ℕ) where
   call_keeps p proc args =
       keeps_under p.head _ (λ plan. keeps_if (has_batches p.mode) (and_then (calls p) (placed_call plan proc args)) (Err Site)
       (λ e. keeps_then (calls p) (placed_call plan proc args)
-      (λ call. keeps_if (nat_lt p.open_calls MOST_REQUESTS) (Ok (record p { rows_ended = true; open_calls = p.open_calls + 1 }, deed.Call call)) (Err Batch) (λ e. tt) tt)) tt)
+      (λ call. keeps_if (nat_lt p.open_calls MOST_REQUESTS) (Ok (record p { rows_ended = true; open_calls = p.open_calls + 1 }, deed.Call call)) (Err Batch)
+      (λ e. tt) tt)) tt)
 
   settings_keep : (p : Place) (name : List ℕ) (percent : ℤ) → Keeps n (at_settings p name percent)
   settings_keep p name percent =
@@ -84,7 +86,8 @@ module _ (n : ℕ) where
 
   piece_keeps : (p : Place) (text piece : List ℕ) → Keeps n (at_piece p text piece)
   piece_keeps p text piece =
-      keeps_if (nat_lt MOST_CATALOG (length text + length piece)) (Err (Catalog Long)) (Ok (record p { head = head.Text (text ++ piece) }, deed.Nothing)) (λ e. tt) tt
+      keeps_if (nat_lt MOST_CATALOG (length text + length piece)) (Err (Catalog Long)) (Ok (record p { head = head.Text (text ++ piece) }, deed.Nothing))
+      (λ e. tt) tt
 
 module _ (counts : Counts) where
   abbrev Kept : Asked → Type 0
@@ -93,12 +96,14 @@ module _ (counts : Counts) where
   run_keeps : (p : Place) (number : ℕ) → Kept (runs p counts number)
   run_keeps p number =
       keeps_if counts.batches (not (is_check p.mode) && nat_lt MOST_REQUESTS (counts.waiting + p.open_calls)) (Err Batch) _ (λ e. tt)
-      (keeps_if counts.batches (nat_lt GREATEST_NUMBER number || nat_lt GREATEST_NUMBER (counts.requests + p.open_calls)) (Err Numbers) (Ok (closed p, deed.Run)) (λ e. tt) tt)
+      (keeps_if counts.batches (nat_lt GREATEST_NUMBER number || nat_lt GREATEST_NUMBER (counts.requests + p.open_calls)) (Err Numbers)
+      (Ok (closed p, deed.Run)) (λ e. tt) tt)
 
   ends_keep : (p : Place) (number : ℕ) → Kept (ends p counts number)
   ends_keep p number =
       keeps_if counts.batches (nat_lt (counts.batches + 1) number) (Err (Gap number (counts.batches + 1))) _ (λ e. tt)
-      (keeps_if counts.batches (nat_le number counts.batches) (Ok (closed p, deed.Keep number)) (runs p counts number) (λ e. leb-true number counts.batches e) (run_keeps p number))
+      (keeps_if counts.batches (nat_le number counts.batches) (Ok (closed p, deed.Keep number)) (runs p counts number) (λ e. leb-true number counts.batches e)
+      (run_keeps p number))
 
   end_keeps : (p : Place) (number : ℕ) → Kept (at_end p counts number)
   end_keeps p number =

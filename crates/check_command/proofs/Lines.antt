@@ -27,7 +27,8 @@ Keeps (Stops bytes) = Unit {0}
 
 -- what holds of whatever is found
 abbrev pub IsRunLaw : Type 0
-IsRunLaw = (plan : Plan) (report : List (List ℕ)) (rows : Database) (script : List (ℕ × List Call)) → IsOneOf (run_behind 0 script) (finding plan report rows script)
+IsRunLaw = (plan : Plan) (report : List (List ℕ)) (rows : Database) (script : List (ℕ × List Call))
+    → IsOneOf (run_behind 0 script) (finding plan report rows script)
 
 pub one_of : (most lines : ℕ) (f g : Finding) → most ≡ lines → f ≡ g → IsOneOf most g → IsOneOf lines f
 one_of most lines f g ends is h = subst (λ (n : ℕ). IsOneOf n f) ends (subst (λ (x : Finding). IsOneOf most x) (sym is) h)
@@ -44,7 +45,8 @@ done_keeps d line deed.Run may = run_stands d may
 done_keeps d line deed.Tell may = record { ends = may.ends; counted = may.counted }
 
 line_by : (d : Doing) (line : List ℕ) (a : Asked) → asked d.place (counts_of d) line ≡ a → Stands d → Keeps (done_by d line a)
-line_by d line (Ok (after, asks)) e s = done_keeps (record d { place = after }) line asks (may_do d line after asks s e (follows d.place (counts_of d) line after asks e))
+line_by d line (Ok (after, asks)) e s = done_keeps (record d { place = after }) line asks
+    (may_do d line after asks s e (follows d.place (counts_of d) line after asks e))
 line_by d line (Err kind) e s = tt
 
 line_keeps : (d : Doing) (line : List ℕ) → Stands d → Keeps (on_line d line)
@@ -83,7 +85,8 @@ input_keeps text =
     (fault_keeps (with_lines on_line (Goes [] start) s.lines) s.fault (lines_keep (Goes [] start) s.lines first_stands))
 
 ended : IsRunLaw → (c : Course Doing) → Keeps c → FindsEnded c
-ended law (Goes bytes d) h = λ plan. one_of (run_behind 0 d.script) (length d.ends) (finding plan d.report d.rows d.script) (finding plan d.report d.rows d.script) h.ends refl
+ended law (Goes bytes d) h = λ plan. one_of (run_behind 0 d.script) (length d.ends) (finding plan d.report d.rows d.script)
+    (finding plan d.report d.rows d.script) h.ends refl
     (law plan d.report d.rows d.script)
 ended law (Stops bytes) h = tt
 

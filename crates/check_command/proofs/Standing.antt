@@ -18,7 +18,8 @@ use Rattle.check_command.proofs.Asked.{kept_before}
 
 -- ---- one batch more
 
-pub run_more : (n : ℕ) (script : List (ℕ × List Call)) (batch : ℕ × List Call) → run_behind n (script ++ batch ∷ []) ≡ cond (nat_le batch.0 (run_behind n script)) (run_behind n script) (run_behind n script + 1)
+pub run_more : (n : ℕ) (script : List (ℕ × List Call)) (batch : ℕ × List Call)
+    → run_behind n (script ++ batch ∷ []) ≡ cond (nat_le batch.0 (run_behind n script)) (run_behind n script) (run_behind n script + 1)
 run_more n [] batch = refl
 run_more n (b ∷ more) batch = run_more (cond (nat_le b.0 n) n (n + 1)) more batch
 
@@ -50,10 +51,12 @@ pub call_stands : (d : Doing) (call : Call) → MayCall d → Stands (with_call 
 call_stands d call may = record { ends = may.ends; counted = may.counted ∙ sym (length-append d.calls (call ∷ [])) }
 
 -- what was pushed to a list stands behind its view
-pub pushed : {B : Type 0} (view : B → ℕ × List Call) (xs ys : List B) (b : B) (is : ℕ × List Call) → ys ≡ xs ++ b ∷ [] → view b ≡ is → map view ys ≡ map view xs ++ is ∷ []
+pub pushed : {B : Type 0} (view : B → ℕ × List Call) (xs ys : List B) (b : B) (is : ℕ × List Call) → ys ≡ xs ++ b ∷ [] → view b ≡ is
+    → map view ys ≡ map view xs ++ is ∷ []
 pushed view xs ys b is e seen = ap (map view) e ∙ map-append view xs (b ∷ []) ∙ ap (λ (x : ℕ × List Call). map view xs ++ x ∷ []) seen
 
-pub kept_on : (d next : Doing) (number : ℕ) → MayKeep d number → next.place ≡ d.place → next.calls ≡ [] → next.script ≡ d.script ++ (number, []) ∷ [] → next.ends ≡ d.ends → Stands next
+pub kept_on : (d next : Doing) (number : ℕ) → MayKeep d number → next.place ≡ d.place → next.calls ≡ [] → next.script ≡ d.script ++ (number, []) ∷ []
+    → next.ends ≡ d.ends → Stands next
 kept_on d next number may place calls script ends =
     let s = keep_stands d number may in
     record {
@@ -61,7 +64,8 @@ kept_on d next number may place calls script ends =
       counted = ap (λ (p : Place). p.open_calls) place ∙ s.counted ∙ ap length (sym calls);
     }
 
-pub ran_on : (d next : Doing) → MayRun d → next.place ≡ d.place → next.calls ≡ [] → next.script ≡ d.script ++ (length d.ends + 1, d.calls) ∷ [] → next.ends ≡ d.ends ++ d.place.lines ∷ []
+pub ran_on : (d next : Doing) → MayRun d → next.place ≡ d.place → next.calls ≡ [] → next.script ≡ d.script ++ (length d.ends + 1, d.calls) ∷ []
+    → next.ends ≡ d.ends ++ d.place.lines ∷ []
     → Stands next
 ran_on d next may place calls script ends =
     let s = run_stands d may in
@@ -72,14 +76,20 @@ ran_on d next may place calls script ends =
 
 -- ---- what a line asks for may be done behind it
 
-pub may_do : (d : Doing) (line : List ℕ) (after : Place) (asks : Deed) → Stands d → asked d.place (counts_of d) line ≡ Ok (after, asks) → Follows d.place (counts_of d) after asks
+pub may_do : (d : Doing) (line : List ℕ) (after : Place) (asks : Deed) → Stands d → asked d.place (counts_of d) line ≡ Ok (after, asks)
+    → Follows d.place (counts_of d) after asks
     → MayDo (record d { place = after }) asks
 may_do d line after deed.Nothing s e f = record { ends = s.ends; counted = f.allows.calls ∙ s.counted }
 may_do d line after deed.Tell s e f = record { ends = s.ends; counted = f.allows.calls ∙ s.counted }
 may_do d line after (deed.Put key row) s e f = record { ends = s.ends; counted = f.allows.calls ∙ s.counted }
 may_do d line after (deed.Call call) s e f = record { ends = s.ends; counted = f.allows.calls ∙ ap (λ n. n + 1) s.counted }
 may_do d line after (deed.Set rule percent) s e f = record { ends = s.ends; counted = f.allows.calls ∙ s.counted }
-may_do d line after (deed.Keep number) s e f = record { ends = s.ends; counted = f.allows.calls; before = kept_before (counts_of d) d.place line after number e }
+may_do d line after (deed.Keep number) s e f = record {
+  ends = s.ends;
+  counted = f.allows.calls;
+  before =
+      kept_before (counts_of d) d.place line after number e;
+}
 may_do d line after deed.Run s e f = record {
   ends = s.ends;
   counted = f.allows.calls;

@@ -16,7 +16,8 @@ module _ (first : Doing) (is : first ≡ start) (left rest old : Option (List �
   from_start : (new : Option (List ℕ)) (result : Result Doing Stop) → Read first new result → Read start new result
   from_start new result h = subst (λ (d : Doing). Read d new result) is h
 
-  pub whole_on : (mid new : Option (List ℕ)) (last : Doing) (result : Result ℕ Stop) → Read first mid (Ok last) → result ≢ Err stop.NoRead → Finishes (on_end last) mid new result
+  pub whole_on : (mid new : Option (List ℕ)) (last : Doing) (result : Result ℕ Stop) → Read first mid (Ok last) → result ≢ Err stop.NoRead
+      → Finishes (on_end last) mid new result
       → Completes told_of out_of left rest old new result
   whole_on mid new last result h read ends =
       completes_on on_end (told on_line no_line start) (told_whole on_line no_line start) left rest old mid new last result

@@ -147,14 +147,16 @@ module _ {K V A O : Type 0} (R : K → K → Ordering) (by : Carrier K V A O) (r
   asked_or_not (MarkRead i p) = ⊎_elim
       (λ s. ⊎_elim
       (λ k. inl (s.0, s.1, k))
-      (λ none. inr (λ a. let same : s.0 ≡ a.0 = one i s.0 a.0 s.1 a.1 in let e : None ≡ Some a.2.0 = sym none ∙ ap (λ (d : Judged O). slice_get (by.reads d.request) p) same ∙ a.2.1 in cc))
+      (λ none. inr (λ a. let same : s.0 ≡ a.0 = one i s.0 a.0 s.1 a.1 in let e : None ≡ Some a.2.0 = sym none
+      ∙ ap (λ (d : Judged O). slice_get (by.reads d.request) p) same ∙ a.2.1 in cc))
       (get_cases (slice_get (by.reads s.0.request) p)))
       (λ no_one. inr (λ a. no_one a.0 a.1))
       (stands_or_not i)
   asked_or_not (MarkWrite i p) = ⊎_elim
       (λ s. ⊎_elim
       (λ k. inl (s.0, s.1, k))
-      (λ none. inr (λ a. let same : s.0 ≡ a.0 = one i s.0 a.0 s.1 a.1 in let e : None ≡ Some a.2.0 = sym none ∙ ap (λ (d : Judged O). slice_get (written by d.request) p) same ∙ a.2.1 in cc))
+      (λ none. inr (λ a. let same : s.0 ≡ a.0 = one i s.0 a.0 s.1 a.1 in let e : None ≡ Some a.2.0 = sym none
+      ∙ ap (λ (d : Judged O). slice_get (written by d.request) p) same ∙ a.2.1 in cc))
       (get_cases (slice_get (written by s.0.request) p)))
       (λ no_one. inr (λ a. no_one a.0 a.1))
       (stands_or_not i)
@@ -164,7 +166,8 @@ module _ {K V A O : Type 0} (R : K → K → Ordering) (by : Carrier K V A O) (r
       (λ f. inl (s.0, s.1, f, k))
       (λ f. inr (λ a. let same : s.0 ≡ a.0 = one i s.0 a.0 s.1 a.1 in false≢true (sym f ∙ ap (λ (d : Judged O). finishes d.verdict) same ∙ a.2)))
       (bool_cases (finishes s.0.verdict)))
-      (λ none. inr (λ a. let same : s.0 ≡ a.0 = one i s.0 a.0 s.1 a.1 in let e : None ≡ Some a.3.0 = sym none ∙ ap (λ (d : Judged O). slice_get (by.rows d.request) p) same ∙ a.3.1 in cc))
+      (λ none. inr (λ a. let same : s.0 ≡ a.0 = one i s.0 a.0 s.1 a.1 in let e : None ≡ Some a.3.0 = sym none
+      ∙ ap (λ (d : Judged O). slice_get (by.rows d.request) p) same ∙ a.3.1 in cc))
       (get_cases (slice_get (by.rows s.0.request) p)))
       (λ no_one. inr (λ a. no_one a.0 a.1))
       (stands_or_not i)
@@ -216,7 +219,8 @@ module _ {K V A O : Type 0} (R : K → K → Ordering) (by : Carrier K V A O) (r
         es = rest.es;
         legal = rest.legal;
         phase = rest.phase;
-        has = λ e h at a. ⊎_elim (λ same. rest.more e (subst (λ x. asked x → phase_of x ≡ so.phase → Contains so.came x) same done a at)) (λ among. rest.has e among at a) h;
+        has = λ e h at a. ⊎_elim (λ same. rest.more e (subst (λ x. asked x → phase_of x ≡ so.phase → Contains so.came x) same done a at))
+            (λ among. rest.has e among at a) h;
         more = rest.more;
       })
       (wanted so c)
@@ -225,7 +229,8 @@ module _ {K V A O : Type 0} (R : K → K → Ordering) (by : Carrier K V A O) (r
   along_append [] fs so = refl
   along_append (e ∷ es) fs so = along_append es fs (along so e)
 
-  pub legal_append : (es fs : List Event) (so : SoFar) → IsLegal R by rule list so es → IsLegal R by rule list (all_along so es) fs → IsLegal R by rule list so (es ++ fs)
+  pub legal_append : (es fs : List Event) (so : SoFar) → IsLegal R by rule list so es → IsLegal R by rule list (all_along so es) fs
+      → IsLegal R by rule list so (es ++ fs)
   legal_append [] fs so l m = m
   legal_append (e ∷ es) fs so l m = (l.0, legal_append es fs (along so e) l.1 m)
 
@@ -233,9 +238,11 @@ module _ {K V A O : Type 0} (R : K → K → Ordering) (by : Carrier K V A O) (r
   bound [] = 0
   bound (d ∷ rest) = length (by.reads d.request) + length (written by d.request) + length (by.rows d.request) + bound rest
 
-  below_bound : (xs : List (Judged O)) (n : ℕ) (d : Judged O) → slice_get xs n ≡ Some d → length (by.reads d.request) + length (written by d.request) + length (by.rows d.request) ≤ bound xs
+  below_bound : (xs : List (Judged O)) (n : ℕ) (d : Judged O) → slice_get xs n ≡ Some d
+      → length (by.reads d.request) + length (written by d.request) + length (by.rows d.request) ≤ bound xs
   below_bound [] n d e = cc
-  below_bound (x ∷ xs) zero d e = let same : x ≡ d = cc in subst (λ (d : Judged O). length (by.reads d.request) + length (written by d.request) + length (by.rows d.request) ≤ bound (x ∷ xs)) same (omega arith)
+  below_bound (x ∷ xs) zero d e = let same : x ≡ d = cc in subst
+      (λ (d : Judged O). length (by.reads d.request) + length (written by d.request) + length (by.rows d.request) ≤ bound (x ∷ xs)) same (omega arith)
   below_bound (x ∷ xs) (suc n) d e = let le = below_bound xs n d e in omega arith
 
   tid_within : (i : ℕ) (d : Judged O) → stands i d → i ≤ length ds
@@ -244,17 +251,23 @@ module _ {K V A O : Type 0} (R : K → K → Ordering) (by : Carrier K V A O) (r
   all_asked : (e : Event) → asked e → Among e (box (length ds) (bound ds))
   all_asked (Execute i) (d, s) = in_box (Execute i) i (length ds) (bound ds) s.0 (tid_within i d s) (in_first i (bound ds))
   all_asked (Decide i) (d, s) = in_box (Decide i) i (length ds) (bound ds) s.0 (tid_within i d s) (in_decide i (bound ds))
-  all_asked (MarkRead i p) (d, s, (k, e)) = let lt = get_below (by.reads d.request) p k e in let le = below_bound ds (i - 1) d s.1 in in_box (MarkRead i p) i (length ds) (bound ds) s.0 (tid_within i d s) (in_read i p (bound ds) (omega arith))
-  all_asked (MarkWrite i p) (d, s, (k, e)) = let lt = get_below (written by d.request) p k e in let le = below_bound ds (i - 1) d s.1 in in_box (MarkWrite i p) i (length ds) (bound ds) s.0 (tid_within i d s) (in_write i p (bound ds) (omega arith))
-  all_asked (Install i p) (d, s, f, (w, e)) = let lt = get_below (by.rows d.request) p w e in let le = below_bound ds (i - 1) d s.1 in in_box (Install i p) i (length ds) (bound ds) s.0 (tid_within i d s) (in_install i p (bound ds) (omega arith))
+  all_asked (MarkRead i p) (d, s, (k, e)) = let lt = get_below (by.reads d.request) p k e in let le = below_bound ds (i - 1) d s.1 in
+      in_box (MarkRead i p) i (length ds) (bound ds) s.0 (tid_within i d s) (in_read i p (bound ds) (omega arith))
+  all_asked (MarkWrite i p) (d, s, (k, e)) = let lt = get_below (written by d.request) p k e in let le = below_bound ds (i - 1) d s.1 in
+      in_box (MarkWrite i p) i (length ds) (bound ds) s.0 (tid_within i d s) (in_write i p (bound ds) (omega arith))
+  all_asked (Install i p) (d, s, f, (w, e)) = let lt = get_below (by.rows d.request) p w e in let le = below_bound ds (i - 1) d s.1 in
+      in_box (Install i p) i (length ds) (bound ds) s.0 (tid_within i d s) (in_install i p (bound ds) (omega arith))
   all_asked Turn a = absurd a
 
   one_phase : (so : SoFar) → so.phase < 4 → (es : List Event) × IsLegal R by rule list so es × ((all_along so es).phase ≡ so.phase + 1)
   one_phase so below =
       let f = fill so (box (length ds) (bound ds)) in
       let after : SoFar = all_along so f.es in
-      let same = f.phase in
-      (f.es ++ Turn ∷ [], legal_append f.es (Turn ∷ []) so f.legal ((omega arith, λ e at a. f.has e (all_asked e a) (at ∙ same) a), tt), ap (λ (s : SoFar). s.phase) (along_append f.es (Turn ∷ []) so) ∙ ap (λ n. n + 1) same)
+      let same = f.phase in (
+        f.es ++ Turn ∷ [],
+        legal_append f.es (Turn ∷ []) so f.legal ((omega arith, λ e at a. f.has e (all_asked e a) (at ∙ same) a), tt),
+        ap (λ (s : SoFar). s.phase) (along_append f.es (Turn ∷ []) so) ∙ ap (λ n. n + 1) same,
+      )
 
   phases : (n : ℕ) (so : SoFar) → so.phase + n ≡ 4 → (es : List Event) × IsLegal R by rule list so es × IsSettled (all_along so es)
   phases zero so e = ([], tt, omega (arith, e))
@@ -286,12 +299,14 @@ module _ {K V A O : Type 0} (R : K → K → Ordering) (by : Carrier K V A O) (r
     λ h. (h.0, λ e at a. ⊎_elim (λ c. c) (λ new. absurd (h.1 e at (due_of so e at a new))) (came_or_not e so.came)),
   )
 
-  done_or_not : (so : SoFar) (cs : List Event) → ((e : Event) → Among e cs → phase_of e ≡ so.phase → asked e → Contains so.came e) ⊎ ((e : Event) × asked e × (phase_of e ≡ so.phase) × (¬ Contains so.came e))
+  done_or_not : (so : SoFar) (cs : List Event) → ((e : Event) → Among e cs → phase_of e ≡ so.phase → asked e → Contains so.came e)
+      ⊎ ((e : Event) × asked e × (phase_of e ≡ so.phase) × (¬ Contains so.came e))
   done_or_not so [] = inl (λ e h at a. absurd h)
   done_or_not so (c ∷ cs) = ⊎_elim
       (λ w. inr (c, w.0, w.1, w.2))
       (λ done. ⊎_elim
-      (λ rest. inl (λ e h at a. ⊎_elim (λ same. subst (λ x. asked x → phase_of x ≡ so.phase → Contains so.came x) same done a at) (λ among. rest e among at a) h))
+      (λ rest. inl (λ e h at a. ⊎_elim (λ same. subst (λ x. asked x → phase_of x ≡ so.phase → Contains so.came x) same done a at)
+      (λ among. rest e among at a) h))
       (λ due_one. inr due_one)
       (done_or_not so cs))
       (wanted so c)

@@ -36,11 +36,14 @@ module _ (c : Core) where
   asked_tid (MarkRead i p) said = outcome_tid i (then_some (outcome_of c.outcomes.items i) (λ o. slice_get o.reads p) said)
   asked_tid (MarkWrite i p) said = outcome_tid i (then_some (outcome_of c.outcomes.items i) (λ o. slice_get o.writes p) said)
   asked_tid (Decide i) said = list_tid i said
-  asked_tid (Install i p) said = outcome_tid i (then_some (outcome_of c.outcomes.items i) (λ o. slice_get o.writes p) (both_true (finishes_by (at_tid c.verdicts.items i)) (is_some (write_at c.outcomes.items i p)) said).1)
+  asked_tid (Install i p) said =
+      outcome_tid i (then_some (outcome_of c.outcomes.items i) (λ o. slice_get o.writes p)
+      (both_true (finishes_by (at_tid c.verdicts.items i)) (is_some (write_at c.outcomes.items i p)) said).1)
   asked_tid Turn said = absurd (false≢true said)
 
   pub all_of_each : ((p : ℕ) → p < length c.list.items → AllCameOf c (p + 1)) → AllCame c
-  all_of_each each e at said = let tid = asked_tid e said in let low = tid.0 in let high = tid.1 in let one : tid_in e ≡ tid_in e - 1 + 1 = omega arith in each (tid_in e - 1) (omega arith) e one at said
+  all_of_each each e at said = let tid = asked_tid e said in let low = tid.0 in let high = tid.1 in let one : tid_in e ≡ tid_in e - 1 + 1 = omega arith in
+      each (tid_in e - 1) (omega arith) e one at said
 
   asked_can : (e : Event) → asks c e ≡ true → CanTake c e
   asked_can (Execute i) said = list_tid i said

@@ -21,12 +21,16 @@ module _ {O : Type 0} (on : Dependencies O) (rule : Rule) where
       → (slice_get list n ≡ Some d.request) × (d.verdict ≡ verdict_on on rule (earlier ++ take n list) d.request)
   judged_at earlier [] n d e = cc
   judged_at earlier (x ∷ xs) zero d e =
-      let same : judge on rule earlier x ≡ d = cc in
-      (ap (λ (d : Judged O). Some d.request) same, sym (ap (λ (d : Judged O). d.verdict) same) ∙ ap (λ l. verdict_on on rule l x) (sym (append-nil earlier)) ∙ ap (λ (d : Judged O). verdict_on on rule (earlier ++ []) d.request) same)
+      let same : judge on rule earlier x ≡ d = cc in (
+        ap (λ (d : Judged O). Some d.request) same,
+        sym (ap (λ (d : Judged O). d.verdict) same) ∙ ap (λ l. verdict_on on rule l x) (sym (append-nil earlier))
+            ∙ ap (λ (d : Judged O). verdict_on on rule (earlier ++ []) d.request) same,
+      )
   judged_at earlier (x ∷ xs) (suc n) d e = let rest = judged_at (earlier ++ x ∷ []) xs n d e in
       (rest.0, rest.1 ∙ ap (λ l. verdict_on on rule l d.request) (append_assoc earlier (x ∷ []) (take n xs)))
 
-  pub judged_has : (earlier list : List O) (n : ℕ) (q : O) → slice_get list n ≡ Some q → (d : Judged O) × (slice_get (judged on rule earlier list) n ≡ Some d) × (d.request ≡ q)
+  pub judged_has : (earlier list : List O) (n : ℕ) (q : O) → slice_get list n ≡ Some q → (d : Judged O) × (slice_get (judged on rule earlier list) n ≡ Some d)
+      × (d.request ≡ q)
   judged_has earlier [] n q e = cc
   judged_has earlier (x ∷ xs) zero q e = let same : x ≡ q = cc in (judge on rule earlier x, refl, same)
   judged_has earlier (x ∷ xs) (suc n) q e = judged_has (earlier ++ x ∷ []) xs n q e
@@ -67,7 +71,10 @@ module _ {S : Type 0} (holds : S → Bool) (items : List S) where
 
   least_holder : (r : Option ℕ) → IsLeast holds items r → LeastOf (Holder holds items) r
   least_holder None none = λ j p. none j p.0 (holder_below j p) (holder_is j p)
-  least_holder (Some k) first = ((first.0.low, some_and (λ item. holds item ≡ true) _ first.1), λ j p. elim (cases_lt j k) [ inl lt ↦ absurd (first.0.before j p.0 lt (holder_is j p)) | inr ge ↦ ge ])
+  least_holder (Some k) first = (
+    (first.0.low, some_and (λ item. holds item ≡ true) _ first.1),
+    λ j p. elim (cases_lt j k) [ inl lt ↦ absurd (first.0.before j p.0 lt (holder_is j p)) | inr ge ↦ ge ],
+  )
 
   pub least-holder : LeastOf (Holder holds items) (least holds items)
   least-holder = least_holder _ (least-is holds items)
@@ -113,12 +120,17 @@ module _ {K : Type 0} {R : K → K → Ordering} (o : IsTotalOrder R) (anti : Is
     once_noted n (Write k row ∷ visits) once = once_noted (noted R n (Write k row)) visits (once_written n.writes k row once)
 
     pub once_writes : {A : Type 0} (is_done : A → Bool) (t : Tree K V A) (db : FinMap R V) → Once (writes_of is_done t db)
-    once_writes is_done t db = elim (is_done (end_of t db)) as (λ b. Once (cond b (all_noted R nothing (trace_of t db)).writes [])) [ true ↦ once_noted nothing (trace_of t db) tt | false ↦ tt ]
+    once_writes is_done t db = elim (is_done (end_of t db)) as (λ b. Once (cond b (all_noted R nothing (trace_of t db)).writes [])) [
+      | true ↦
+          once_noted nothing (trace_of t db) tt
+      | false ↦ tt
+    ]
 
     -- so a key is found with the row that stands with it
     pub found_at : (ws : List (K × Option V)) (p : ℕ) (w : K × Option V) → Once ws → slice_get ws p ≡ Some w → find R w.0 ws ≡ Some w.1
     found_at [] p w once e = cc
-    found_at (x ∷ xs) zero w once e = let same : x ≡ w = cc in subst (λ (w : K × Option V). find R w.0 (x ∷ xs) ≡ Some w.1) same (ap (λ b. cond b (Some x.1) (find R x.0 xs)) (itself x.0))
+    found_at (x ∷ xs) zero w once e = let same : x ≡ w = cc in
+        subst (λ (w : K × Option V). find R w.0 (x ∷ xs) ≡ Some w.1) same (ap (λ b. cond b (Some x.1) (find R x.0 xs)) (itself x.0))
     found_at (x ∷ xs) (suc p) w once e =
         let rest = found_at xs p w once.1 e in
         elim (eq_by_cmp R w.0 x.0) as (λ b. eq_by_cmp R w.0 x.0 ≡ b → cond b (Some x.1) (find R w.0 xs) ≡ Some w.1) [
@@ -129,7 +141,8 @@ module _ {K : Type 0} {R : K → K → Ordering} (o : IsTotalOrder R) (anti : Is
     -- and a key that is found stands at a place
     pub at_found : (ws : List (K × Option V)) (k : K) (row : Option V) → find R k ws ≡ Some row → (p : ℕ) × (slice_get ws p ≡ Some (k, row))
     at_found [] k row e = cc
-    at_found (x ∷ xs) k row e = elim (eq_by_cmp R k x.0) as (λ b. eq_by_cmp R k x.0 ≡ b → cond b (Some x.1) (find R k xs) ≡ Some row → (p : ℕ) × (slice_get (x ∷ xs) p ≡ Some (k, row))) [
-      | true ↦ λ t e. let same : x.1 ≡ row = cc in let key : x.0 ≡ k = sym (same_key anti k x.0 t) in (0, λ i. Some (key i, same i))
-      | false ↦ λ t e. let rest = at_found xs k row e in (suc rest.0, rest.1)
-    ] refl e
+    at_found (x ∷ xs) k row e = elim (eq_by_cmp R k x.0) as (λ b. eq_by_cmp R k x.0 ≡ b → cond b (Some x.1) (find R k xs) ≡ Some row
+        → (p : ℕ) × (slice_get (x ∷ xs) p ≡ Some (k, row))) [
+          | true ↦ λ t e. let same : x.1 ≡ row = cc in let key : x.0 ≡ k = sym (same_key anti k x.0 t) in (0, λ i. Some (key i, same i))
+          | false ↦ λ t e. let rest = at_found xs k row e in (suc rest.0, rest.1)
+        ] refl e

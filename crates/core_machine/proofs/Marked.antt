@@ -67,7 +67,8 @@ side_of_mark : (w b : Bool) (sheet : Sheet) (tid : ℕ) → b ≡ w → cond b (
 side_of_mark true b sheet tid e = ap (λ b. cond b (writes_at sheet tid) (reads_at sheet tid)) e
 side_of_mark false b sheet tid e = ap (λ b. cond b (writes_at sheet tid) (reads_at sheet tid)) e
 
-module _ {K V Q A : Type 0} {R : K → K → Ordering} (o : IsTotalOrder R) (anti : IsAntisymmetric R) (is_done : A → Bool) (tree : Q → Tree K V A) (rule : Rule) (start : FinMap R V) (list : List Q)
+module _ {K V Q A : Type 0} {R : K → K → Ordering} (o : IsTotalOrder R) (anti : IsAntisymmetric R) (is_done : A → Bool) (tree : Q → Tree K V A) (rule : Rule)
+    (start : FinMap R V) (list : List Q)
     (number : K → ℕ) (keys : List K) (sheet : Sheet) (old : List ℕ) (tag : ℕ) (marks : List Mark) (words : List ℕ) where
   abbrev by : Carrier K V A Q
   by = on_start is_done tree start
@@ -83,7 +84,8 @@ module _ {K V Q A : Type 0} {R : K → K → Ordering} (o : IsTotalOrder R) (ant
   touches = Touches o anti by rule tag start list first
 
   module _ (few : length list ≤ MOST_REQUESTS) (small : tag < TAGS) (above_old : AreAbove tag old) (is : IsSheet sheet) (one : IsOneToOneOn R keys number)
-      (numbered : IsNumbered R by.reads (written by) keys number list sheet) (are : AreMarksOf sheet marks) (are_words : AreWords old tag sheet.keys marks words) where
+      (numbered : IsNumbered R by.reads (written by) keys number list sheet) (are : AreMarksOf sheet marks)
+      (are_words : AreWords old tag sheet.keys marks words) where
     above : AreFirst tag first
     above writes k = start_above old tag (place writes (number k)) small above_old
 
@@ -102,8 +104,12 @@ module _ {K V Q A : Type 0} {R : K → K → Ordering} (o : IsTotalOrder R) (ant
     of_request n q e = (n, get_below list n q e, get_or_from_slice_get list n q q e)
 
     key_among : (w : Bool) (n p : ℕ) (q : Q) (k : K) → slice_get list n ≡ Some q → slice_get (sides w q) p ≡ Some k → is_among R keys k ≡ true
-    key_among true n p q k e f = All-contains (λ k. is_among R keys k ≡ true) (sides true q) k (All-contains (λ q. All (λ k. is_among R keys k ≡ true) (written by q)) list q numbered.writes_among (of_request n q e)) (p, get_below (sides true q) p k f, get_or_from_slice_get (sides true q) p k k f)
-    key_among false n p q k e f = All-contains (λ k. is_among R keys k ≡ true) (sides false q) k (All-contains (λ q. All (λ k. is_among R keys k ≡ true) (by.reads q)) list q numbered.reads_among (of_request n q e)) (p, get_below (sides false q) p k f, get_or_from_slice_get (sides false q) p k k f)
+    key_among true n p q k e f = All-contains (λ k. is_among R keys k ≡ true) (sides true q) k
+        (All-contains (λ q. All (λ k. is_among R keys k ≡ true) (written by q)) list q numbered.writes_among (of_request n q e))
+        (p, get_below (sides true q) p k f, get_or_from_slice_get (sides true q) p k k f)
+    key_among false n p q k e f = All-contains (λ k. is_among R keys k ≡ true) (sides false q) k
+        (All-contains (λ q. All (λ k. is_among R keys k ≡ true) (by.reads q)) list q numbered.reads_among (of_request n q e))
+        (p, get_below (sides false q) p k f, get_or_from_slice_get (sides false q) p k k f)
 
     -- one number, one key
     one_key : (x y : K) → is_among R keys x ≡ true → is_among R keys y ≡ true → number x ≡ number y → x ≡ y
@@ -117,30 +123,40 @@ module _ {K V Q A : Type 0} {R : K → K → Ordering} (o : IsTotalOrder R) (ant
         let low : 1 ≤ m.tid = asked.0.0 in let high : m.tid ≤ length sheet.reads = asked.0.1 in let many = as_many in
         let there = get_there list (t - 1) (omega (arith, low, high, many, same)) in
         let q : Q = there.0 in
-        let here : Contains (map number (sides w q)) (number k) = subst (λ xs. Contains xs (number k)) (side_of_mark w m.writes sheet t parts.1 ∙ side_numbered w t q there.1)
-        (subst (λ n. Contains (cond m.writes (writes_at sheet t) (reads_at sheet t)) n) parts.0 (subst (λ t. Contains (cond m.writes (writes_at sheet t) (reads_at sheet t)) m.key) same asked.1)) in
+        let here : Contains (map number (sides w q)) (number k) =
+        subst (λ xs. Contains xs (number k)) (side_of_mark w m.writes sheet t parts.1 ∙ side_numbered w t q there.1)
+        (subst (λ n. Contains (cond m.writes (writes_at sheet t) (reads_at sheet t)) n) parts.0
+        (subst (λ t. Contains (cond m.writes (writes_at sheet t) (reads_at sheet t)) m.key) same asked.1)) in
         let found = from_map number (sides w q) (number k) here in
         let equal : found.1 ≡ k = one_key found.1 k (key_among w (t - 1) found.0 q found.1 there.1 found.2) among found.3 in
         let has_judged = judged_has (touching by R) rule [] list (t - 1) q there.1 in
         touch w k t q has_judged.0 (omega (arith, low, same)) has_judged.1 has_judged.2 found.0 (found.2 ∙ ap (λ (k : K). Some k) equal)
       where
-        touch : (w : Bool) (k : K) (t : ℕ) (q : Q) (d : Judged Q) → 1 ≤ t → slice_get (judged (touching by R) rule [] list) (t - 1) ≡ Some d → d.request ≡ q → (p : ℕ) → slice_get (sides w q) p ≡ Some k → touches w k t
+        touch : (w : Bool) (k : K) (t : ℕ) (q : Q) (d : Judged Q) → 1 ≤ t → slice_get (judged (touching by R) rule [] list) (t - 1) ≡ Some d → d.request ≡ q
+            → (p : ℕ) → slice_get (sides w q) p ≡ Some k → touches w k t
         touch true k t q d low e same p f = (d, (low, e), (p, ap (λ q. slice_get (written by q) p) same ∙ f))
         touch false k t q d low e same p f = (d, (low, e), (p, ap (λ q. slice_get (by.reads q) p) same ∙ f))
 
-    marked : (w : Bool) (k : K) (t : ℕ) (d : Judged Q) (p : ℕ) → 1 ≤ t → slice_get list (t - 1) ≡ Some d.request → slice_get (sides w d.request) p ≡ Some k → IsMarked (place w (number k)) marks t
+    marked : (w : Bool) (k : K) (t : ℕ) (d : Judged Q) (p : ℕ) → 1 ≤ t → slice_get list (t - 1) ≡ Some d.request → slice_get (sides w d.request) p ≡ Some k
+        → IsMarked (place w (number k)) marks t
     marked w k t d p low e f =
         let m : Mark = record { tid = t; key = number k; writes = w } in
         let below = get_below list (t - 1) d.request e in let many = as_many in
-        let stands : Contains (sheet_side w sheet t) (number k) = subst (λ xs. Contains xs (number k)) (sym (side_numbered w t d.request e)) (to_map number (sides w d.request) p k f) in
-        (m, (are m).1 ((low, omega (arith, below, many)), subst (λ xs. Contains xs (number k)) (sym (side_of_mark w w sheet t refl)) stands), place_is w t (number k), refl)
+        let stands : Contains (sheet_side w sheet t) (number k) =
+        subst (λ xs. Contains xs (number k)) (sym (side_numbered w t d.request e)) (to_map number (sides w d.request) p k f) in (
+          m,
+          (are m).1 ((low, omega (arith, below, many)), subst (λ xs. Contains xs (number k)) (sym (side_of_mark w w sheet t refl)) stands),
+          place_is w t (number k),
+          refl,
+        )
 
     from_touch : (w : Bool) (k : K) (t : ℕ) → touches w k t → IsMarked (place w (number k)) marks t
     from_touch true k t (d, s, (p, e)) = marked true k t d p s.0 (judged_at (touching by R) rule [] list (t - 1) d s.1).0 e
     from_touch false k t (d, s, (p, e)) = marked false k t d p s.0 (judged_at (touching by R) rule [] list (t - 1) d s.1).0 e
 
     tids : All HasTid marks
-    tids = All-from_contains marks (λ m has. let asked = (are m).0 has in let low = asked.0.0 in let high = asked.0.1 in let many = as_many in (low, omega (arith, high, many, few)))
+    tids = All-from_contains marks (λ m has. let asked = (are m).0 has in let low = asked.0.0 in let high = asked.0.1 in let many = as_many in
+        (low, omega (arith, high, many, few)))
       where
         All-from_contains : (ms : List Mark) → ((m : Mark) → Contains ms m → HasTid m) → All HasTid ms
         All-from_contains ms each n d below = each (slice_index_or ms n d) (n, below, again ms n d (slice_index_or ms n d) below)
@@ -153,12 +169,14 @@ module _ {K V Q A : Type 0} {R : K → K → Ordering} (o : IsTotalOrder R) (ant
     -- the keys of a request have numbers of the sheet
     read_below : (n p : ℕ) (q : Q) (k : K) → slice_get list n ≡ Some q → slice_get (by.reads q) p ≡ Some k → number k < sheet.keys
     read_below n p q k e f = All-contains (λ k. k < sheet.keys) (map number (by.reads q)) (number k)
-        (All-contains (λ xs. All (λ k. k < sheet.keys) xs) sheet.reads (map number (by.reads q)) is.reads_below (subst (λ xs. Contains xs (map number (by.reads q))) (sym numbered.reads_are) (to_map (λ q. map number (by.reads q)) list n q e)))
+        (All-contains (λ xs. All (λ k. k < sheet.keys) xs) sheet.reads (map number (by.reads q)) is.reads_below
+        (subst (λ xs. Contains xs (map number (by.reads q))) (sym numbered.reads_are) (to_map (λ q. map number (by.reads q)) list n q e)))
         (to_map number (by.reads q) p k f)
 
     written_below : (n p : ℕ) (q : Q) (k : K) → slice_get list n ≡ Some q → slice_get (written by q) p ≡ Some k → number k < sheet.keys
     written_below n p q k e f = All-contains (λ k. k < sheet.keys) (map number (written by q)) (number k)
-        (All-contains (λ xs. All (λ k. k < sheet.keys) xs) sheet.writes (map number (written by q)) is.writes_below (subst (λ xs. Contains xs (map number (written by q))) (sym numbered.writes_are) (to_map (λ q. map number (written by q)) list n q e)))
+        (All-contains (λ xs. All (λ k. k < sheet.keys) xs) sheet.writes (map number (written by q)) is.writes_below
+        (subst (λ xs. Contains xs (map number (written by q))) (sym numbered.writes_are) (to_map (λ q. map number (written by q)) list n q e)))
         (to_map number (written by q) p k f)
 
     touched : (k : K) → IsTouched R by list k → (is_among R keys k ≡ true) × (number k < sheet.keys)
@@ -171,7 +189,8 @@ module _ {K V Q A : Type 0} {R : K → K → Ordering} (o : IsTotalOrder R) (ant
     word_on true h = h.writers
     word_on false h = h.readers
 
-    word_is : (so : SoFar) (h : Held R V Q) → Keeps o anti by rule tag start list first so h → 1 < so.phase → (w : Bool) (k : K) → IsTouched R by list k → word_on w h k ≡ slice_index words (place w (number k))
+    word_is : (so : SoFar) (h : Held R V Q) → Keeps o anti by rule tag start list first so h → 1 < so.phase → (w : Bool) (k : K) → IsTouched R by list k
+        → word_on w h k ≡ slice_index words (place w (number k))
     word_is so h keeps late true k t = let known = touched k t in
         word_of-least old tag (place true (number k)) marks (h.writers k) small above_old tids
         (λ i m. all_marked o anti by rule tag start list first so h keeps late true k i (to_touch true k known.0 i m))
@@ -183,9 +202,11 @@ module _ {K V Q A : Type 0} {R : K → K → Ordering} (o : IsTotalOrder R) (ant
         (⊎_elim (λ e. inl e) (λ by_one. inr (by_one.0, from_touch false k by_one.0 by_one.1, by_one.2)) (keeps.words false k))
         ∙ sym (are_words.each (place false (number k)) (place_below false (number k) sheet.keys known.1))
 
-    held_words : (es : List Event) → IsLegal R by rule list at_first es → 1 < (all_along at_first es).phase → AreHeld R by list number words (steps by rule tag start list first (begun by rule tag start list first) es)
+    held_words : (es : List Event) → IsLegal R by rule list at_first es → 1 < (all_along at_first es).phase
+        → AreHeld R by list number words (steps by rule tag start list first (begun by rule tag start list first) es)
     held_words es legal late =
-        let keeps = kept_all_along o anti by rule tag start list first few above once es at_first _ (at_begin o anti by rule tag start list first few above once) legal in
+        let keeps = kept_all_along o anti by rule tag start list first few above once es at_first _
+        (at_begin o anti by rule tag start list first few above once) legal in
         record { writers = word_is _ _ keeps late true; readers = word_is _ _ keeps late false }
 
   pub marks_law : (es : List Event) → MarksTell is_done tree rule start list number keys sheet old tag marks words es

@@ -18,10 +18,13 @@ stays w k n le q = elim (eq_by_cmp key_cmp q k) as (λ b. eq_by_cmp key_cmp q k 
   | false ↦ λ t. refl
 ] refl
 
-pub falls_to : (v w : Words) (k : Key) (n : ℕ) → n < word_in v k → ((q : Key) → get derived_cmp w.map q ≡ cond (is_at (derived_cmp k) q) (Some n) (get derived_cmp v.map q)) → (q : Key) → word_in w q ≡ marked key_cmp (word_in v) (Some k) n q
+pub falls_to : (v w : Words) (k : Key) (n : ℕ) → n < word_in v k
+    → ((q : Key) → get derived_cmp w.map q ≡ cond (is_at (derived_cmp k) q) (Some n) (get derived_cmp v.map q)) → (q : Key)
+    → word_in w q ≡ marked key_cmp (word_in v) (Some k) n q
 falls_to v w k n above is q = ap (λ r. unwrap_or r (2 ^ 64 - 1)) (is q)
     ∙ ap (λ b. unwrap_or (cond b (Some n) (get derived_cmp v.map q)) (2 ^ 64 - 1)) (ap is_eq (derived-is k q) ∙ (eq_by_cmp_equiv key_cmp_total).symm k q)
-    ∙ elim (eq_by_cmp key_cmp q k) as (λ b. eq_by_cmp key_cmp q k ≡ b → unwrap_or (cond b (Some n) (get derived_cmp v.map q)) (2 ^ 64 - 1) ≡ cond b (min (word_in v q) n) (word_in v q)) [
+    ∙ elim (eq_by_cmp key_cmp q k) as (λ b. eq_by_cmp key_cmp q k ≡ b
+    → unwrap_or (cond b (Some n) (get derived_cmp v.map q)) (2 ^ 64 - 1) ≡ cond b (min (word_in v q) n) (word_in v q)) [
       | true ↦ λ t. let here : n < word_in v q = subst (λ k. n < word_in v k) (sym (same_key key_cmp-IsAntisymmetric q k t)) above in omega arith
       | false ↦ λ t. refl
     ] refl

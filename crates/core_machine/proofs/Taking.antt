@@ -62,7 +62,8 @@ module _ {X : Type 0} where
 
   at_set_else : (xs : List X) (i j : ℕ) (x : X) → 1 ≤ i → j ≢ i → at_tid (slice_set xs (i - 1) x) j ≡ at_tid xs j
   at_set_else xs i j x low off = ⊎_elim
-      (λ none. ap (λ b. cond b None (slice_get (slice_set xs (i - 1) x) (j - 1))) (eq-eqb j 0 none) ∙ sym (ap (λ b. cond b None (slice_get xs (j - 1))) (eq-eqb j 0 none)))
+      (λ none. ap (λ b. cond b None (slice_get (slice_set xs (i - 1) x) (j - 1))) (eq-eqb j 0 none)
+      ∙ sym (ap (λ b. cond b None (slice_get xs (j - 1))) (eq-eqb j 0 none)))
       (λ some. at_is (slice_set xs (i - 1) x) j (omega arith) ∙ set_else xs (i - 1) (j - 1) x (λ e. off (omega arith)) ∙ sym (at_is xs j (omega arith)))
       (cases_eq j 0)
 
@@ -150,9 +151,11 @@ module _ (b : Course) where
   kept = Keeps key_cmp_total key_cmp-IsAntisymmetric by b.rule TAG b.start b.list unmarked
 
   keeps : (es : List Event) → length b.list ≤ MOST_REQUESTS → IsCourse b es → kept (after b es) (held b es)
-  keeps es few legal = kept_all_along key_cmp_total key_cmp-IsAntisymmetric by b.rule TAG b.start b.list unmarked few above once es at_first _ (at_begin key_cmp_total key_cmp-IsAntisymmetric by b.rule TAG b.start b.list unmarked few above once) legal
+  keeps es few legal = kept_all_along key_cmp_total key_cmp-IsAntisymmetric by b.rule TAG b.start b.list unmarked few above once es at_first _
+      (at_begin key_cmp_total key_cmp-IsAntisymmetric by b.rule TAG b.start b.list unmarked few above once) legal
 
-  steps_append : (es : List Event) (e : Event) (h : Held key_cmp Cells Request) → steps by b.rule TAG b.start b.list unmarked h (es ++ e ∷ []) ≡ does (steps by b.rule TAG b.start b.list unmarked h es) e
+  steps_append : (es : List Event) (e : Event) (h : Held key_cmp Cells Request)
+      → steps by b.rule TAG b.start b.list unmarked h (es ++ e ∷ []) ≡ does (steps by b.rule TAG b.start b.list unmarked h es) e
   steps_append [] e h = refl
   steps_append (x ∷ xs) e h = steps_append xs e (does h x)
 
@@ -166,9 +169,11 @@ module _ (b : Course) where
   phases_rise (Decide i ∷ es) so = phases_rise es (along so (Decide i))
   phases_rise (Install i p ∷ es) so = phases_rise es (along so (Install i p))
 
-  still : (es : List Event) (so : SoFar) (h : Held key_cmp Cells Request) → h.map ≡ b.start → IsLegal key_cmp by b.rule b.list so es → (all_along so es).phase < 3 → (steps by b.rule TAG b.start b.list unmarked h es).map ≡ b.start
+  still : (es : List Event) (so : SoFar) (h : Held key_cmp Cells Request) → h.map ≡ b.start → IsLegal key_cmp by b.rule b.list so es
+      → (all_along so es).phase < 3 → (steps by b.rule TAG b.start b.list unmarked h es).map ≡ b.start
   still [] so h is legal early = is
-  still (Install i p ∷ es) so h is legal early = let rise = phases_rise es (along so (Install i p)) in let at = legal.0.0 in absurd (omega (arith, at, rise, early))
+  still (Install i p ∷ es) so h is legal early = let rise = phases_rise es (along so (Install i p)) in let at = legal.0.0 in
+      absurd (omega (arith, at, rise, early))
   still (Turn ∷ es) so h is legal early = still es (along so Turn) h is legal.1 early
   still (Execute i ∷ es) so h is legal early = still es (along so (Execute i)) (does h (Execute i)) is legal.1 early
   still (MarkRead i p ∷ es) so h is legal early = still es (along so (MarkRead i p)) (does h (MarkRead i p)) is legal.1 early
@@ -207,7 +212,8 @@ module _ (b : Course) where
 
     -- the request of a TID
     request_at : (i : ℕ) (d : Judged Request) → stands i d → at_tid c.list.items i ≡ Some d.request
-    request_at i d s = at_is c.list.items i s.0 ∙ ap (λ list. slice_get list (i - 1)) t.list ∙ (judged_at (touching by key_cmp) b.rule [] b.list (i - 1) d s.1).0
+    request_at i d s = at_is c.list.items i s.0 ∙ ap (λ list. slice_get list (i - 1)) t.list
+        ∙ (judged_at (touching by key_cmp) b.rule [] b.list (i - 1) d s.1).0
 
     stands_at : (i : ℕ) → (1 ≤ i) → i ≤ length c.list.items → (d : Judged Request) × stands i d
     stands_at i low high =
@@ -219,7 +225,8 @@ module _ (b : Course) where
     tid_there i d s = at_below c.list.items i d.request (request_at i d s)
 
     ran_at : 0 < (after b es).phase → (i : ℕ) (d : Judged Request) → stands i d → (held b es).outcomes i ≡ Some d.request
-    ran_at late i d s = known key_cmp_total key_cmp-IsAntisymmetric by b.rule TAG b.start b.list unmarked (after b es) (held b es) (keeps es t.few t.legal) late i d s
+    ran_at late i d s = known key_cmp_total key_cmp-IsAntisymmetric by b.rule TAG b.start b.list unmarked (after b es) (held b es)
+        (keeps es t.few t.legal) late i d s
 
     -- ---- what is asked for
 
@@ -238,8 +245,10 @@ module _ (b : Course) where
     told_at late i d s = t.verdicts i d.verdict ((keeps es t.few t.legal).effects (Decide i) ((keeps es t.few t.legal).past (Decide i) late (d, s)) d s)
 
     asked_from : (e : Event) → phase_of e ≡ (after b es).phase → asks c e ≡ true → asked e
-    asked_from (Execute i) at said = let some = is_some-is (at_tid c.list.items i) said in let below = at_below c.list.items i some.0 some.1 in stands_at i below.0 below.1
-    asked_from (Decide i) at said = let some = is_some-is (at_tid c.list.items i) said in let below = at_below c.list.items i some.0 some.1 in stands_at i below.0 below.1
+    asked_from (Execute i) at said = let some = is_some-is (at_tid c.list.items i) said in let below = at_below c.list.items i some.0 some.1 in
+        stands_at i below.0 below.1
+    asked_from (Decide i) at said = let some = is_some-is (at_tid c.list.items i) said in let below = at_below c.list.items i some.0 some.1 in
+        stands_at i below.0 below.1
     asked_from (MarkRead i p) at said =
         let some = is_some-is (read_at c.outcomes.items i p) said in
         let one = then_some (outcome_of c.outcomes.items i) (λ o. slice_get o.reads p) some.0 some.1 in
@@ -248,24 +257,39 @@ module _ (b : Course) where
     asked_from (MarkWrite i p) at said =
         let some = is_some-is (write_at c.outcomes.items i p) said in
         let one = then_some (outcome_of c.outcomes.items i) (λ o. slice_get o.writes p) some.0 some.1 in
-        let s = outcome_tid i one.0 one.1 in
-        (s.0, s.1, (some.0.0, ap (λ r. and_then r (λ q. slice_get (written by q) p)) (sym (ran_at (omega (arith, at)) i s.0 s.1)) ∙ sym (written_now i p) ∙ ap (option_map (λ w. w.0)) some.1))
+        let s = outcome_tid i one.0 one.1 in (
+          s.0,
+          s.1,
+          (
+            some.0.0,
+            ap (λ r. and_then r (λ q. slice_get (written by q) p)) (sym (ran_at (omega (arith, at)) i s.0 s.1)) ∙ sym (written_now i p)
+                ∙ ap (option_map (λ w. w.0)) some.1,
+          ),
+        )
     asked_from (Install i p) at said =
         let parts = both_true (finishes_by (at_tid c.verdicts.items i)) (is_some (write_at c.outcomes.items i p)) said in
         let some = is_some-is (write_at c.outcomes.items i p) parts.1 in
         let one = then_some (outcome_of c.outcomes.items i) (λ o. slice_get o.writes p) some.0 some.1 in
-        let s = outcome_tid i one.0 one.1 in
-        (s.0, s.1, ap finishes_by (sym (told_at (omega (arith, at)) i s.0 s.1)) ∙ parts.0, (some.0, ap (λ r. and_then r (λ q. slice_get (by.rows q) p)) (sym (ran_at (omega (arith, at)) i s.0 s.1)) ∙ sym (rows_now i p) ∙ some.1))
+        let s = outcome_tid i one.0 one.1 in (
+          s.0,
+          s.1,
+          ap finishes_by (sym (told_at (omega (arith, at)) i s.0 s.1))
+              ∙ parts.0,
+          (some.0, ap (λ r. and_then r (λ q. slice_get (by.rows q) p)) (sym (ran_at (omega (arith, at)) i s.0 s.1)) ∙ sym (rows_now i p) ∙ some.1),
+        )
     asked_from Turn at said = absurd (false≢true said)
 
     asks_from : (e : Event) → phase_of e ≡ (after b es).phase → asked e → asks c e ≡ true
     asks_from (Execute i) at (d, s) = ap is_some (request_at i d s)
     asks_from (Decide i) at (d, s) = ap is_some (request_at i d s)
-    asks_from (MarkRead i p) at (d, s, (k, e)) = ap is_some (reads_now i p ∙ ap (λ r. and_then r (λ q. slice_get (by.reads q) p)) (ran_at (omega (arith, at)) i d s) ∙ e)
+    asks_from (MarkRead i p) at (d, s, (k, e)) = ap is_some (reads_now i p
+        ∙ ap (λ r. and_then r (λ q. slice_get (by.reads q) p)) (ran_at (omega (arith, at)) i d s) ∙ e)
     asks_from (MarkWrite i p) at (d, s, (k, e)) =
-        is_some_key (write_at c.outcomes.items i p) k (written_now i p ∙ ap (λ r. and_then r (λ q. slice_get (written by q) p)) (ran_at (omega (arith, at)) i d s) ∙ e)
+        is_some_key (write_at c.outcomes.items i p) k (written_now i p
+        ∙ ap (λ r. and_then r (λ q. slice_get (written by q) p)) (ran_at (omega (arith, at)) i d s) ∙ e)
     asks_from (Install i p) at (d, s, f, (w, e)) =
-        (λ j. finishes_by (told_at (omega (arith, at)) i d s j) && is_some ((rows_now i p ∙ ap (λ r. and_then r (λ q. slice_get (by.rows q) p)) (ran_at (omega (arith, at)) i d s) ∙ e) j)) ∙ ap (λ b. b && true) f
+        (λ j. finishes_by (told_at (omega (arith, at)) i d s j) && is_some
+        ((rows_now i p ∙ ap (λ r. and_then r (λ q. slice_get (by.rows q) p)) (ran_at (omega (arith, at)) i d s) ∙ e) j)) ∙ ap (λ b. b && true) f
     asks_from Turn at a = absurd a
 
     -- ---- whether an event is due
@@ -288,7 +312,8 @@ module _ (b : Course) where
     refuted Turn other never now = other refl
 
     pub next_other : (e : Event) → ended c.phase ≡ phase_of e → asks c e ≡ true → has_come c e ≡ false → IsNext b es e
-    next_other e at said new = let here : phase_of e ≡ (after b es).phase = sym at ∙ t.phase in due_from e here (asked_from e here said) (λ came. false≢true (sym new ∙ (t.came e).1 came))
+    next_other e at said new = let here : phase_of e ≡ (after b es).phase = sym at
+        ∙ t.phase in due_from e here (asked_from e here said) (λ came. false≢true (sym new ∙ (t.came e).1 came))
 
     pub not_in_phase : (e : Event) → ¬ (e ≡ Turn) → ended c.phase ≢ phase_of e → ¬ IsNext b es e
     not_in_phase e other off = refuted e other (λ now. off (t.phase ∙ sym now.0))
@@ -310,12 +335,14 @@ module _ (b : Course) where
         let came = now.1 one.0 here (asked_from one.0 here one.2) in
         false≢true (sym (one.3 (t.fits one.0 came)) ∙ (t.came one.0).1 came)
 
-    pub turn_due : (r : Bool) → MatchBool r ((ended c.phase < 4) × AllCame c) (ended c.phase < 4 → SomeLeft c) → MatchBool r (IsNext b es Turn) (¬ IsNext b es Turn)
+    pub turn_due : (r : Bool) → MatchBool r ((ended c.phase < 4) × AllCame c) (ended c.phase < 4 → SomeLeft c)
+        → MatchBool r (IsNext b es Turn) (¬ IsNext b es Turn)
     turn_due true all = next_turn all.0 all.1
     turn_due false left = not_turn left
 
     pub other_due : (e : Event) → ¬ (e ≡ Turn) → (r : Bool) → r ≡ is_open c e → MatchBool r (IsNext b es e) (¬ IsNext b es e)
-    other_due e other true is = let parts = both_true (ended c.phase == phase_of e) (asks c e && not (has_come c e)) (sym is) in let more = both_true (asks c e) (not (has_come c e)) parts.1 in
+    other_due e other true is = let parts = both_true (ended c.phase == phase_of e) (asks c e && not (has_come c e)) (sym is) in let more =
+        both_true (asks c e) (not (has_come c e)) parts.1 in
         next_other e (eqb-true (ended c.phase) (phase_of e) parts.0) more.0 (not_true (has_come c e) more.1)
     other_due e other false is = ⊎_elim
         (λ at. elim (asks c e) as (λ a. asks c e ≡ a → ¬ IsNext b es e) [
@@ -331,7 +358,8 @@ module _ (b : Course) where
     -- ---- when it has settled
 
     committed : IsSettled (after b es) → IsCommitted by b.rule TAG b.start b.list unmarked (held b es)
-    committed end = settled key_cmp_total key_cmp-IsAntisymmetric by b.rule TAG b.start b.list unmarked t.few above once (after b es) (held b es) (keeps es t.few t.legal) end
+    committed end = settled key_cmp_total key_cmp-IsAntisymmetric by b.rule TAG b.start b.list unmarked t.few above once (after b es) (held b es)
+        (keeps es t.few t.legal) end
 
     pub tables_settled : IsSettled (after b es) → c.tables ≡ database_of b
     tables_settled end = t.tables ∙ (committed end).map
@@ -346,7 +374,8 @@ module _ (b : Course) where
         (λ n lt. let there = get_there ds n (omega (arith, lt, counted)) in
         let one : n ≡ suc n - 1 = omega arith in
         let s : stands (suc n) there.0 = (omega arith, ap (slice_get ds) (sym one) ∙ there.1) in
-        ap (slice_get c.verdicts.items) one ∙ sym (at_is c.verdicts.items (suc n) (omega arith)) ∙ t.verdicts (suc n) there.0.verdict ((committed end).verdicts (suc n) there.0 s)
+        ap (slice_get c.verdicts.items) one ∙ sym (at_is c.verdicts.items (suc n) (omega arith))
+        ∙ t.verdicts (suc n) there.0.verdict ((committed end).verdicts (suc n) there.0 s)
         ∙ sym (map_get (λ (d : Judged Request). d.verdict) ds n ∙ ap (option_map (λ (d : Judged Request). d.verdict)) there.1))
       where
         length_map : {X Y : Type 0} (f : X → Y) (xs : List X) → length (map f xs) ≡ length xs
@@ -377,14 +406,17 @@ module _ (b : Course) where
 
     came_next : m.came ≡ c.came → (x : Event) → (has_come d x ≡ true) ↔ Contains (e ∷ (after b es).came) x
     came_next same x =
-        let is : is_in d.came x ≡ cond (is_at (event_cmp e) x) true (is_in c.came x) = notes.came x ∙ ap (λ s. cond (is_at (event_cmp e) x) true (is_in s x)) same in (
-          λ said. elim (is_at (event_cmp e) x) as (λ b'. is_at (event_cmp e) x ≡ b' → cond b' true (is_in c.came x) ≡ true → Contains (e ∷ (after b es).came) x) [
-            | true ↦ λ tie h. subst (Contains (e ∷ (after b es).came)) (exact e x ((Equal-is (event_cmp e x)).0 tie)) (came_now e (after b es).came)
-            | false ↦ λ tie h. came_before e x (after b es).came ((t.came x).0 h)
-          ] refl (sym is ∙ said),
+        let is : is_in d.came x ≡ cond (is_at (event_cmp e) x) true (is_in c.came x) = notes.came x
+        ∙ ap (λ s. cond (is_at (event_cmp e) x) true (is_in s x)) same in (
+          λ said. elim (is_at (event_cmp e) x) as (λ b'. is_at (event_cmp e) x ≡ b' → cond b' true (is_in c.came x) ≡ true
+              → Contains (e ∷ (after b es).came) x) [
+                | true ↦ λ tie h. subst (Contains (e ∷ (after b es).came)) (exact e x ((Equal-is (event_cmp e x)).0 tie)) (came_now e (after b es).came)
+                | false ↦ λ tie h. came_before e x (after b es).came ((t.came x).0 h)
+              ] refl (sym is ∙ said),
           λ has. is ∙ ⊎_elim
               (λ one. ap (λ b'. cond b' true (is_in c.came x)) (ap is_eq (ap (event_cmp e) (sym one) ∙ itself e)))
-              (λ older. ap (cond (is_at (event_cmp e) x) true) ((t.came x).1 older) ∙ elim (is_at (event_cmp e) x) as (λ b'. cond b' true true ≡ true) [ true ↦ refl | false ↦ refl ])
+              (λ older. ap (cond (is_at (event_cmp e) x) true) ((t.came x).1 older)
+              ∙ elim (is_at (event_cmp e) x) as (λ b'. cond b' true true ≡ true) [ true ↦ refl | false ↦ refl ])
               (came_cases e x (after b es).came has),
         )
 
@@ -408,14 +440,19 @@ module _ (b : Course) where
       phase = notes.phase ∙ becomes.phase ∙ phase ∙ ap (λ (s : SoFar). s.phase) (sym after_next);
       came = λ x. subst (λ (s : SoFar). (has_come d x ≡ true) ↔ Contains s.came x) (sym after_next) (came_next becomes.came x);
       fits = λ x. subst (λ (s : SoFar). Contains s.came x → place_in x < 2 ^ 32) (sym after_next) (fits_next x);
-      outcomes = λ i. ap (λ xs. outcome_of xs i) (notes.outcomes ∙ becomes.outcomes) ∙ outs i ∙ ap (λ (h : Held key_cmp Cells Request). option_map of (h.outcomes i)) (sym held_next);
-      writers = λ key. notes.writers key ∙ becomes.writers key ∙ ap (λ (f : Key → ℕ). f key) writers ∙ ap (λ (h : Held key_cmp Cells Request). h.writers key) (sym held_next);
-      readers = λ key. notes.readers key ∙ becomes.readers key ∙ ap (λ (f : Key → ℕ). f key) readers ∙ ap (λ (h : Held key_cmp Cells Request). h.readers key) (sym held_next);
-      verdicts = λ i v is. ap (λ xs. at_tid xs i) (notes.verdicts ∙ becomes.verdicts) ∙ vs i v (ap (λ (h : Held key_cmp Cells Request). h.verdicts i) (sym held_next) ∙ is);
+      outcomes = λ i. ap (λ xs. outcome_of xs i) (notes.outcomes ∙ becomes.outcomes) ∙ outs i
+          ∙ ap (λ (h : Held key_cmp Cells Request). option_map of (h.outcomes i)) (sym held_next);
+      writers = λ key. notes.writers key ∙ becomes.writers key ∙ ap (λ (f : Key → ℕ). f key) writers
+          ∙ ap (λ (h : Held key_cmp Cells Request). h.writers key) (sym held_next);
+      readers = λ key. notes.readers key ∙ becomes.readers key ∙ ap (λ (f : Key → ℕ). f key) readers
+          ∙ ap (λ (h : Held key_cmp Cells Request). h.readers key) (sym held_next);
+      verdicts = λ i v is. ap (λ xs. at_tid xs i) (notes.verdicts ∙ becomes.verdicts)
+          ∙ vs i v (ap (λ (h : Held key_cmp Cells Request). h.verdicts i) (sym held_next) ∙ is);
       tables = notes.tables ∙ becomes.tables ∙ tables ∙ ap (λ (h : Held key_cmp Cells Request). h.map) (sym held_next);
     }
 
-  taken_execute : (es : List Event) (i : ℕ) (c m d : Core) → HasTaken b es c → IsNext b es (Execute i) → Notes m d (Execute i) → Performs c (Execute i) m → HasTaken b (es ++ Execute i ∷ []) d
+  taken_execute : (es : List Event) (i : ℕ) (c m d : Core) → HasTaken b es c → IsNext b es (Execute i) → Notes m d (Execute i) → Performs c (Execute i) m
+      → HasTaken b (es ++ Execute i ∷ []) d
   taken_execute es i c m d t now notes becomes =
       let s = now.1.1 in let q : Request = now.1.0.request in let phase = now.0 in
       let asked_one : at_tid c.list.items i ≡ Some q = request_at es c t i now.1.0 s in
@@ -426,13 +463,17 @@ module _ (b : Course) where
       = ap (executed c i) asked_one ∙ (λ j. slice_set c.outcomes.items (i - 1) (Some (outcome_at (run_of (t.catalog j)) (rows j) q))) in
       next es (Execute i) c m d t now (omega arith) notes _ _ _ _ _ _ becomes t.phase
       (λ j. ap (λ xs. outcome_of xs j) made ∙ ⊎_elim
-      (λ one. subst (λ n. outcome_of (slice_set c.outcomes.items (i - 1) (Some (of q))) n ≡ option_map of (put (held b es).outcomes i (slice_get b.list (i - 1)) n)) (sym one)
-      (ap (λ r. and_then r (λ o. o)) (at_set_here c.outcomes.items i (Some (of q)) below.0 (omega (arith, below.1, same))) ∙ ap (option_map of) (sym (put_here (held b es).outcomes i (slice_get b.list (i - 1)) ∙ there))))
-      (λ off. ap (λ r. and_then r (λ o. o)) (at_set_else c.outcomes.items i j (Some (of q)) below.0 off) ∙ t.outcomes j ∙ ap (option_map of) (sym (put_else (held b es).outcomes i j (slice_get b.list (i - 1)) off)))
+      (λ one. subst (λ n. outcome_of (slice_set c.outcomes.items (i - 1) (Some (of q))) n ≡ option_map of
+      (put (held b es).outcomes i (slice_get b.list (i - 1)) n)) (sym one)
+      (ap (λ r. and_then r (λ o. o)) (at_set_here c.outcomes.items i (Some (of q)) below.0 (omega (arith, below.1, same)))
+      ∙ ap (option_map of) (sym (put_here (held b es).outcomes i (slice_get b.list (i - 1)) ∙ there))))
+      (λ off. ap (λ r. and_then r (λ o. o)) (at_set_else c.outcomes.items i j (Some (of q)) below.0 off) ∙ t.outcomes j
+      ∙ ap (option_map of) (sym (put_else (held b es).outcomes i j (slice_get b.list (i - 1)) off)))
       (cases_eq j i))
       (writers_now es c t) (readers_now es c t) t.verdicts t.tables
 
-  taken_decide : (es : List Event) (i : ℕ) (c m d : Core) → HasTaken b es c → IsNext b es (Decide i) → Notes m d (Decide i) → Performs c (Decide i) m → HasTaken b (es ++ Decide i ∷ []) d
+  taken_decide : (es : List Event) (i : ℕ) (c m d : Core) → HasTaken b es c → IsNext b es (Decide i) → Notes m d (Decide i) → Performs c (Decide i) m
+      → HasTaken b (es ++ Decide i ∷ []) d
   taken_decide es i c m d t now notes becomes =
       let s = now.1.1 in let q : Request = now.1.0.request in let phase = now.0 in
       let below = tid_there es c t i now.1.0 s in let same = c.told in
@@ -450,7 +491,8 @@ module _ (b : Course) where
       (cases_eq j i))
       t.tables
 
-  pub takes : (es : List Event) (e : Event) (c m d : Core) → HasTaken b es c → IsNext b es e → place_in e < 2 ^ 32 → Notes m d e → Performs c e m → HasTaken b (es ++ e ∷ []) d
+  pub takes : (es : List Event) (e : Event) (c m d : Core) → HasTaken b es c → IsNext b es e → place_in e < 2 ^ 32 → Notes m d e → Performs c e m
+      → HasTaken b (es ++ e ∷ []) d
   takes es (Execute i) c m d t now fits notes becomes = taken_execute es i c m d t now notes becomes
   takes es (Decide i) c m d t now fits notes becomes = taken_decide es i c m d t now notes becomes
   takes es (MarkRead i p) c m d t now fits notes becomes =
@@ -463,21 +505,24 @@ module _ (b : Course) where
       next es (Install i p) c m d t now fits notes _ _ _ _ _ _ becomes t.phase t.outcomes (writers_now es c t) (readers_now es c t) t.verdicts
       (λ j. installed (t.tables j) (rows_now es c t i p j))
   takes es Turn c m d t now fits notes becomes =
-      next es Turn c m d t now fits notes _ _ _ _ _ _ becomes (let at = t.phase in let early = now.0 in omega (arith, at, early)) t.outcomes (writers_now es c t) (readers_now es c t) t.verdicts t.tables
+      next es Turn c m d t now fits notes _ _ _ _ _ _ becomes (let at = t.phase in let early = now.0 in omega (arith, at, early)) t.outcomes
+      (writers_now es c t) (readers_now es c t) t.verdicts t.tables
 
 -- ---- the first machine, and its facts without a batch
 
 none_at : (list : List Request) (i : ℕ) → outcome_of (map (λ q. None) list) i ≡ None
 none_at list i = ⊎_elim
     (λ none. ap (λ b. and_then (cond b None (slice_get (map (λ (q : Request). None) list) (i - 1))) (λ (o : Option Outcome). o)) (eq-eqb i 0 none))
-    (λ some. ap (λ r. and_then r (λ (o : Option Outcome). o)) (at_is (map (λ (q : Request). None) list) i (omega arith) ∙ map_get (λ (q : Request). None) list (i - 1)) ∙ emptied (slice_get list (i - 1)))
+    (λ some. ap (λ r. and_then r (λ (o : Option Outcome). o)) (at_is (map (λ (q : Request). None) list) i (omega arith)
+    ∙ map_get (λ (q : Request). None) list (i - 1)) ∙ emptied (slice_get list (i - 1)))
     (cases_eq i 0)
   where
     emptied : (r : Option Request) → and_then (option_map (λ q. None) r) (λ (o : Option Outcome). o) ≡ None
     emptied None = refl
     emptied (Some q) = refl
 
-pub begins : (c : Core) → ended c.phase ≡ 0 → ((e : Event) → has_come c e ≡ false) → c.outcomes.items ≡ map (λ q. None) c.list.items → ((key : Key) → word_in c.writers key ≡ 2 ^ 64 - 1) → ((key : Key) → word_in c.readers key ≡ 2 ^ 64 - 1)
+pub begins : (c : Core) → ended c.phase ≡ 0 → ((e : Event) → has_come c e ≡ false) → c.outcomes.items ≡ map (λ q. None) c.list.items
+    → ((key : Key) → word_in c.writers key ≡ 2 ^ 64 - 1) → ((key : Key) → word_in c.readers key ≡ 2 ^ 64 - 1)
     → HasTaken (record { catalog = c.catalog; rule = c.rule; start = c.tables; list = c.list.items }) [] c
 begins c phase new none writers readers = record {
   catalog = refl;

@@ -17,7 +17,8 @@ pub one_least : (P Q : ℕ → Type 0) → ((i : ℕ) → P i → Q i) → ((i :
 one_least P Q to from None None p q = refl
 one_least P Q to from None (Some j) p q = absurd (p j (from j q.0))
 one_least P Q to from (Some i) None p q = absurd (q i (to i p.0))
-one_least P Q to from (Some i) (Some j) p q = let le = p.1 j (from j q.0) in let ge = q.1 i (to i p.0) in let e : i ≡ j = omega arith in ap (λ (n : ℕ). Some n) e
+one_least P Q to from (Some i) (Some j) p q = let le = p.1 j (from j q.0) in let ge = q.1 i (to i p.0) in let e : i ≡ j = omega arith in
+    ap (λ (n : ℕ). Some n) e
 
 pub least_same : (P Q : ℕ → Type 0) → ((i : ℕ) → P i → Q i) → ((i : ℕ) → Q i → P i) → (r : Option ℕ) → LeastOf P r → LeastOf Q r
 least_same P Q to from None p = λ i q. p i (from i q)
@@ -39,7 +40,8 @@ least_before : (P : ℕ → Type 0) (tid : ℕ) (a : Option ℕ) → LeastOf P a
 least_before P tid None p = λ i s. p i s.0
 least_before P tid (Some j) p = ⊎_elim
     (λ lt. subst (λ b. LeastOf (λ i. P i × (i < tid)) (cond b (Some j) None)) (sym (lt-ltb j tid lt)) ((p.0, lt), λ i s. p.1 i s.0))
-    (λ ge. subst (λ b. LeastOf (λ i. P i × (i < tid)) (cond b (Some j) None)) (sym (le-ltb j tid ge)) (λ i s. let le = p.1 i s.0 in let lt = s.1 in omega arith))
+    (λ ge. subst (λ b. LeastOf (λ i. P i × (i < tid)) (cond b (Some j) None)) (sym (le-ltb j tid ge))
+    (λ i s. let le = p.1 i s.0 in let lt = s.1 in omega arith))
     (cases_lt j tid)
 
 -- a word at or above the next tag tells none
@@ -49,14 +51,18 @@ no_tid tag word above =
     ap (λ b. cond b (Some (word % TAG_SPAN)) None) (ne_eqb (word / TAG_SPAN) tag (λ e. omega arith))
 
 tid_of : (tag tid : ℕ) → tid < TAG_SPAN → tid_under tag (number_under tag tid) ≡ Some tid
-tid_of tag t within = ap (λ b. cond b (Some (number_under tag t % TAG_SPAN)) None) (eq-eqb (number_under tag t / TAG_SPAN) tag (div-mul-add tag TAG_SPAN t within))
+tid_of tag t within = ap (λ b. cond b (Some (number_under tag t % TAG_SPAN)) None)
+    (eq-eqb (number_under tag t / TAG_SPAN) tag (div-mul-add tag TAG_SPAN t within))
     ∙ ap (λ (n : ℕ). Some n) (mul-add-mod_self_right tag TAG_SPAN t ∙ mod-eq_of_lt within)
 
 -- A word that is at most the number of each TID that marks it, and is its start or the number of one of them, tells the least of them
-pub word_tells : (P : ℕ → Type 0) (tag first word : ℕ) → (tag + 1) * TAG_SPAN ≤ first → ((i : ℕ) → P i → i < TAG_SPAN) → ((i : ℕ) → P i → word ≤ number_under tag i)
+pub word_tells : (P : ℕ → Type 0) (tag first word : ℕ) → (tag + 1) * TAG_SPAN ≤ first → ((i : ℕ) → P i → i < TAG_SPAN)
+    → ((i : ℕ) → P i → word ≤ number_under tag i)
     → (word ≡ first) ⊎ ((i : ℕ) × P i × (word ≡ number_under tag i)) → LeastOf P (tid_under tag word)
-word_tells P tag first word above small lower (inl e) = subst (LeastOf P) (sym (no_tid tag word (omega (arith, e, above)))) (λ i p. let le = lower i p in let lt = small i p in omega arith)
-word_tells P tag first word above small lower (inr (j, p, e)) = subst (LeastOf P) (sym (ap (tid_under tag) e ∙ tid_of tag j (small j p))) (p, λ i q. let le = lower i q in omega arith)
+word_tells P tag first word above small lower (inl e) = subst (LeastOf P) (sym (no_tid tag word (omega (arith, e, above))))
+    (λ i p. let le = lower i p in let lt = small i p in omega arith)
+word_tells P tag first word above small lower (inr (j, p, e)) =
+    subst (LeastOf P) (sym (ap (tid_under tag) e ∙ tid_of tag j (small j p))) (p, λ i q. let le = lower i q in omega arith)
 
 module _ {K : Type 0} (tag : ℕ) (words : K → ℕ) (tid : ℕ) (P : K → ℕ → Type 0) where
   -- P holds of the number at one of the keys
@@ -64,12 +70,15 @@ module _ {K : Type 0} (tag : ℕ) (words : K → ℕ) (tid : ℕ) (P : K → ℕ
   AtOne [] i = ⊥
   AtOne (k ∷ ks) i = (P k i × (i < tid)) ⊎ AtOne ks i
 
-  least_from : ((k : K) → LeastOf (P k) (tid_under tag (words k))) → (ks : List K) (B : ℕ → Type 0) (best : Option ℕ) → LeastOf B best → LeastOf (λ i. B i ⊎ AtOne ks i) (least_told tag words tid best ks)
+  least_from : ((k : K) → LeastOf (P k) (tid_under tag (words k))) → (ks : List K) (B : ℕ → Type 0) (best : Option ℕ) → LeastOf B best
+      → LeastOf (λ i. B i ⊎ AtOne ks i) (least_told tag words tid best ks)
   least_from each [] B best b = least_same B (λ i. B i ⊎ ⊥) (λ i h. inl h) (λ i h. ⊎_elim (λ h. h) (λ h. absurd h) h) best b
   least_from each (k ∷ ks) B best b = least_same (λ i. (B i ⊎ (P k i × (i < tid))) ⊎ AtOne ks i) (λ i. B i ⊎ AtOne (k ∷ ks) i)
       (λ i h. ⊎_elim (λ h. ⊎_elim (λ h. inl h) (λ h. inr (inl h)) h) (λ h. inr (inr h)) h)
       (λ i h. ⊎_elim (λ h. inl (inl h)) (λ h. ⊎_elim (λ h. inl (inr h)) (λ h. inr h) h) h) _
-      (least_from each ks (λ i. B i ⊎ (P k i × (i < tid))) (lesser best (earlier_only tid (tid_under tag (words k)))) (least_lesser B (λ i. P k i × (i < tid)) best _ b (least_before (P k) tid _ (each k))))
+      (least_from each ks (λ i. B i ⊎ (P k i × (i < tid))) (lesser best (earlier_only tid (tid_under tag (words k))))
+      (least_lesser B (λ i. P k i × (i < tid)) best _ b (least_before (P k) tid _ (each k))))
 
   pub least_of_keys : ((k : K) → LeastOf (P k) (tid_under tag (words k))) → (ks : List K) → LeastOf (AtOne ks) (least_told tag words tid None ks)
-  least_of_keys each ks = least_same (λ i. ⊥ ⊎ AtOne ks i) (AtOne ks) (λ i h. ⊎_elim (λ h. absurd h) (λ h. h) h) (λ i h. inr h) _ (least_from each ks (λ i. ⊥) None (λ i h. h))
+  least_of_keys each ks = least_same (λ i. ⊥ ⊎ AtOne ks i) (AtOne ks) (λ i h. ⊎_elim (λ h. absurd h) (λ h. h) h) (λ i h. inr h) _
+      (least_from each ks (λ i. ⊥) None (λ i h. h))

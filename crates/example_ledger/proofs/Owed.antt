@@ -22,7 +22,8 @@ use Rattle.serving.specs.declared.lives.Live.{Live}
 
 -- no rows fit every catalogue
 pub none_fit : (plan : Plan) (rows : Database) → rows ≡ fin.empty → IsConsistent plan.tables rows
-none_fit plan rows e = subst (λ (db : Database). IsConsistent plan.tables db) (sym e) (λ key row found. absurd (let none = get-empty {X = Cells} key_cmp key in cc))
+none_fit plan rows e = subst (λ (db : Database). IsConsistent plan.tables db) (sym e)
+    (λ key row found. absurd (let none = get-empty {X = Cells} key_cmp key in cc))
 
 -- no line is longer than the text that it stands in
 lines_within : (plan : Plan) (calls : List Call) (most : ℕ) → length (calls_text plan calls) ≤ most → All (λ call. length (line_of_call plan call) ≤ most) calls

@@ -66,12 +66,14 @@ lines_of_entries plan [] [] = refl
 lines_of_entries plan [] (r ∷ held) = ap (λ (l : List (List ℕ)). line_of_held plan r ∷ l) (lines_of_entries plan [] held)
 lines_of_entries plan (row ∷ rows) held = ap (λ (l : List (List ℕ)). line_of_row plan row ∷ l) (lines_of_entries plan rows held)
 
-all_entries : (plan : Plan) (P : Entry → Type 0) (rows : List (Key × Cells)) (held : List Request) → All (λ row. P (OfRow row)) rows → All (λ r. P (OfHeld r)) held → All P (entries_in rows held)
+all_entries : (plan : Plan) (P : Entry → Type 0) (rows : List (Key × Cells)) (held : List Request) → All (λ row. P (OfRow row)) rows
+    → All (λ r. P (OfHeld r)) held → All P (entries_in rows held)
 all_entries plan P rows held a b = All-append P (map OfRow rows) (map OfHeld held) (All-map P OfRow rows a) (All-map P OfHeld held b)
 
 all_rows : (P : Entry → Type 0) (rows : List (Key × Cells)) (held : List Request) → All P (entries_in rows held) → All (λ row. P (OfRow row)) rows
 all_rows P [] held all = All-nil (λ row. P (OfRow row))
-all_rows P (row ∷ rows) held all = one_more (All-head P (OfRow row) (entries_in rows held) all) (all_rows P rows held (All-tail P (OfRow row) (entries_in rows held) all))
+all_rows P (row ∷ rows) held all = one_more (All-head P (OfRow row) (entries_in rows held) all)
+    (all_rows P rows held (All-tail P (OfRow row) (entries_in rows held) all))
   where
     one_more : P (OfRow row) → All (λ row. P (OfRow row)) rows → All (λ row. P (OfRow row)) (row ∷ rows)
     one_more h all zero d below = h
@@ -84,7 +86,8 @@ all_held P (row ∷ rows) held all = all_held P rows held (All-tail P (OfRow row
 -- ---- forth
 
 -- what stands behind the catalogue begins with the letter of `row` or of `held`
-no_piece : (plan : Plan) (rows : List (Key × Cells)) (held : List Request) → IsNoPiece (lines_text (map (line_of_row plan) rows ++ map (line_of_held plan) held))
+no_piece : (plan : Plan) (rows : List (Key × Cells)) (held : List Request)
+    → IsNoPiece (lines_text (map (line_of_row plan) rows ++ map (line_of_held plan) held))
 no_piece plan [] [] = λ e. omega (arith, e)
 no_piece plan [] (r ∷ held) = λ e. omega (arith, e)
 no_piece plan (row ∷ rows) held = λ e. omega (arith, e)
@@ -98,7 +101,8 @@ body_taken bytes v h =
     let pushed = entries_pushed (entry_of plan) rows [] v.2 (entries_rise v.1) in
     let taken : lines_taken (take plan) nothing rest ≡ Some (taken_of (rows) (v.2)) =
     ap (λ (l : List (List ℕ)). lines_taken (take plan) nothing (lines_text l)) (sym (lines_of_entries plan rows v.2))
-    ∙ items_again (line_of plan) (entry_of plan) push (IsEntryOf plan) (entry_written plan h.catalog) (entry_lacks plan h.catalog) (entries_in rows v.2) nothing (taken_of (rows) (v.2))
+    ∙ items_again (line_of plan) (entry_of plan) push (IsEntryOf plan) (entry_written plan h.catalog) (entry_lacks plan h.catalog)
+    (entries_in rows v.2) nothing (taken_of (rows) (v.2))
     (all_entries plan (IsEntryOf plan) rows v.2 h.rows h.held) pushed in
     ap (option_and_then read_rest) front ∙ ap (option_map (λ s. (plan, s))) taken
 
@@ -124,7 +128,8 @@ rest_read plan bytes s e =
       held = subst (All (λ r. takes plan r.call ≡ true)) (sym g.held_are) (all_held (Fit plan) g.rows g.held each);
     }
 
-pub rest_rises : (plan : Plan) (bytes : List ℕ) (s : Taken) → lines_taken (take plan) nothing bytes ≡ Some s → fin.entries (fin.from_entries {R = key_cmp} s.rows) ≡ s.rows
+pub rest_rises : (plan : Plan) (bytes : List ℕ) (s : Taken) → lines_taken (take plan) nothing bytes ≡ Some s
+    → fin.entries (fin.from_entries {R = key_cmp} s.rows) ≡ s.rows
 rest_rises plan bytes s e = entries_again s.rows (rest_read plan bytes s e).rising
 
 is_body : (bytes rest : List ℕ) (v : Values) → bytes ≡ front_text v.0 ++ rest → IsCatalog v.0 → Tells (catalog_text v.0) v.0
@@ -140,10 +145,12 @@ is_body bytes rest v e is told taken there =
     }
 
 -- the rows that are taken make a database, and the requests behind them
-pub rest_found : (plan : Plan) (bytes : List ℕ) (s : Taken) (rows : List (Key × Cells)) (held : List Request) (db : Database) → Some s ≡ lines_taken (take plan) nothing bytes
+pub rest_found : (plan : Plan) (bytes : List ℕ) (s : Taken) (rows : List (Key × Cells)) (held : List Request) (db : Database)
+    → Some s ≡ lines_taken (take plan) nothing bytes
     → rows ≡ s.rows → held ≡ s.held → db ≡ fin.from_entries {R = key_cmp} rows → taken_of (fin.entries db) held ≡ s
 rest_found plan bytes s rows held db e r h t =
-    let back : fin.entries db ≡ s.rows = ap fin.entries (t ∙ ap (λ (l : List (Key × Cells)). fin.from_entries {R = key_cmp} l) r) ∙ rest_rises plan bytes s (sym e) in
+    let back : fin.entries db ≡ s.rows = ap fin.entries (t ∙ ap (λ (l : List (Key × Cells)). fin.from_entries {R = key_cmp} l) r)
+    ∙ rest_rises plan bytes s (sym e) in
     ap (λ (l : List (Key × Cells)). taken_of l held) back ∙ ap (taken_of s.rows) h
 
 pub body_found : (bytes rest : List ℕ) (v : Values) → Some (v.0, rest) ≡ front_of bytes → IsCatalog v.0 → Tells (catalog_text v.0) v.0
@@ -182,16 +189,23 @@ one_body bytes v w h k =
 -- ---- what is written
 
 pub body_written : (bytes : List ℕ) (v : Values) → bytes ≡ body_text v.0 v.1 v.2 → IsCatalog v.0 → Tells (catalog_text v.0) v.0 → IsConsistent v.0.tables v.1
-    → All (λ r. takes v.0 r.call ≡ true) v.2 → All IsRowHeld (fin.entries v.1) → All (λ r. IsArgs r.call.args) v.2 → All (λ r. r.q < 2 ^ 63) v.2 → IsBody bytes v
+    → All (λ r. takes v.0 r.call ≡ true) v.2 → All IsRowHeld (fin.entries v.1) → All (λ r. IsArgs r.call.args) v.2 → All (λ r. r.q < 2 ^ 63) v.2
+    → IsBody bytes v
 body_written bytes v e is told fit calls rows args small = record {
   text = e;
   catalog = is;
   told = told;
-  rows = λ i d below. let h = rows i d below in record { fit = fit (get_or (fin.entries v.1) i d).0 (get_or (fin.entries v.1) i d).1 (entry_there v.1 i d below); parts = h.parts; cells = h.cells };
+  rows = λ i d below. let h = rows i d below in record {
+    fit =
+        fit (get_or (fin.entries v.1) i d).0 (get_or (fin.entries v.1) i d).1 (entry_there v.1 i d below);
+    parts = h.parts;
+    cells = h.cells;
+  };
   held = λ i d below. record { number = small i d below; call = record { fit = calls i d below; args = args i d below } };
 }
 
-rows_written : {X : Type 0} (f : X → Key × Cells) (plan : Plan) (xs : List X) → written (λ x. line_of_row plan (f x)) xs ≡ lines_text (map (line_of_row plan) (map f xs))
+rows_written : {X : Type 0} (f : X → Key × Cells) (plan : Plan) (xs : List X)
+    → written (λ x. line_of_row plan (f x)) xs ≡ lines_text (map (line_of_row plan) (map f xs))
 rows_written f plan [] = refl
 rows_written f plan (x ∷ xs) = ap (λ (l : List ℕ). (line_of_row plan (f x) ++ 10 ∷ []) ++ l) (rows_written f plan xs)
 
@@ -202,10 +216,15 @@ body_joined f plan db held xs one two all m a b c =
     let front = front_text plan in
     let rows = map (line_of_row plan) (fin.entries db) in
     let requests = map (line_of_held plan) held in
-    let listed : written (λ x. line_of_row plan (f x)) xs ≡ lines_text rows = rows_written f plan xs ∙ ap (λ (l : List (Key × Cells)). lines_text (map (line_of_row plan) l)) m in
-    let both : two ≡ front ++ lines_text rows = b ∙ ap (λ (l : List ℕ). l ++ written (λ x. line_of_row plan (f x)) xs) a ∙ ap (λ (l : List ℕ). front ++ l) listed in
-    c ∙ ap (λ (l : List ℕ). l ++ written (line_of_held plan) held) both ∙ ap (λ (l : List ℕ). (front ++ lines_text rows) ++ l) (written_is (line_of_held plan) held)
-    ∙ append_assoc front (lines_text rows) (lines_text requests) ∙ ap (λ (l : List ℕ). front ++ l) (sym (flat_map-append (λ line. line ++ 10 ∷ []) rows requests))
+    let listed : written (λ x. line_of_row plan (f x)) xs ≡ lines_text rows = rows_written f plan xs
+    ∙ ap (λ (l : List (Key × Cells)). lines_text (map (line_of_row plan) l)) m in
+    let both : two ≡ front ++ lines_text rows = b ∙ ap (λ (l : List ℕ). l ++ written (λ x. line_of_row plan (f x)) xs) a
+    ∙ ap (λ (l : List ℕ). front ++ l) listed in
+    c ∙ ap (λ (l : List ℕ). l ++ written (line_of_held plan) held) both
+    ∙ ap (λ (l : List ℕ). (front ++ lines_text rows) ++ l) (written_is (line_of_held plan) held)
+    ∙ append_assoc front (lines_text rows) (lines_text requests)
+    ∙ ap (λ (l : List ℕ). front ++ l) (sym (flat_map-append (λ line. line ++ 10 ∷ []) rows requests))
 
-pub rows_held : {X : Type 0} (f : X → Key × Cells) (db : Database) (xs : List X) → map f xs ≡ fin.entries db → All (λ x. IsRowHeld (f x)) xs → All IsRowHeld (fin.entries db)
+pub rows_held : {X : Type 0} (f : X → Key × Cells) (db : Database) (xs : List X) → map f xs ≡ fin.entries db → All (λ x. IsRowHeld (f x)) xs
+    → All IsRowHeld (fin.entries db)
 rows_held f db xs m all = subst (All IsRowHeld) m (All-map IsRowHeld f xs all)

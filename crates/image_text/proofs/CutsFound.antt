@@ -21,7 +21,8 @@ at_place : (front : List ℕ) (c : ℕ) (line rest : List ℕ) → Lacks c line 
 at_place front c [] rest h = let e = eq-eqb c c refl in rw e (ap (λ (l : List ℕ). Some (l, rest)) (sym (append-nil front)))
 at_place front c (b ∷ line) rest h =
     let parts = and_parts (not (b == c)) (list_all (λ d. not (d == c)) line) h in
-    other front c b (line ++ c ∷ rest) parts.0 ∙ at_place (front ++ b ∷ []) c line rest parts.1 ∙ ap (λ (l : List ℕ). Some (l, rest)) (append_assoc front (b ∷ []) line)
+    other front c b (line ++ c ∷ rest) parts.0 ∙ at_place (front ++ b ∷ []) c line rest parts.1
+    ∙ ap (λ (l : List ℕ). Some (l, rest)) (append_assoc front (b ∷ []) line)
 
 pub cut_again : (c : ℕ) (line rest : List ℕ) → Lacks c line → cut c (line ++ c ∷ rest) ≡ Some (line, rest)
 cut_again c line rest h = at_place [] c line rest h

@@ -33,7 +33,8 @@ module _ (read : List ℕ → Option Entry) where
       let parts = and_parts (is_above (last_key before) row.0) (ascend (Some row.0) rows) up in
       let above = parts.0 in
       let last = ap (λ (o : Option Key). ascend o rows) (last_pushed before row) in
-      rw above (entries_pushed rows (before ++ row ∷ []) held (last ∙ parts.1) ∙ ap (λ (l : List (Key × Cells)). Some (taken_of l held)) (append_assoc before (row ∷ []) rows))
+      rw above (entries_pushed rows (before ++ row ∷ []) held (last ∙ parts.1)
+      ∙ ap (λ (l : List (Key × Cells)). Some (taken_of l held)) (append_assoc before (row ∷ []) rows))
 
   -- ---- back
 
@@ -54,7 +55,8 @@ module _ (read : List ℕ → Option Entry) where
     items = ap (λ (l : List Entry). OfRow row ∷ l) h.items;
     rows_are = h.rows_are ∙ append_assoc s.rows (row ∷ []) h.rows;
     held_are = h.held_are;
-    rising = and_from (is_above (last_key s.rows) row.0) (ascend (Some row.0) h.rows) above (ap (λ (o : Option Key). ascend o h.rows) (sym (last_pushed s.rows row)) ∙ h.rising);
+    rising = and_from (is_above (last_key s.rows) row.0) (ascend (Some row.0) h.rows) above
+        (ap (λ (o : Option Key). ascend o h.rows) (sym (last_pushed s.rows row)) ∙ h.rising);
     first = λ some. let k = eqb-true (length s.held) 0 none in absurd (omega arith);
   }
 
@@ -84,11 +86,13 @@ module _ (read : List ℕ → Option Entry) where
         first = λ some. refl;
       }
   grown (OfHeld r ∷ xs) s end e = with_held s end r xs (grown xs (taken_of (s.rows) (s.held ++ r ∷ [])) end e)
-  grown (OfRow row ∷ xs) s end e = by (λ k. grown xs (taken_of (s.rows ++ row ∷ []) (s.held)) end k) (length s.held == 0) refl (is_above (last_key s.rows) row.0) refl e
+  grown (OfRow row ∷ xs) s end e = by (λ k. grown xs (taken_of (s.rows ++ row ∷ []) (s.held)) end k) (length s.held == 0) refl
+      (is_above (last_key s.rows) row.0) refl e
     where
       by : (pushes read push (taken_of (s.rows ++ row ∷ []) (s.held)) xs ≡ Some end → IsGrown (taken_of (s.rows ++ row ∷ []) (s.held)) xs end)
           → (a : Bool) → (length s.held == 0) ≡ a → (b : Bool) → is_above (last_key s.rows) row.0 ≡ b
-          → option_and_then (λ t. pushes read push t xs) (cond (a && b) (Some (taken_of (s.rows ++ row ∷ []) (s.held))) None) ≡ Some end → IsGrown s (OfRow row ∷ xs) end
+          → option_and_then (λ t. pushes read push t xs) (cond (a && b) (Some (taken_of (s.rows ++ row ∷ []) (s.held))) None) ≡ Some end
+          → IsGrown s (OfRow row ∷ xs) end
       by again true p true q k = with_row s end row xs p q (again k)
       by again true p false q k = cc
       by again false p b q k = cc

@@ -38,11 +38,13 @@ exactly_read write line (Some y) x e = by (bytes_eq (write y) line) refl e
     by false w k = cc
     by true w k = let same : y ≡ x = cc in (sym ((bytes_eq-Decides (write y) line).0 w) ∙ ap write same, k)
 
-pub exactly_same : {X : Type 0} (write : X → List ℕ) (line again : List ℕ) (o : Option X) (x : X) → Some x ≡ o → again ≡ write x → bytes_eq again line ≡ true → Some x ≡ exactly write line o
+pub exactly_same : {X : Type 0} (write : X → List ℕ) (line again : List ℕ) (o : Option X) (x : X) → Some x ≡ o → again ≡ write x → bytes_eq again line ≡ true
+    → Some x ≡ exactly write line o
 exactly_same write line again o x e k same =
     sym (exactly_again write line o x (sym e) (sym ((bytes_eq-Decides again line).0 same) ∙ k))
 
-pub exactly_other : {X : Type 0} (write : X → List ℕ) (line again : List ℕ) (o : Option X) (x : X) → Some x ≡ o → again ≡ write x → bytes_eq again line ≡ false → None ≡ exactly write line o
+pub exactly_other : {X : Type 0} (write : X → List ℕ) (line again : List ℕ) (o : Option X) (x : X) → Some x ≡ o → again ≡ write x → bytes_eq again line ≡ false
+    → None ≡ exactly write line o
 exactly_other write line again o x e k other =
     let no : bytes_eq (write x) line ≡ false = ap (λ (l : List ℕ). bytes_eq l line) (sym k) ∙ other in
     sym (ap (exactly write line) (sym e) ∙ ap (λ (b : Bool). cond b (Some x) None) no)
@@ -69,13 +71,15 @@ then_said f line b e = by (said line) refl e
 
 -- ---- rows
 
-row_when : (plan : Plan) (key : Key) (row : Cells) (r : Key × Cells) (b : Bool) → row_fits plan.tables key row ≡ b → cond b (Ok (key, row)) (Err Argument) ≡ Ok r → row_fits plan.tables r.0 r.1 ≡ true
+row_when : (plan : Plan) (key : Key) (row : Cells) (r : Key × Cells) (b : Bool) → row_fits plan.tables key row ≡ b
+    → cond b (Ok (key, row)) (Err Argument) ≡ Ok r → row_fits plan.tables r.0 r.1 ≡ true
 row_when plan key row r false w k = cc
 row_when plan key row r true w k =
     let same : ◌≡◌ {A = Key × Cells} (key, row) r = cc in
     ap (λ (s : Key × Cells). row_fits plan.tables s.0 s.1) (sym same) ∙ w
 
-row_in_fits : (plan : Plan) (parts : List Part) (row : Cells) (table : Option ℕ) (r : Key × Cells) → row_in plan parts row table ≡ Ok r → row_fits plan.tables r.0 r.1 ≡ true
+row_in_fits : (plan : Plan) (parts : List Part) (row : Cells) (table : Option ℕ) (r : Key × Cells) → row_in plan parts row table ≡ Ok r
+    → row_fits plan.tables r.0 r.1 ≡ true
 row_in_fits plan parts row None r e = cc
 row_in_fits plan parts row (Some table) r e =
     let key : Key = record { table = table; parts = parts } in
@@ -99,7 +103,8 @@ row_says : (plan : Plan) (row : Key × Cells) → IsCatalog plan → IsRowOf pla
 row_says plan row is h = row_again plan row.0 row.1 (line_of_row plan row) refl is h.fit h.parts h.cells
 
 pub row_written : (plan : Plan) (row : Key × Cells) → IsCatalog plan → IsRowOf plan row → exact_row plan (line_of_row plan row) ≡ Some row
-row_written plan row is h = exactly_again (line_of_row plan) (line_of_row plan row) (found (row_said plan (line_of_row plan row))) row (ap found (row_says plan row is h)) refl
+row_written plan row is h = exactly_again (line_of_row plan) (line_of_row plan row) (found (row_said plan (line_of_row plan row))) row
+    (ap found (row_says plan row is h)) refl
 
 pub row_lacks : (plan : Plan) (row : Key × Cells) → IsCatalog plan → IsRowOf plan row → Lacks 10 (line_of_row plan row)
 row_lacks plan row is h = then_said (fitted_row plan) (line_of_row plan row) row (row_says plan row is h)
@@ -136,7 +141,8 @@ pub call_says : (plan : Plan) (call : Call) → IsCatalog plan → IsCallOf plan
 call_says plan call is h = call_again plan call (line_of_call plan call) refl is h.fit h.args
 
 pub call_written : (plan : Plan) (call : Call) → IsCatalog plan → IsCallOf plan call → exact_call plan (line_of_call plan call) ≡ Some call
-call_written plan call is h = exactly_again (line_of_call plan) (line_of_call plan call) (found (call_said plan (line_of_call plan call))) call (ap found (call_says plan call is h)) refl
+call_written plan call is h = exactly_again (line_of_call plan) (line_of_call plan call) (found (call_said plan (line_of_call plan call))) call
+    (ap found (call_says plan call is h)) refl
 
 pub call_lacks : (plan : Plan) (call : Call) → IsCatalog plan → IsCallOf plan call → Lacks 10 (line_of_call plan call)
 call_lacks plan call is h = then_said (fitted_call plan) (line_of_call plan call) call (call_says plan call is h)

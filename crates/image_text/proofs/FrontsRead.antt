@@ -42,12 +42,14 @@ behind_read front bytes rest e = by (bytes_eq (take (length front) bytes) front)
 
 -- ---- pieces
 
-whole_from : (begun front rest : List ℕ) → length begun + length front ≡ PIECE → 0 < length front → pieces_from begun (front ++ rest) ≡ (begun ++ front) ∷ pieces_from [] rest
+whole_from : (begun front rest : List ℕ) → length begun + length front ≡ PIECE → 0 < length front
+    → pieces_from begun (front ++ rest) ≡ (begun ++ front) ∷ pieces_from [] rest
 whole_from begun [] rest n some = absurd (omega arith)
 whole_from begun (b ∷ []) rest n some = let e = eq-eqb (length begun + 1) PIECE (grind (arith, common_steps, n)) in rw e refl
 whole_from begun (b ∷ c ∷ front) rest n some =
     let e : (length begun + 1 == PIECE) ≡ false = ne_eqb (length begun + 1) PIECE (grind (arith, common_steps, n)) in
-    rw e (whole_from (begun ++ b ∷ []) (c ∷ front) rest (grind (arith, common_steps, n)) (grind (arith, common_steps)) ∙ ap (λ (l : List ℕ). l ∷ pieces_from [] rest) (append_assoc begun (b ∷ []) (c ∷ front)))
+    rw e (whole_from (begun ++ b ∷ []) (c ∷ front) rest (grind (arith, common_steps, n)) (grind (arith, common_steps))
+    ∙ ap (λ (l : List ℕ). l ∷ pieces_from [] rest) (append_assoc begun (b ∷ []) (c ∷ front)))
 
 some_left : (b : ℕ) (begun : List ℕ) → pieces_from (b ∷ begun) [] ≡ (b ∷ begun) ∷ []
 some_left b begun = let e = ne_eqb (length (b ∷ begun)) 0 (omega arith) in rw e refl
@@ -57,7 +59,8 @@ short_from [] [] n some = absurd (omega arith)
 short_from (b ∷ begun) [] n some = some_left b begun ∙ ap (λ (l : List ℕ). l ∷ []) (sym (append-nil (b ∷ begun)))
 short_from begun (b ∷ bytes) n some =
     let e : (length begun + 1 == PIECE) ≡ false = ne_eqb (length begun + 1) PIECE (grind (arith, common_steps, n)) in
-    rw e (short_from (begun ++ b ∷ []) bytes (grind (arith, common_steps, n)) (grind (arith, common_steps)) ∙ ap (λ (l : List ℕ). l ∷ []) (append_assoc begun (b ∷ []) bytes))
+    rw e (short_from (begun ++ b ∷ []) bytes (grind (arith, common_steps, n)) (grind (arith, common_steps))
+    ∙ ap (λ (l : List ℕ). l ∷ []) (append_assoc begun (b ∷ []) bytes))
 
 first_piece : (text : List ℕ) → PIECE < length text → pieces text ≡ take PIECE text ∷ pieces (drop PIECE text)
 first_piece text h =
@@ -73,7 +76,8 @@ last_piece text some few = by (length text == PIECE) refl
         ap pieces (sym (append-nil text)) ∙ whole_from [] text [] (omega (arith, n)) some
     by false e = short_from [] text (grind (arith, common_steps, e)) (omega (arith, some))
 
-first_text : (text piece rest : List ℕ) → PIECE < length text → piece ≡ take PIECE text → rest ≡ drop PIECE text → pieces_text text ≡ (piece_line piece ++ 10 ∷ []) ++ pieces_text rest
+first_text : (text piece rest : List ℕ) → PIECE < length text → piece ≡ take PIECE text → rest ≡ drop PIECE text
+    → pieces_text text ≡ (piece_line piece ++ 10 ∷ []) ++ pieces_text rest
 first_text text piece rest h p r =
     ap (λ (ps : List (List ℕ)). lines_text (map piece_line ps)) (first_piece text h)
     ∙ ap (λ (l : List ℕ). (piece_line l ++ 10 ∷ []) ++ pieces_text (drop PIECE text)) (sym p)
@@ -86,13 +90,16 @@ pub no_text : (text : List ℕ) → length text ≡ 0 → pieces_text text ≡ [
 no_text [] e = refl
 no_text (b ∷ text) e = absurd (omega arith)
 
-pub first_written : (out before text piece rest : List ℕ) → PIECE < length text → piece ≡ take PIECE text → rest ≡ drop PIECE text → out ≡ before ++ piece_line piece ++ 10 ∷ []
+pub first_written : (out before text piece rest : List ℕ) → PIECE < length text → piece ≡ take PIECE text → rest ≡ drop PIECE text
+    → out ≡ before ++ piece_line piece ++ 10 ∷ []
     → out ++ pieces_text rest ≡ before ++ pieces_text text
 first_written out before text piece rest h p r e =
-    ap (λ (l : List ℕ). l ++ pieces_text rest) (e ∙ append_assoc before (piece_line piece) (10 ∷ [])) ∙ append_assoc before (piece_line piece ++ 10 ∷ []) (pieces_text rest)
+    ap (λ (l : List ℕ). l ++ pieces_text rest) (e ∙ append_assoc before (piece_line piece) (10 ∷ []))
+    ∙ append_assoc before (piece_line piece ++ 10 ∷ []) (pieces_text rest)
     ∙ ap (λ (l : List ℕ). before ++ l) (sym (first_text text piece rest h p r))
 
-pub last_written : (out before text : List ℕ) → 0 < length text → length text ≤ PIECE → out ≡ before ++ piece_line text ++ 10 ∷ [] → out ≡ before ++ pieces_text text
+pub last_written : (out before text : List ℕ) → 0 < length text → length text ≤ PIECE → out ≡ before ++ piece_line text ++ 10 ∷ []
+    → out ≡ before ++ pieces_text text
 last_written out before text some few e = e ∙ append_assoc before (piece_line text) (10 ∷ []) ∙ ap (λ (l : List ℕ). before ++ l) (sym (last_text text some few))
 
 concat_from : (begun bytes : List ℕ) → concat (pieces_from begun bytes) ≡ begun ++ bytes
@@ -159,7 +166,8 @@ no_colon text (b ∷ rest) h = by (b == 58) refl
 pub no_feed : (text rest line : List ℕ) → Some line ≡ behind (58 ∷ []) rest → Lacks 10 line → None ≡ joined_from text false rest
 no_feed text rest line h k = sym (ap (joined_from text false) (behind_read (58 ∷ []) rest line (sym h)) ∙ unended text line k)
 
-pub next_piece : (text rest line piece after : List ℕ) → Some line ≡ behind (58 ∷ []) rest → IsCutAt 10 line (Some (piece, after)) → joined_from (text ++ piece) false after ≡ joined_from text false rest
+pub next_piece : (text rest line piece after : List ℕ) → Some line ≡ behind (58 ∷ []) rest → IsCutAt 10 line (Some (piece, after))
+    → joined_from (text ++ piece) false after ≡ joined_from text false rest
 next_piece text rest line piece after h k =
     sym (ap (joined_from text false) (behind_read (58 ∷ []) rest line (sym h) ∙ ap (λ (l : List ℕ). 58 ∷ l) k.1) ∙ piece_joined text piece after k.0)
 
@@ -168,7 +176,8 @@ shorter rest line piece after h k =
     let n = ap (λ (l : List ℕ). length l) (behind_read (58 ∷ []) rest line (sym h)) in
     omega (arith, n, k.2)
 
-joined_again : (ps : List (List ℕ)) (text rest : List ℕ) → All (Lacks 10) ps → IsNoPiece rest → joined_from text false (lines_text (map piece_line ps) ++ rest) ≡ Some (text ++ concat ps)
+joined_again : (ps : List (List ℕ)) (text rest : List ℕ) → All (Lacks 10) ps → IsNoPiece rest
+    → joined_from text false (lines_text (map piece_line ps) ++ rest) ≡ Some (text ++ concat ps)
 joined_again [] text rest all h = no_piece text rest h ∙ ap Some (sym (append-nil text))
 joined_again (p ∷ ps) text rest all h =
     let line : lines_text (map piece_line (p ∷ ps)) ++ rest ≡ 58 ∷ (p ++ 10 ∷ (lines_text (map piece_line ps) ++ rest)) = simp append_assoc refl in
@@ -177,12 +186,14 @@ joined_again (p ∷ ps) text rest all h =
 
 -- ---- the catalogue
 
-pub front_again : (plan : Plan) (rest : List ℕ) → IsCatalog plan → Tells (catalog_text plan) plan → IsNoPiece rest → front_of (front_text plan ++ rest) ≡ Some (plan, rest)
+pub front_again : (plan : Plan) (rest : List ℕ) → IsCatalog plan → Tells (catalog_text plan) plan → IsNoPiece rest
+    → front_of (front_text plan ++ rest) ≡ Some (plan, rest)
 front_again plan rest is told h =
     let text = catalog_text plan in
     let bytes = front_text plan ++ rest in
     let titled : behind title bytes ≡ Some (lines_text (map piece_line (pieces text)) ++ rest) =
-    ap (behind title) (append_assoc title (lines_text (map piece_line (pieces text))) rest) ∙ behind_again title (lines_text (map piece_line (pieces text)) ++ rest) in
+    ap (behind title) (append_assoc title (lines_text (map piece_line (pieces text))) rest)
+    ∙ behind_again title (lines_text (map piece_line (pieces text)) ++ rest) in
     let back : joined (lines_text (map piece_line (pieces text)) ++ rest) ≡ Some text =
     joined_again (pieces text) [] rest (lack_from [] text refl (text_lacks (data_of plan))) h ∙ ap Some (concat_from [] text) in
     let says : found (catalog_of text) ≡ Some plan = ap found (tells text plan told is) in
@@ -192,8 +203,10 @@ front_again plan rest is told h =
     ∙ ap (option_and_then (with_plan bytes)) says
     ∙ again
 
-pub front_written : (out titled before : List ℕ) (plan : Plan) → titled ≡ before ++ title → out ≡ titled ++ pieces_text (catalog_text plan) → out ≡ before ++ front_text plan
-front_written out titled before plan t e = e ∙ ap (λ (l : List ℕ). l ++ pieces_text (catalog_text plan)) t ∙ append_assoc before title (pieces_text (catalog_text plan))
+pub front_written : (out titled before : List ℕ) (plan : Plan) → titled ≡ before ++ title → out ≡ titled ++ pieces_text (catalog_text plan)
+    → out ≡ before ++ front_text plan
+front_written out titled before plan t e = e ∙ ap (λ (l : List ℕ). l ++ pieces_text (catalog_text plan)) t
+    ∙ append_assoc before title (pieces_text (catalog_text plan))
 
 plan_read : (bytes : List ℕ) (plan : Plan) (front : Plan × List ℕ) → with_plan bytes plan ≡ Some front → bytes ≡ front_text front.0 ++ front.1
 plan_read bytes plan front e = by (behind (front_text plan) bytes) refl e
@@ -211,10 +224,12 @@ front_read bytes front e = by_title (behind title bytes) e
     by_plan None k = cc
     by_plan (Some plan) k = plan_read bytes plan front k
 
-    by_text : (o : Option (List ℕ)) → option_and_then (λ t. option_and_then (with_plan bytes) (found (catalog_of t))) o ≡ Some front → bytes ≡ front_text front.0 ++ front.1
+    by_text : (o : Option (List ℕ)) → option_and_then (λ t. option_and_then (with_plan bytes) (found (catalog_of t))) o ≡ Some front
+        → bytes ≡ front_text front.0 ++ front.1
     by_text None k = cc
     by_text (Some t) k = by_plan (found (catalog_of t)) k
 
-    by_title : (o : Option (List ℕ)) → option_and_then (λ ps. option_and_then (λ t. option_and_then (with_plan bytes) (found (catalog_of t))) (joined ps)) o ≡ Some front → bytes ≡ front_text front.0 ++ front.1
+    by_title : (o : Option (List ℕ)) → option_and_then (λ ps. option_and_then (λ t. option_and_then (with_plan bytes) (found (catalog_of t))) (joined ps))
+        o ≡ Some front → bytes ≡ front_text front.0 ++ front.1
     by_title None k = cc
     by_title (Some ps) k = by_text (joined ps) k

@@ -54,11 +54,13 @@ module _ {X S : Type 0} (write : X → List ℕ) (read : List ℕ → Option X) 
     items_again (x ∷ xs) s end all e =
         ap (lines_taken (taking read push) s) (append_assoc (write x) (10 ∷ []) (lines_text (map write xs)))
         ∙ line_taken (taking read push) (write x) s (lines_text (map write xs)) (one x (All-head Is x xs all))
-        ∙ ap (λ (o : Option X). option_and_then (λ t. lines_taken (taking read push) t (lines_text (map write xs))) (option_and_then (push s) o)) (again x (All-head Is x xs all))
+        ∙ ap (λ (o : Option X). option_and_then (λ t. lines_taken (taking read push) t (lines_text (map write xs))) (option_and_then (push s) o))
+        (again x (All-head Is x xs all))
         ∙ by (λ t k. items_again xs t end (All-tail Is x xs all) k) (push s x) e
       where
         by : ((t : S) → pushes read push t xs ≡ Some end → lines_taken (taking read push) t (lines_text (map write xs)) ≡ Some end) → (o : Option S)
-            → option_and_then (λ t. pushes read push t xs) o ≡ Some end → option_and_then (λ t. lines_taken (taking read push) t (lines_text (map write xs))) o ≡ Some end
+            → option_and_then (λ t. pushes read push t xs) o ≡ Some end
+            → option_and_then (λ t. lines_taken (taking read push) t (lines_text (map write xs))) o ≡ Some end
         by rest None k = cc
         by rest (Some t) k = rest t k
 
@@ -81,7 +83,8 @@ module _ {X S : Type 0} (write : X → List ℕ) (read : List ℕ → Option X) 
         let k = exact line x r in
         record {
           items = x ∷ h.items;
-          text = ap (λ (l : List ℕ). line ++ 10 ∷ l) h.text ∙ ap (λ (l : List ℕ). l ++ 10 ∷ lines_text (map write h.items)) k.0 ∙ sym (append_assoc (write x) (10 ∷ []) (lines_text (map write h.items)));
+          text = ap (λ (l : List ℕ). line ++ 10 ∷ l) h.text ∙ ap (λ (l : List ℕ). l ++ 10 ∷ lines_text (map write h.items)) k.0
+              ∙ sym (append_assoc (write x) (10 ∷ []) (lines_text (map write h.items)));
           each = all_more x h.items k.1 h.each;
           pushed = ap (option_and_then (λ t. pushes read push t h.items)) p ∙ h.pushed;
         }
@@ -101,9 +104,11 @@ module _ {X S : Type 0} (write : X → List ℕ) (read : List ℕ → Option X) 
         by_read again None r k = cc
         by_read again (Some x) r k = by_step again x r (push s x) refl k
 
-        by_byte : ((t : S) → lines_taken (taking read push) t bs ≡ Some end → IsText bs t end) → (taken_from (taking read push) (begun ++ b ∷ []) s bs ≡ Some end → IsText ((begun ++ b ∷ []) ++ bs) s end)
+        by_byte : ((t : S) → lines_taken (taking read push) t bs ≡ Some end → IsText bs t end)
+            → (taken_from (taking read push) (begun ++ b ∷ []) s bs ≡ Some end → IsText ((begun ++ b ∷ []) ++ bs) s end)
             → (ends : Bool) → (b == 10) ≡ ends
-            → cond ends (option_and_then (λ t. lines_taken (taking read push) t bs) (taking read push s begun)) (taken_from (taking read push) (begun ++ b ∷ []) s bs) ≡ Some end
+            → cond ends (option_and_then (λ t. lines_taken (taking read push) t bs) (taking read push s begun))
+            (taken_from (taking read push) (begun ++ b ∷ []) s bs) ≡ Some end
             → IsText (begun ++ b ∷ bs) s end
         by_byte ended goes true w k = subst (λ (c : ℕ). IsText (begun ++ c ∷ bs) s end) (sym (eqb-true b 10 w)) (by_read ended (read begun) refl k)
         by_byte ended goes false w k = subst (λ (l : List ℕ). IsText l s end) (append_assoc begun (b ∷ []) bs) (goes k)

@@ -11,7 +11,8 @@ module _ {X : Type 0} (xs : List X) (i : ℕ) (x : X) (below : i < length xs) (i
       ap (written write) (take_more xs i x below) ∙ sym (flat_map_more (λ y. write y ++ 10 ∷ []) [] (take i xs) (get_or xs i x))
       ∙ ap (λ (y : X). written write (take i xs) ++ (write y ++ 10 ∷ [])) (sym is)
 
-  pub written_on : (write : X → List ℕ) (before out more : List ℕ) → out ≡ before ++ written write (take i xs) → more ≡ out ++ (write x ++ 10 ∷ []) → more ≡ before ++ written write (take (i + 1) xs)
+  pub written_on : (write : X → List ℕ) (before out more : List ℕ) → out ≡ before ++ written write (take i xs) → more ≡ out ++ (write x ++ 10 ∷ [])
+      → more ≡ before ++ written write (take (i + 1) xs)
   written_on write before out more o m =
       m ∙ ap (λ (l : List ℕ). l ++ (write x ++ 10 ∷ [])) o ∙ append_assoc before (written write (take i xs)) (write x ++ 10 ∷ [])
       ∙ ap (λ (l : List ℕ). before ++ l) (sym (written_more write))

@@ -26,18 +26,21 @@ pushed read (call ∷ calls) before = pushed read calls (before ++ call ∷ []) 
 pub calls_taken : (plan : Plan) (bytes : List ℕ) (calls : List Call) → IsCatalog plan → IsCalls plan bytes calls → read_calls plan bytes ≡ Some calls
 calls_taken plan bytes calls is h =
     ap (read_calls plan) h.text
-    ∙ items_again (line_of_call plan) (exact_call plan) push (IsCallOf plan) (λ call k. call_written plan call is k) (λ call k. call_lacks plan call is k) calls [] calls h.fit (pushed (exact_call plan) calls [])
+    ∙ items_again (line_of_call plan) (exact_call plan) push (IsCallOf plan) (λ call k. call_written plan call is k)
+    (λ call k. call_lacks plan call is k) calls [] calls h.fit (pushed (exact_call plan) calls [])
 
 pub some_is : (a b : List Call) → Some a ≡ Some b → a ≡ b
 some_is a b e = cc
 
-calls_read : (plan : Plan) (bytes : List ℕ) (calls : List Call) → read_calls plan bytes ≡ Some calls → (bytes ≡ calls_text plan calls) × All (λ call. takes plan call ≡ true) calls
+calls_read : (plan : Plan) (bytes : List ℕ) (calls : List Call) → read_calls plan bytes ≡ Some calls
+    → (bytes ≡ calls_text plan calls) × All (λ call. takes plan call ≡ true) calls
 calls_read plan bytes calls e =
     let k = items_read (line_of_call plan) (exact_call plan) push (λ call. takes plan call ≡ true) (call_read plan) bytes [] calls e in
     let same : k.items ≡ calls = some_is k.items calls (sym (pushed (exact_call plan) k.items []) ∙ k.pushed) in
     (k.text ∙ ap (calls_text plan) same, subst (All (λ call. takes plan call ≡ true)) same k.each)
 
-pub are_calls : (plan : Plan) (bytes : List ℕ) (calls : List Call) → Some calls ≡ read_calls plan bytes → All (λ call. IsArgs call.args) calls → IsCalls plan bytes calls
+pub are_calls : (plan : Plan) (bytes : List ℕ) (calls : List Call) → Some calls ≡ read_calls plan bytes → All (λ call. IsArgs call.args) calls
+    → IsCalls plan bytes calls
 are_calls plan bytes calls e held =
     let k = calls_read plan bytes calls (sym e) in
     record { text = k.0; fit = λ i d below. record { fit = k.1 i d below; args = held i d below } }

@@ -32,7 +32,8 @@ below_both : (x y : Key) (rows : Rows) → key_cmp x y ≡ Less → list.below_a
 below_both x y [] p h = refl
 below_both x y (e ∷ es) p h =
     let parts = and_parts (is_lt (key_cmp y e.0)) (list.below_all key_cmp y es) h in
-    and_from (is_lt (key_cmp x e.0)) (list.below_all key_cmp x es) (ap is_lt (key_cmp_total.trans x y e.0 p (less (key_cmp y e.0) parts.0))) (below_both x y es p parts.1)
+    and_from (is_lt (key_cmp x e.0)) (list.below_all key_cmp x es) (ap is_lt (key_cmp_total.trans x y e.0 p (less (key_cmp y e.0) parts.0)))
+    (below_both x y es p parts.1)
 
 sorted : (last : Key) (rows : Rows) → ascend (Some last) rows ≡ true → (list.below_all key_cmp last rows ≡ true) × (list.is_sorted key_cmp rows ≡ true)
 sorted last [] h = (refl, refl)
@@ -94,7 +95,8 @@ below_at x (row ∷ rows) h (suc i) d below = below_at x rows (and_parts (is_lt 
 apart : (x y : Key) → key_cmp x y ≡ Less → eq_by_cmp key_cmp y x ≡ false
 apart x y h = ap is_eq (key_cmp_total.antisymm y x ∙ ap ordering_reverse h)
 
-found_at : (rows : Rows) → list.is_sorted key_cmp rows ≡ true → (i : ℕ) (d : Key × Cells) → i < length rows → list.find key_cmp (get_or rows i d).0 rows ≡ Some (get_or rows i d).1
+found_at : (rows : Rows) → list.is_sorted key_cmp rows ≡ true → (i : ℕ) (d : Key × Cells) → i < length rows
+    → list.find key_cmp (get_or rows i d).0 rows ≡ Some (get_or rows i d).1
 found_at [] h i d below = absurd (omega arith)
 found_at (row ∷ rows) h zero d below = let e = same_key row.0 in rw e refl
 found_at (row ∷ rows) h (suc i) d below =
@@ -102,7 +104,8 @@ found_at (row ∷ rows) h (suc i) d below =
     let e = apart row.0 (get_or rows i d).0 (below_at row.0 rows parts.0 i d (omega arith)) in
     rw e (found_at rows parts.1 i d (omega arith))
 
-pub entry_there : (db : Database) (i : ℕ) (d : Key × Cells) → i < length (fin.entries db) → fin.get db (get_or (fin.entries db) i d).0 ≡ Some (get_or (fin.entries db) i d).1
+pub entry_there : (db : Database) (i : ℕ) (d : Key × Cells) → i < length (fin.entries db)
+    → fin.get db (get_or (fin.entries db) i d).0 ≡ Some (get_or (fin.entries db) i d).1
 entry_there db i d below = fin.get-entries db (get_or (fin.entries db) i d).0 ∙ found_at (fin.entries db) (is_true _ (fin.entries_sorted db)) i d below
 
 -- ---- what holds of each entry holds of what is found
@@ -116,7 +119,8 @@ all_found : (P : Key × Cells → Type 0) (rows : Rows) → All P rows → (q : 
 all_found P [] all q row e = cc
 all_found P (r ∷ rows) all q row e = by (λ k. all_found P rows (All-tail P r rows all) q row k) (eq_by_cmp key_cmp q r.0) refl e
   where
-    by : (list.find key_cmp q rows ≡ Some row → P (q, row)) → (b : Bool) → eq_by_cmp key_cmp q r.0 ≡ b → cond b (Some r.1) (list.find key_cmp q rows) ≡ Some row → P (q, row)
+    by : (list.find key_cmp q rows ≡ Some row → P (q, row)) → (b : Bool) → eq_by_cmp key_cmp q r.0 ≡ b
+        → cond b (Some r.1) (list.find key_cmp q rows) ≡ Some row → P (q, row)
     by rest true w k =
         let key : q ≡ r.0 = key_cmp-IsAntisymmetric q r.0 (is_equal (key_cmp q r.0) w) in
         let cells : r.1 ≡ row = cc in

@@ -83,7 +83,8 @@ beside_if : (b : Bool) (x y x' y' : Asked) → Beside x x' → Beside y y' → B
 beside_if true x y x' y' h k = h
 beside_if false x y x' y' h k = k
 
-beside_then : {T : Type 0} (P : T → Type 0) (f g : T → Asked) (r : Result T RefusalKind) → IfOk r P → ((t : T) → P t → Beside (f t) (g t)) → Beside (and_then f r) (and_then g r)
+beside_then : {T : Type 0} (P : T → Type 0) (f g : T → Asked) (r : Result T RefusalKind) → IfOk r P → ((t : T) → P t → Beside (f t) (g t))
+    → Beside (and_then f r) (and_then g r)
 beside_then P f g (Ok t) p h = h t p
 beside_then P f g (Err why) p h = tt
 
@@ -111,22 +112,26 @@ module _ (c : Counts) where
     catalog_beside : (name : List ℕ) → Beside (at_catalog Once name) (at_catalog Check name)
     catalog_beside name =
         let texts : Bool → Place → Asked = λ b q. cond b (Ok (record q { head = head.Text [] }, deed.Nothing)) (found q (builtin_named name)) in
-        beside_if (not (is_unnamed p.head)) (Err kind.Site) (texts (bytes_eq name (codes "text")) Once) (Err kind.Site) (texts (bytes_eq name (codes "text")) Check) tt
+        beside_if (not (is_unnamed p.head)) (Err kind.Site) (texts (bytes_eq name (codes "text")) Once) (Err kind.Site)
+        (texts (bytes_eq name (codes "text")) Check) tt
         (beside_if (bytes_eq name (codes "text")) (Ok (record Once { head = head.Text [] }, deed.Nothing)) (found Once (builtin_named name))
         (Ok (record Check { head = head.Text [] }, deed.Nothing)) (found Check (builtin_named name))
         (refl, record { mode_is = refl; quiet = quiet; head = tt; deed = tt; ready = tt }) (found_beside (builtin_named name) (builtin_printed name)))
 
     piece_beside : (text piece : List ℕ) → Beside (at_piece Once text piece) (at_piece Check text piece)
     piece_beside text piece =
-        beside_if (nat_lt MOST_CATALOG (length text + length piece)) (Err (kind.Catalog fault.Long)) (Ok (record Once { head = head.Text (text ++ piece) }, deed.Nothing))
+        beside_if (nat_lt MOST_CATALOG (length text + length piece)) (Err (kind.Catalog fault.Long))
+        (Ok (record Once { head = head.Text (text ++ piece) }, deed.Nothing))
         (Err (kind.Catalog fault.Long)) (Ok (record Check { head = head.Text (text ++ piece) }, deed.Nothing)) tt
         (refl, record { mode_is = refl; quiet = quiet; head = tt; deed = tt; ready = tt })
 
-    row_beside : (table : List ℕ) (parts : List Part) (row : Cells) → AllByRecursion PrintedPart parts → PrintedCells row → Beside (at_row Once table parts row) (at_row Check table parts row)
+    row_beside : (table : List ℕ) (parts : List Part) (row : Cells) → AllByRecursion PrintedPart parts → PrintedCells row
+        → Beside (at_row Once table parts row) (at_row Check table parts row)
     row_beside table parts row h k =
         beside_under p.head (λ plan. cond p.rows_ended (Err kind.Site) (and_then (puts Once) (placed_row plan table parts row)))
         (λ plan. cond p.rows_ended (Err kind.Site) (and_then (puts Check) (placed_row plan table parts row))) named
-        (λ plan is. beside_if p.rows_ended (Err kind.Site) (and_then (puts Once) (placed_row plan table parts row)) (Err kind.Site) (and_then (puts Check) (placed_row plan table parts row)) tt
+        (λ plan is. beside_if p.rows_ended (Err kind.Site) (and_then (puts Once) (placed_row plan table parts row)) (Err kind.Site)
+        (and_then (puts Check) (placed_row plan table parts row)) tt
         (beside_then PrintedPair (puts Once) (puts Check) (placed_row plan table parts row) (placed_row_printed plan table parts row h k)
         (λ r both. (refl, record { mode_is = refl; quiet = quiet; head = named; deed = both; ready = tt }))))
 
@@ -145,7 +150,8 @@ module _ (c : Counts) where
     settings_beside name percent =
         beside_under p.head (λ plan. cond (p.open_calls == 0) (and_then (sets Once) (placed_settings name percent)) (Err kind.Site))
         (λ plan. cond (p.open_calls == 0) (and_then (sets Check) (placed_settings name percent)) (Err kind.Site)) named
-        (λ plan is. beside_if (p.open_calls == 0) (and_then (sets Once) (placed_settings name percent)) (Err kind.Site) (and_then (sets Check) (placed_settings name percent)) (Err kind.Site)
+        (λ plan is. beside_if (p.open_calls == 0) (and_then (sets Once) (placed_settings name percent)) (Err kind.Site)
+        (and_then (sets Check) (placed_settings name percent)) (Err kind.Site)
         (beside_then (λ _. ⊤) (sets Once) (sets Check) (placed_settings name percent) (any_ok (placed_settings name percent))
         (λ r any. (refl, record { mode_is = refl; quiet = quiet; head = named; deed = tt; ready = tt }))) tt)
 
@@ -153,7 +159,8 @@ module _ (c : Counts) where
     runs_beside : (n : ℕ) → is_ready p.head ≡ true → Beside (runs Once c n) (runs Check (unwaited c) n)
     runs_beside n ready = by (nat_lt MOST_REQUESTS (c.waiting + p.open_calls)) (nat_lt GREATEST_NUMBER n || nat_lt GREATEST_NUMBER (c.requests + p.open_calls))
       where
-        by : (a b : Bool) → Beside (cond a (Err kind.Batch) (cond b (Err kind.Numbers) (Ok (closed Once, deed.Run)))) (cond b (Err kind.Numbers) (Ok (closed Check, deed.Run)))
+        by : (a b : Bool) → Beside (cond a (Err kind.Batch) (cond b (Err kind.Numbers) (Ok (closed Once, deed.Run))))
+            (cond b (Err kind.Numbers) (Ok (closed Check, deed.Run)))
         by true b = tt
         by false true = tt
         by false false = (refl, record { mode_is = refl; quiet = quiet; head = named; deed = tt; ready = ready })
@@ -199,7 +206,8 @@ module _ (c : Counts) where
       where
         piece_beside_text : Beside (at_piece (as_mode mode.Once p) text piece) (at_piece (as_mode mode.Check p) text piece)
         piece_beside_text =
-            beside_if (nat_lt MOST_CATALOG (length text + length piece)) (Err (kind.Catalog fault.Long)) (Ok (record (as_mode mode.Once p) { head = head.Text (text ++ piece) }, deed.Nothing))
+            beside_if (nat_lt MOST_CATALOG (length text + length piece)) (Err (kind.Catalog fault.Long))
+            (Ok (record (as_mode mode.Once p) { head = head.Text (text ++ piece) }, deed.Nothing))
             (Err (kind.Catalog fault.Long)) (Ok (record (as_mode mode.Check p) { head = head.Text (text ++ piece) }, deed.Nothing)) tt
             (refl, record { mode_is = refl; quiet = quiet; head = tt; deed = tt; ready = tt })
     in_text_item (item.Row table parts row) h = behind_beside (item.Row table parts row) h
@@ -214,7 +222,8 @@ module _ (c : Counts) where
     refused_by false why (Ok plan) other = tt
     refused_by false why (Err kind) other = tt
 
-    in_text_beside : (line : Result Item RefusalKind) → IfOk line PrintedItem → Beside (in_text (as_mode mode.Once p) c text line) (in_text (as_mode mode.Check p) (unwaited c) text line)
+    in_text_beside : (line : Result Item RefusalKind) → IfOk line PrintedItem
+        → Beside (in_text (as_mode mode.Once p) c text line) (in_text (as_mode mode.Check p) (unwaited c) text line)
     in_text_beside (Ok i) h = in_text_item i h
     in_text_beside (Err why) h = refused_by (is_byte why) why (catalog_of text) (refused_in_text (as_mode mode.Check p) text why)
 
@@ -228,7 +237,8 @@ module _ (c : Counts) where
       beside_then PrintedItem (at_item (as_mode mode.Once p) c) (at_item (as_mode mode.Check p) (unwaited c)) line said (λ i k. item_beside p quiet named i k)
   line_beside p quiet named (head.Text text) is line said = in_text_beside (without_head p) quiet text line said
 
-  at_beside : (p : Place) → p.reports ≡ false → PrintedHead p.head → (line : List ℕ) → Beside (asked_at (as_mode mode.Once p) c line) (asked_at (as_mode mode.Check p) (unwaited c) line)
+  at_beside : (p : Place) → p.reports ≡ false → PrintedHead p.head → (line : List ℕ)
+      → Beside (asked_at (as_mode mode.Once p) c line) (asked_at (as_mode mode.Check p) (unwaited c) line)
   at_beside p quiet named line = by p.reports quiet
     where
       by : (b : Bool) → b ≡ false
@@ -244,4 +254,5 @@ module _ (c : Counts) where
       → (asked (as_mode mode.Check p) (unwaited c) line ≡ Ok (as_mode mode.Check r.0, r.1)) × Asks r
   asked_beside p is quiet named line r e =
       let same : asked p c line ≡ asked (as_mode mode.Once p) c line = λ i. asked (record p { mode = is i }) c line in
-      beside_of (asked (as_mode mode.Once p) c line) (asked (as_mode mode.Check p) (unwaited c) line) r (sym same ∙ e) (at_beside (next_line p) quiet named line)
+      beside_of (asked (as_mode mode.Once p) c line) (asked (as_mode mode.Check p) (unwaited c) line) r (sym same ∙ e)
+      (at_beside (next_line p) quiet named line)

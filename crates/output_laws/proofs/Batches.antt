@@ -99,7 +99,8 @@ module _ (tree : Request → Run) (runs : (r : Request) → PrintedRequest r →
   lates_printed declared_of db (d ∷ ds) a h =
       let run = tree d.request in
       let is = runs d.request a.0 in (
-        fate_printed (outside key_cmp (declared_of d) (trace_of run db)) (end_of run db) (outside_printed (declared_of d) run db is h) (end_printed run db is h),
+        fate_printed (outside key_cmp (declared_of d) (trace_of run db)) (end_of run db) (outside_printed (declared_of d) run db is h)
+            (end_printed run db is h),
         lates_printed declared_of (late_map is_done (declared_of d) run db) ds a.1 (left (has_ended (late_fate (declared_of d) run db)) run is),
       )
     where
@@ -109,7 +110,8 @@ module _ (tree : Request → Run) (runs : (r : Request) → PrintedRequest r →
 
   -- ---- the list
 
-  judged_printed : (on : Dependencies Request) (rule : Rule) (earlier list : List Request) → AllByRecursion PrintedRequest list → AllByRecursion Asks (judged on rule earlier list)
+  judged_printed : (on : Dependencies Request) (rule : Rule) (earlier list : List Request) → AllByRecursion PrintedRequest list
+      → AllByRecursion Asks (judged on rule earlier list)
   judged_printed on rule earlier [] a = tt
   judged_printed on rule earlier (r ∷ rs) a = (a.0, judged_printed on rule (earlier ++ r ∷ []) rs a.1)
 
@@ -139,7 +141,8 @@ module _ (tree : Request → Run) (runs : (r : Request) → PrintedRequest r →
     after_printed_commit =
         let kept = kept_by_batch key_cmp_total key_cmp-IsAntisymmetric is_done tree PrintedRows rule 101 start list
         (at_each Keeping list (keeping list asks)) rows in
-        subst PrintedRows (ap (λ b. cond b (late_rest (on_start is_done tree start) is_done tree (after_commit (on_start is_done tree start) start ds) ds) (after_commit (on_start is_done tree start) start ds))
+        subst PrintedRows (ap (λ b. cond b (late_rest (on_start is_done tree start) is_done tree (after_commit (on_start is_done tree start) start ds) ds)
+        (after_commit (on_start is_done tree start) start ds))
         (never_late (length (waiting ds)) (length ds) (filter_short (λ (d : Judged Request). waits d.verdict) ds))) kept
 
     map_printed : PrintedRows (batch is_done tree rule percent start list).map
@@ -152,7 +155,8 @@ module _ (tree : Request → Run) (runs : (r : Request) → PrintedRequest r →
     settled_printed (d ∷ es) fates a b =
         ((by d.verdict fates b, a.0), settled_printed es (lates_behind d.verdict fates) a.1 (behind_printed d.verdict fates b))
       where
-        by : (v : Verdict) (fates : List (Fate Key End)) → AllByRecursion PrintedFate fates → PrintedFate (fate_after (on_start is_done tree start) d.request v fates)
+        by : (v : Verdict) (fates : List (Fate Key End)) → AllByRecursion PrintedFate fates
+            → PrintedFate (fate_after (on_start is_done tree start) d.request v fates)
         by (Finish raw) fates b = end_printed (tree d.request) start (runs d.request a.0) rows
         by (WaitFor cause) [] b = tt
         by (WaitFor cause) (late ∷ more) b = b.0
@@ -160,7 +164,8 @@ module _ (tree : Request → Run) (runs : (r : Request) → PrintedRequest r →
     entries_printed : AllByRecursion IsPrinted (batch is_done tree rule percent start list).entries
     entries_printed = settled_printed ds _ ds_printed (by (late_runs percent ds))
       where
-        by : (b : Bool) → AllByRecursion PrintedFate (cond b (late_results (on_start is_done tree start) is_done tree (after_commit (on_start is_done tree start) start ds) ds) [])
+        by : (b : Bool) → AllByRecursion PrintedFate (cond b
+            (late_results (on_start is_done tree start) is_done tree (after_commit (on_start is_done tree start) start ds) ds) [])
         by true = lates_printed (λ d. declared (on_start is_done tree start) d.request) (after_commit (on_start is_done tree start) start ds) (waiting ds)
             (all_filtered Asks (λ d. waits d.verdict) ds ds_printed) after_printed_commit
         by false = tt
@@ -200,8 +205,10 @@ module _ (tree : Request → Run) (runs : (r : Request) → PrintedRequest r →
           (all_filtered IsPrinted is_carried (outcome tree state handed).entries all_entries);
     }
 
-pub plan_answer : (plan : Plan) (state : State) (handed : Handed) → PrintedPlan plan → PrintedState state → AllByRecursion PrintedCall handed.calls → PrintedAnswer (answer (run_of plan) state handed)
+pub plan_answer : (plan : Plan) (state : State) (handed : Handed) → PrintedPlan plan → PrintedState state → AllByRecursion PrintedCall handed.calls
+    → PrintedAnswer (answer (run_of plan) state handed)
 plan_answer plan state handed p is calls = answer_printed (run_of plan) (λ r c. run_printed plan r p c) state handed is calls
 
-pub plan_step : (plan : Plan) (state : State) (handed : Handed) → PrintedPlan plan → PrintedState state → AllByRecursion PrintedCall handed.calls → PrintedState (step (run_of plan) state handed)
+pub plan_step : (plan : Plan) (state : State) (handed : Handed) → PrintedPlan plan → PrintedState state → AllByRecursion PrintedCall handed.calls
+    → PrintedState (step (run_of plan) state handed)
 plan_step plan state handed p is calls = step_printed (run_of plan) (λ r c. run_printed plan r p c) state handed is calls

@@ -109,5 +109,7 @@ tpcc_shown = refl
 pub builtin_printed : (name : List ℕ) → IfSome (builtin_named name) PrintedPlan
 builtin_printed name =
     let tpccs = if_some PrintedPlan (bytes_eq name (codes "tpcc")) (Some tpcc) None (plan_is tpcc tpcc_shown) tt in
-    let ycsbs = if_some PrintedPlan (bytes_eq name (codes "ycsb")) (Some ycsb) (cond (bytes_eq name (codes "tpcc")) (Some tpcc) None) (plan_is ycsb ycsb_shown) tpccs in
-    if_some PrintedPlan (bytes_eq name (codes "bank")) (Some bank) (cond (bytes_eq name (codes "ycsb")) (Some ycsb) (cond (bytes_eq name (codes "tpcc")) (Some tpcc) None)) (plan_is bank bank_shown) ycsbs
+    let ycsbs = if_some PrintedPlan (bytes_eq name (codes "ycsb")) (Some ycsb) (cond (bytes_eq name (codes "tpcc")) (Some tpcc) None)
+    (plan_is ycsb ycsb_shown) tpccs in
+    if_some PrintedPlan (bytes_eq name (codes "bank")) (Some bank)
+    (cond (bytes_eq name (codes "ycsb")) (Some ycsb) (cond (bytes_eq name (codes "tpcc")) (Some tpcc) None)) (plan_is bank bank_shown) ycsbs

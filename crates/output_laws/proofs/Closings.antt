@@ -40,11 +40,13 @@ CloseBeside (Ok q) other = (other ≡ Ok (record (as_mode mode.Check q) { report
 CloseBeside (Err why) other = ⊤
 
 module _ (c : Counts) where
-  shut_beside : (p : Place) → p.reports ≡ false → PrintedHead p.head → IsSettled p.head → CloseBeside (shut (as_mode mode.Once p)) (at_report (as_mode mode.Check p))
+  shut_beside : (p : Place) → p.reports ≡ false → PrintedHead p.head → IsSettled p.head
+      → CloseBeside (shut (as_mode mode.Once p)) (at_report (as_mode mode.Check p))
   shut_beside p quiet named settled = by (p.open_calls == 0) refl
     where
       by : (b : Bool) → (p.open_calls == 0) ≡ b
-          → CloseBeside (cond b (Ok (as_mode mode.Once p)) (Err kind.Unfinished)) (cond b (Ok (record (as_mode mode.Check p) { reports = true }, deed.Nothing)) (Err kind.Site))
+          → CloseBeside (cond b (Ok (as_mode mode.Once p)) (Err kind.Unfinished))
+          (cond b (Ok (record (as_mode mode.Check p) { reports = true }, deed.Nothing)) (Err kind.Site))
       by true e = (refl, record { quiet = quiet; head = named; settled = settled; calls = e })
       by false e = tt
 
@@ -60,17 +62,20 @@ module _ (c : Counts) where
   close_by p quiet named (head.Ready plan) is = shut_beside p quiet named (subst IsSettled (sym is) tt)
   close_by p quiet named (head.Text text) is = text_beside (without_head p) quiet (catalog_of text) (catalog_printed text)
 
-  close_at : (p : Place) → p.reports ≡ false → PrintedHead p.head → CloseBeside (places.closed_by (as_mode mode.Once p) p.head) (asked_at (as_mode mode.Check p) c (codes "report"))
+  close_at : (p : Place) → p.reports ≡ false → PrintedHead p.head
+      → CloseBeside (places.closed_by (as_mode mode.Once p) p.head) (asked_at (as_mode mode.Check p) c (codes "report"))
   close_at p quiet named =
       let at : by_head (as_mode mode.Check p) c p.head (Ok item.Report) ≡ asked_at (as_mode mode.Check p) c (codes "report") = by p.reports quiet in
       subst (λ (a : Asked). CloseBeside (places.closed_by (as_mode mode.Once p) p.head) a) at (close_by p quiet named p.head refl)
     where
       by : (b : Bool) → b ≡ false
-          → by_head (as_mode mode.Check p) c p.head (Ok item.Report) ≡ cond b (Ok (as_mode mode.Check p, deed.Tell)) (by_head (as_mode mode.Check p) c p.head (said (codes "report")))
+          → by_head (as_mode mode.Check p) c p.head (Ok item.Report) ≡ cond b (Ok (as_mode mode.Check p, deed.Tell))
+          (by_head (as_mode mode.Check p) c p.head (said (codes "report")))
       by true e = cc
       by false e = ap (by_head (as_mode mode.Check p) c p.head) (sym says_report)
 
-  close_of : (r : Result Place RefusalKind) (other : Asked) (q : Place) → r ≡ Ok q → CloseBeside r other → (other ≡ Ok (record (as_mode mode.Check q) { reports = true }, deed.Nothing)) × Closes q
+  close_of : (r : Result Place RefusalKind) (other : Asked) (q : Place) → r ≡ Ok q → CloseBeside r other
+      → (other ≡ Ok (record (as_mode mode.Check q) { reports = true }, deed.Nothing)) × Closes q
   close_of r other q e h = subst (λ (x : Result Place RefusalKind). CloseBeside x other) e h
 
   pub closing_beside : (p : Place) → p.mode ≡ mode.Once → p.reports ≡ false → PrintedHead p.head → (q : Place) → closing p ≡ Ok q

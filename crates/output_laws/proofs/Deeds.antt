@@ -65,7 +65,8 @@ module _ (lines : PrintedLines) (each : Bool) (rule : Rule) (percent : ℕ) wher
 
   -- ---- what a line asks for
 
-  module _ (o : once.Doing) (c : check.Doing) (script : List (ℕ × Handed)) (bytes line : List ℕ) (b : Beside each rule percent o c script bytes) (after : Place) where
+  module _ (o : once.Doing) (c : check.Doing) (script : List (ℕ × Handed)) (bytes line : List ℕ) (b : Beside each rule percent o c script bytes)
+      (after : Place) where
     abbrev Before : Counts
     Before = counts_of o.state
 
@@ -127,7 +128,8 @@ module _ (lines : PrintedLines) (each : Bool) (rule : Rule) (percent : ℕ) wher
         calls = b.calls;
         asks = b.asks;
         state = record { rows = insert_printed o.state.rows key row b.state.rows is.deed.0 is.deed.1; waiting = b.state.waiting };
-        told = put_told o.each rule percent (plan_in after.head) c.rows script o.state (bytes ++ []) key row (b.early f.allows.rows) (still (deed.Put key row) is f.head_stays);
+        told = put_told o.each rule percent (plan_in after.head) c.rows script o.state (bytes ++ []) key row (b.early f.allows.rows)
+            (still (deed.Put key row) is f.head_stays);
         script_is = b.script_is;
         ends = b.ends;
         requests = b.requests;
@@ -197,8 +199,10 @@ module _ (lines : PrintedLines) (each : Bool) (rule : Rule) (percent : ℕ) wher
             calls = refl;
             asks = tt;
             state = b.state;
-            told = keep_told o.each rule percent (plan_in after.head) lines c.rows script o.state bytes (here (deed.Keep number) is f.head_stays) batch (kept_before (counts_of o.state) o.place line after number e);
-            script_is = ap (λ (l : List (ℕ × List Call)). l ++ (number, []) ∷ []) b.script_is ∙ sym (map-append (λ (x : ℕ × Handed). (x.0, x.1.calls)) script (batch ∷ []));
+            told = keep_told o.each rule percent (plan_in after.head) lines c.rows script o.state bytes (here (deed.Keep number) is f.head_stays) batch
+                (kept_before (counts_of o.state) o.place line after number e);
+            script_is = ap (λ (l : List (ℕ × List Call)). l ++ (number, []) ∷ []) b.script_is
+                ∙ sym (map-append (λ (x : ℕ × Handed). (x.0, x.1.calls)) script (batch ∷ []));
             ends = b.ends;
             requests = b.requests;
             report = b.report;
@@ -228,8 +232,10 @@ module _ (lines : PrintedLines) (each : Bool) (rule : Rule) (percent : ℕ) wher
             calls = refl;
             asks = tt;
             state = plan_step (plan_in after.head) o.state handed named b.state b.asks;
-            told = run_told o.each rule percent (plan_in after.head) lines c.rows script o.state bytes (here deed.Run is f.head_stays) named b.state number o.calls new b.asks room (omega (arith, within));
-            script_is = (λ i. b.script_is i ++ (number, b.calls i) ∷ []) ∙ sym (map-append (λ (x : ℕ × Handed). (x.0, x.1.calls)) script ((number, handed) ∷ []));
+            told = run_told o.each rule percent (plan_in after.head) lines c.rows script o.state bytes
+                (here deed.Run is f.head_stays) named b.state number o.calls new b.asks room (omega (arith, within));
+            script_is = (λ i. b.script_is i ++ (number, b.calls i) ∷ [])
+                ∙ sym (map-append (λ (x : ℕ × Handed). (x.0, x.1.calls)) script ((number, handed) ∷ []));
             ends = length-append c.ends (after.lines ∷ []) ∙ ap (λ (n : ℕ). n + 1) b.ends;
             requests = λ i. b.requests i + length (b.calls i);
             report = b.report;
@@ -264,15 +270,19 @@ module _ (lines : PrintedLines) (each : Bool) (rule : Rule) (percent : ℕ) wher
   stopped_on : (bytes : List ℕ) (lines : List (List ℕ)) (k : Course check.Doing) → LinesOn (with_lines once.on_line (Stops bytes) lines) k
   stopped_on bytes lines k = subst (λ (x : Course once.Doing). LinesOn x k) (sym (stopped_lines once.on_line bytes lines)) tt
 
-  pub lines_beside : (ls : List (List ℕ)) (o : once.Doing) (c : check.Doing) (script : List (ℕ × Handed)) (bytes : List ℕ) → Beside each rule percent o c script bytes
+  pub lines_beside : (ls : List (List ℕ)) (o : once.Doing) (c : check.Doing) (script : List (ℕ × Handed)) (bytes : List ℕ)
+      → Beside each rule percent o c script bytes
       → LinesOn (with_lines once.on_line (Goes bytes o) ls) (with_lines check.on_line (Goes [] c) ls)
   lines_beside [] o c script bytes b = (c, script, refl, b)
-  lines_beside (line ∷ ls) o c script bytes b = by (λ next k told seen is. lines_beside ls next k told seen is) (once.on_line o line) (check.on_line c line) (line_beside o c script bytes line b)
+  lines_beside (line ∷ ls) o c script bytes b = by (λ next k told seen is. lines_beside ls next k told seen is) (once.on_line o line) (check.on_line c line)
+      (line_beside o c script bytes line b)
     where
       by : ((next : once.Doing) (c : check.Doing) (script : List (ℕ × Handed)) (bytes : List ℕ) → Beside each rule percent next c script bytes
           → LinesOn (with_lines once.on_line (Goes bytes next) ls) (with_lines check.on_line (Goes [] c) ls))
-          → (x : Course once.Doing) (k : Course check.Doing) → StepOn bytes x k → LinesOn (with_lines once.on_line (behind bytes x) ls) (with_lines check.on_line (behind [] k) ls)
+          → (x : Course once.Doing) (k : Course check.Doing) → StepOn bytes x k
+          → LinesOn (with_lines once.on_line (behind bytes x) ls) (with_lines check.on_line (behind [] k) ls)
       by rest (Stops more) k s = stopped_on (bytes ++ more) ls (with_lines check.on_line (behind [] k) ls)
       by rest (Goes more next) k s =
-          subst (λ (x : Course check.Doing). LinesOn (with_lines once.on_line (Goes (bytes ++ more) next) ls) (with_lines check.on_line (behind [] x) ls)) (sym s.2)
+          subst (λ (x : Course check.Doing). LinesOn (with_lines once.on_line (Goes (bytes ++ more) next) ls) (with_lines check.on_line (behind [] x) ls))
+          (sym s.2)
           (rest next s.0 s.1 (bytes ++ more) s.3)

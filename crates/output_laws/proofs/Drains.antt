@@ -41,7 +41,8 @@ module _ (lines : PrintedLines) (plan : Plan) (each : Bool) (named : PrintedPlan
   some_waits zero e = cc
   some_waits (suc n) e = omega arith
 
-  one_more : (state : State) (bytes : List ℕ) (last : State) → PrintedState state → (length state.waiting == 0) ≡ false → Drained (step (run_of plan) state (no_calls state)) bytes last
+  one_more : (state : State) (bytes : List ℕ) (last : State) → PrintedState state → (length state.waiting == 0) ≡ false
+      → Drained (step (run_of plan) state (no_calls state)) bytes last
       → Drained state (batch_text plan each state (no_calls state) ++ bytes) last
   one_more state bytes last is some d = record {
     drains = no_calls state ∷ d.drains;
@@ -68,7 +69,8 @@ module _ (lines : PrintedLines) (plan : Plan) (each : Bool) (named : PrintedPlan
       by : (a : Bool) → (length state.waiting == 0) ≡ a → (b : Bool)
           → DrainedBy (step (run_of plan) state (no_calls state)) (drained plan each line n (step (run_of plan) state (no_calls state)))
           → DrainedBy state (cond a (Goes [] state) (goes_on (drained plan each line n)
-          (cond b (Goes (batch_text plan each state (no_calls state)) (step (run_of plan) state (no_calls state))) (Stops (refusal_text (record { line = line; kind = Numbers }))))))
+          (cond b (Goes (batch_text plan each state (no_calls state)) (step (run_of plan) state (no_calls state)))
+          (Stops (refusal_text (record { line = line; kind = Numbers }))))))
       by true e b rest = none_drained state is
       by false e true rest = more (drained plan each line n (step (run_of plan) state (no_calls state))) rest e
       by false e false rest = tt
@@ -84,6 +86,7 @@ module _ (plan : Plan) (rule : Rule) (percent : ℕ) (state : State) where
   same_lines each [] = refl
   same_lines each (handed ∷ more) = refl
 
-  pub same_listing : (drains : List Handed) → state_lines plan (run (run_of plan) (settled rule percent state) drains) ≡ state_lines plan (run (run_of plan) state drains)
+  pub same_listing : (drains : List Handed) → state_lines plan (run (run_of plan) (settled rule percent state) drains) ≡ state_lines plan
+      (run (run_of plan) state drains)
   same_listing [] = refl
   same_listing (handed ∷ more) = refl

@@ -23,10 +23,12 @@ ready_on script head.Unnamed k stays (inr e) = cc
 ready_on script (head.Text text) k stays (inr e) = cc
 
 module _ (each : Bool) (rule : Rule) (percent : ℕ) (rows : Database) (state : State) (bytes : List ℕ) where
-  pub told_on : (script : List (ℕ × Handed)) (h k : Head) → HeadStays h k → (script ≡ []) ⊎ (is_ready h ≡ true) → IsTold (plan_in h) each rule percent rows script state bytes
+  pub told_on : (script : List (ℕ × Handed)) (h k : Head) → HeadStays h k → (script ≡ []) ⊎ (is_ready h ≡ true)
+      → IsTold (plan_in h) each rule percent rows script state bytes
       → IsTold (plan_in k) each rule percent rows script state bytes
   told_on [] h k stays r t = other_plan each rule percent (plan_in h) (plan_in k) rows state bytes t
   told_on (b ∷ script) h k stays (inl none) t = absurd cc
-  told_on (b ∷ script) (head.Ready plan) k stays (inr e) t = subst (λ (x : Head). IsTold (plan_in x) each rule percent rows (b ∷ script) state bytes) (sym stays) t
+  told_on (b ∷ script) (head.Ready plan) k stays (inr e) t =
+      subst (λ (x : Head). IsTold (plan_in x) each rule percent rows (b ∷ script) state bytes) (sym stays) t
   told_on (b ∷ script) head.Unnamed k stays (inr e) t = absurd cc
   told_on (b ∷ script) (head.Text text) k stays (inr e) t = absurd cc

@@ -43,7 +43,8 @@ pub if_some : {A : Type 0} (P : A → Type 0) (b : Bool) (o p : Option A) → If
 if_some P true o p h k = h
 if_some P false o p h k = k
 
-then_some : {A B : Type 0} (P : A → Type 0) (Q : B → Type 0) (f : A → Option B) (o : Option A) → IfSome o P → ((x : A) → P x → IfSome (f x) Q) → IfSome (option_and_then f o) Q
+then_some : {A B : Type 0} (P : A → Type 0) (Q : B → Type 0) (f : A → Option B) (o : Option A) → IfSome o P → ((x : A) → P x → IfSome (f x) Q)
+    → IfSome (option_and_then f o) Q
 then_some P Q f None h k = tt
 then_some P Q f (Some x) h k = k x h
 
@@ -86,13 +87,15 @@ value_is (b ∷ bs) =
 arg_is : (token : List ℕ) → IfSome (arg_of token) PrintedArg
 arg_is [] = tt
 arg_is (b ∷ bs) =
-    if_some PrintedArg (b == 34) (option_map arg.Text (text_behind bs)) (cond (b == 91) (option_map arg.List (list_behind bs)) (option_map arg.Int (number_of (b ∷ bs))))
+    if_some PrintedArg (b == 34) (option_map arg.Text (text_behind bs))
+    (cond (b == 91) (option_map arg.List (list_behind bs)) (option_map arg.Int (number_of (b ∷ bs))))
     (map_some Printed PrintedArg arg.Text (text_behind bs) (text_is bs) (λ t h. h))
     (if_some PrintedArg (b == 91) (option_map arg.List (list_behind bs)) (option_map arg.Int (number_of (b ∷ bs)))
     (map_some (λ _. ⊤) PrintedArg arg.List (list_behind bs) (any_some (list_behind bs)) (λ n h. tt))
     (map_some (λ _. ⊤) PrintedArg arg.Int (number_of (b ∷ bs)) (any_some (number_of (b ∷ bs))) (λ n h. tt)))
 
-all_are : {B : Type 0} (P : B → Type 0) (f : List ℕ → Option B) → ((token : List ℕ) → IfSome (f token) P) → (done : List B) (ts : List (List ℕ)) → AllByRecursion P done
+all_are : {B : Type 0} (P : B → Type 0) (f : List ℕ → Option B) → ((token : List ℕ) → IfSome (f token) P) → (done : List B) (ts : List (List ℕ))
+    → AllByRecursion P done
     → IfSome (all_after f done ts) (AllByRecursion P)
 all_are P f each done [] a = a
 all_are P f each done (t ∷ ts) a =
@@ -101,15 +104,18 @@ all_are P f each done (t ∷ ts) a =
 
 -- ---- lines
 
-with_row_is : (table : List ℕ) (parts : List Part) (o : Option (List Value)) → AllByRecursion PrintedPart parts → IfSome o PrintedCells → IfSome (with_row table parts o) PrintedItem
+with_row_is : (table : List ℕ) (parts : List Part) (o : Option (List Value)) → AllByRecursion PrintedPart parts → IfSome o PrintedCells
+    → IfSome (with_row table parts o) PrintedItem
 with_row_is table parts None a h = tt
 with_row_is table parts (Some values) a h =
-    if_some PrintedItem (nat_le FEWEST_PARTS (length parts) && nat_le (length parts) MOST_PARTS && nat_le (length values) MOST_COLUMNS) (Some (item.Row table parts values)) None (a, h) tt
+    if_some PrintedItem (nat_le FEWEST_PARTS (length parts) && nat_le (length parts) MOST_PARTS && nat_le (length values) MOST_COLUMNS)
+    (Some (item.Row table parts values)) None (a, h) tt
 
 row_after_is : (table : List ℕ) (parts : List Part) (ts : List (List ℕ)) → AllByRecursion PrintedPart parts → IfSome (row_after table parts ts) PrintedItem
 row_after_is table parts [] a = tt
 row_after_is table parts (t ∷ ts) a =
-    if_some PrintedItem (bytes_eq t (codes "=")) (with_row table parts (all_of value_of ts)) (option_and_then (λ part. row_after table (parts ++ part ∷ []) ts) (part_of t))
+    if_some PrintedItem (bytes_eq t (codes "=")) (with_row table parts (all_of value_of ts))
+    (option_and_then (λ part. row_after table (parts ++ part ∷ []) ts) (part_of t))
     (with_row_is table parts (all_of value_of ts) a (all_are PrintedValue value_of value_is [] ts tt))
     (then_some PrintedPart PrintedItem (λ part. row_after table (parts ++ part ∷ []) ts) (part_of t) (part_is t)
     (λ part h. row_after_is table (parts ++ part ∷ []) ts (all_joined PrintedPart parts (part ∷ []) a (h, tt))))
@@ -124,7 +130,8 @@ with_tx_is proc (Some args) h = if_some PrintedItem (nat_le (length args) MOST_A
 
 tx_is : (ts : List (List ℕ)) → IfSome (tx_of ts) PrintedItem
 tx_is [] = tt
-tx_is (proc ∷ ts) = if_some PrintedItem (is_word proc) (with_tx proc (all_of arg_of ts)) None (with_tx_is proc (all_of arg_of ts) (all_are PrintedArg arg_of arg_is [] ts tt)) tt
+tx_is (proc ∷ ts) = if_some PrintedItem (is_word proc) (with_tx proc (all_of arg_of ts)) None
+    (with_tx_is proc (all_of arg_of ts) (all_are PrintedArg arg_of arg_is [] ts tt)) tt
 
 with_end_is : (o : Option ℤ) → IfSome (with_end o) PrintedItem
 with_end_is None = tt
@@ -135,7 +142,8 @@ settings_is : (ts : List (List ℕ)) → IfSome (settings_of ts) PrintedItem
 settings_is [] = tt
 settings_is (name ∷ ts) =
     let number = option_and_then number_of (only ts) in
-    if_some PrintedItem (is_word name) (option_map (item.Settings name) number) None (map_some (λ _. ⊤) PrintedItem (item.Settings name) number (any_some number) (λ n h. tt)) tt
+    if_some PrintedItem (is_word name) (option_map (item.Settings name) number) None
+    (map_some (λ _. ⊤) PrintedItem (item.Settings name) number (any_some number) (λ n h. tt)) tt
 
 catalog_is : (ts : List (List ℕ)) → IfSome (catalog_of ts) PrintedItem
 catalog_is ts = map_some (λ _. ⊤) PrintedItem item.Catalog (option_and_then word_of (only ts)) (any_some (option_and_then word_of (only ts))) (λ n h. tt)
@@ -158,7 +166,8 @@ line_is : (line : List ℕ) → IfSome (line_item line) PrintedItem
 line_is [] = tt
 line_is (b ∷ bs) =
     let spaces = if_some PrintedItem (list_all (λ c. c == 32) bs) (Some item.Skip) None tt tt in
-    let begins = if_some PrintedItem (b == 32) (cond (list_all (λ c. c == 32) bs) (Some item.Skip) None) (item_of (tokens (b ∷ bs))) spaces (item_is (tokens (b ∷ bs))) in
+    let begins = if_some PrintedItem (b == 32) (cond (list_all (λ c. c == 32) bs) (Some item.Skip) None) (item_of (tokens (b ∷ bs))) spaces
+    (item_is (tokens (b ∷ bs))) in
     let pieces = if_some PrintedItem (b == 58) (Some (item.Piece bs)) _ tt begins in
     if_some PrintedItem (b == 35) (Some item.Skip) _ tt pieces
 
@@ -188,7 +197,8 @@ placed_row_printed plan table parts row a h = by (table_named plan table)
   where
     by : (o : Option ℕ) → IfOk (row_in plan parts row o) PrintedPair
     by None = tt
-    by (Some n) = ok_when PrintedPair (row_fits plan.tables (record { table = n; parts = parts }) row) (record { table = n; parts = parts }, row) Argument (a, h)
+    by (Some n) = ok_when PrintedPair (row_fits plan.tables (record { table = n; parts = parts }) row) (record { table = n; parts = parts }, row) Argument
+        (a, h)
 
 pub placed_call_printed : (plan : Plan) (proc : List ℕ) (args : List Arg) → AllByRecursion PrintedArg args → IfOk (placed_call plan proc args) PrintedCall
 placed_call_printed plan proc args a = by (proc_named plan proc)

@@ -39,7 +39,8 @@ Lines lines = AllByRecursion Printed lines
 
 -- ---- words and tokens
 
-spaced_printed : {X : Type 0} (P : X → Type 0) (token : X → List ℕ) → ((x : X) → P x → Printed (token x)) → (xs : List X) → AllByRecursion P xs → Printed (spaced token xs)
+spaced_printed : {X : Type 0} (P : X → Type 0) (token : X → List ℕ) → ((x : X) → P x → Printed (token x)) → (xs : List X) → AllByRecursion P xs
+    → Printed (spaced token xs)
 spaced_printed P token each [] a = refl
 spaced_printed P token each (x ∷ xs) a = joined_printed (token x) (spaced token xs) (each x a.0) (spaced_printed P token each xs a.1)
 
@@ -65,7 +66,8 @@ name_printed tables n a = by tables n a
 module _ (tables : List Table) (names : AllByRecursion (λ (t : Table). Printed t.name) tables) where
   key_printed : (key : Key) → PrintedKey key → Printed (key_text tables key)
   key_printed key h =
-      joined_printed (table_name tables key.table) (spaced part_token key.parts) (name_printed tables key.table names) (spaced_printed PrintedPart part_token part_printed key.parts h)
+      joined_printed (table_name tables key.table) (spaced part_token key.parts) (name_printed tables key.table names)
+      (spaced_printed PrintedPart part_token part_printed key.parts h)
 
   row_printed : (key : Key) (row : Cells) → PrintedKey key → PrintedCells row → Printed (row_line tables key row)
   row_printed key row h k =
@@ -144,7 +146,8 @@ listed_when : (plan : Plan) (b : Bool) (state : State) → PrintedPlan plan → 
 listed_when plan true state p is = state_printed plan state p is
 listed_when plan false state p is = tt
 
-pub batch_printed : (plan : Plan) (each : Bool) (state : State) (handed : Handed) → PrintedPlan plan → PrintedState state → AllByRecursion PrintedCall handed.calls
+pub batch_printed : (plan : Plan) (each : Bool) (state : State) (handed : Handed) → PrintedPlan plan → PrintedState state
+    → AllByRecursion PrintedCall handed.calls
     → Lines (batch_lines plan each state handed)
 batch_printed plan each state handed p is calls =
     all_joined Printed (answer_lines plan.tables (answer (run_of plan) state handed)) (cond each (state_lines plan (step (run_of plan) state handed)) [])

@@ -120,7 +120,8 @@ module _ (plan : Plan) where
       by : (b : Bool) → ((cond b false true ≡ true) × (rest ≡ [])) ⊎ EndsListed rest → ((now ≡ true) × (first b ++ rest ≡ [])) ⊎ EndsListed (first b ++ rest)
       by true (inl h) = let clash : false ≡ true = h.0 in cc
       by false (inl h) =
-          inr (subst EndsListed (sym (ap (λ (l : List (List ℕ)). batch_lines plan true state batch.1 ++ l) h.1 ∙ append-nil (batch_lines plan true state batch.1)))
+          inr (subst EndsListed (sym (ap (λ (l : List (List ℕ)). batch_lines plan true state batch.1 ++ l) h.1
+          ∙ append-nil (batch_lines plan true state batch.1)))
           (batch_ends state batch.1))
       by b (inr h) = inr (behind_ends (first b) rest h)
 
@@ -142,7 +143,8 @@ module _ (plan : Plan) where
     abbrev Back : List (List ℕ)
     Back = drain_lines plan true (left plan state script) drains
 
-    pub ends_listed_so : ends_listed plan true state script drains ≡ true → (before : List (List ℕ)) × (report plan true state script drains ≡ before ++ end_state_line ∷ [])
+    pub ends_listed_so : ends_listed plan true state script drains ≡ true
+        → (before : List (List ℕ)) × (report plan true state script drains ≡ before ++ end_state_line ∷ [])
     ends_listed_so e = subst EndsListed (sym (append-nil (Front ++ Back))) (by (drains_end (left plan state script) drains))
       where
         kept : drains ≡ [] → ((false ≡ true) × (Front ≡ [])) ⊎ EndsListed Front → EndsListed (Front ++ Back)
@@ -151,5 +153,6 @@ module _ (plan : Plan) where
             subst EndsListed (sym (ap (λ (d : List Handed). Front ++ drain_lines plan true (left plan state script) d) none ∙ append-nil Front)) h
 
         by : (drains ≡ []) ⊎ EndsListed Back → EndsListed (Front ++ Back)
-        by (inl none) = kept none (script_ends false state script (ap (λ (d : List Handed). listed_drains plan true (listed_script plan true false state script) d) (sym none) ∙ e))
+        by (inl none) = kept none (script_ends false state script
+            (ap (λ (d : List Handed). listed_drains plan true (listed_script plan true false state script) d) (sym none) ∙ e))
         by (inr h) = behind_ends Front Back h

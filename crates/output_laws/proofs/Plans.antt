@@ -88,11 +88,17 @@ mutual
       let e : Binary o p.0.0 p.0.1 ≡ t = cc p.2 in
       subst PrintedTerm e (term_printed (in_item path 1) (level + 1) x p.0.0 ab.0, term_printed (in_item path 2) (level + 1) y p.0.1 ab.1)
   form_printed path level (Some form.MulDiv) (item x (item y (item z no_items))) t h =
-      let p = bind_ok (both (both (term_at (in_item path 1) (level + 1) x) (term_at (in_item path 2) (level + 1) y)) (term_at (in_item path 3) (level + 1) z)) _ t h in
-      let abc = both_ok (both (term_at (in_item path 1) (level + 1) x) (term_at (in_item path 2) (level + 1) y)) (term_at (in_item path 3) (level + 1) z) p.0.0 p.0.1 p.1 in
+      let p = bind_ok (both (both (term_at (in_item path 1) (level + 1) x) (term_at (in_item path 2) (level + 1) y)) (term_at (in_item path 3) (level + 1) z))
+      _ t h in
+      let abc = both_ok (both (term_at (in_item path 1) (level + 1) x) (term_at (in_item path 2) (level + 1) y))
+      (term_at (in_item path 3) (level + 1) z) p.0.0 p.0.1 p.1 in
       let ab = both_ok (term_at (in_item path 1) (level + 1) x) (term_at (in_item path 2) (level + 1) y) p.0.0.0 p.0.0.1 abc.0 in
       let e : MulDiv p.0.0.0 p.0.0.1 p.0.1 ≡ t = cc p.2 in
-      subst PrintedTerm e (term_printed (in_item path 1) (level + 1) x p.0.0.0 ab.0, term_printed (in_item path 2) (level + 1) y p.0.0.1 ab.1, term_printed (in_item path 3) (level + 1) z p.0.1 abc.1)
+      subst PrintedTerm e (
+        term_printed (in_item path 1) (level + 1) x p.0.0.0 ab.0,
+        term_printed (in_item path 2) (level + 1) y p.0.0.1 ab.1,
+        term_printed (in_item path 3) (level + 1) z p.0.1 abc.1,
+      )
   form_printed path level (Some form.Front) (item x (item y (item n no_items))) t h =
       let p = bind_ok (both (term_at (in_item path 1) (level + 1) x) (term_at (in_item path 2) (level + 1) y)) _ t h in
       let ab = both_ok (term_at (in_item path 1) (level + 1) x) (term_at (in_item path 2) (level + 1) y) p.0.0 p.0.1 p.1 in
@@ -100,7 +106,8 @@ mutual
       subst PrintedTerm m.2 (term_printed (in_item path 1) (level + 1) x p.0.0 ab.0, term_printed (in_item path 2) (level + 1) y p.0.1 ab.1)
   form_printed path level other operands t h = absurd (cc h)
 
-terms_printed : (path : List PathPart) (at : ℕ) (done : List Term) (ds : Items) (ts : List Term) → AllByRecursion PrintedTerm done → terms_after path at done ds ≡ Ok ts → AllByRecursion PrintedTerm ts
+terms_printed : (path : List PathPart) (at : ℕ) (done : List Term) (ds : Items) (ts : List Term) → AllByRecursion PrintedTerm done
+    → terms_after path at done ds ≡ Ok ts → AllByRecursion PrintedTerm ts
 terms_printed path at done no_items ts a e = let same : done ≡ ts = cc e in subst (AllByRecursion PrintedTerm) same a
 terms_printed path at done (item d ds) ts a e =
     let b = bind_ok (term_at (in_item path at) 1 d) _ ts e in
@@ -113,14 +120,16 @@ terms_at_printed path at d ts h =
     let a = bind_ok (at_path path (as_array d)) _ ts h in
     terms_printed (in_item path at) 0 [] a.0 ts tt a.2
 
-row_at_printed : (tables : List Table) (path : List PathPart) (t ks : Data) (row : ℕ × List Term) → row_at tables path t ks ≡ Ok row → AllByRecursion PrintedTerm row.1
+row_at_printed : (tables : List Table) (path : List PathPart) (t ks : Data) (row : ℕ × List Term) → row_at tables path t ks ≡ Ok row
+    → AllByRecursion PrintedTerm row.1
 row_at_printed tables path t ks row h =
     let n = bind_ok (at_path path (table_in tables t)) _ row h in
     let k = bind_ok (terms_at path 2 ks) _ row n.2 in
     let e : ◌≡◌ {A = ℕ × List Term} (n.0, k.0) row = cc k.2 in
     subst (λ (r : ℕ × List Term). AllByRecursion PrintedTerm r.1) e (terms_at_printed path 2 ks k.0 k.1)
 
-read_at_printed : (tables : List Table) (path : List PathPart) (t ks rs : Data) (read : (ℕ × List Term) × List ℕ) → read_at tables path t ks rs ≡ Ok read → AllByRecursion PrintedTerm read.0.1
+read_at_printed : (tables : List Table) (path : List PathPart) (t ks rs : Data) (read : (ℕ × List Term) × List ℕ) → read_at tables path t ks rs ≡ Ok read
+    → AllByRecursion PrintedTerm read.0.1
 read_at_printed tables path t ks rs read h =
     let row = bind_ok (row_at tables path t ks) _ read h in
     let regs = bind_ok (at_path path (indexes rs)) _ read row.2 in
@@ -139,7 +148,8 @@ same_step seen n s t e h =
     subst (λ (q : Step × ℕ). PrintedStep q.0) p h
 
 mutual
-  step_printed : (tables : List Table) (body path : List PathPart) (seen : ℕ) (d : Data) (s : Step) (n : ℕ) → step_at tables body path seen d ≡ Ok (s, n) → PrintedStep s
+  step_printed : (tables : List Table) (body path : List PathPart) (seen : ℕ) (d : Data) (s : Step) (n : ℕ) → step_at tables body path seen d ≡ Ok (s, n)
+      → PrintedStep s
   step_printed tables body path seen null s n h = absurd (cc h)
   step_printed tables body path seen (boolean b) s n h = absurd (cc h)
   step_printed tables body path seen (number m) s n h = absurd (cc h)
@@ -147,11 +157,14 @@ mutual
   step_printed tables body path seen (array ds) s n h = statement_printed tables body path seen ds s n h
   step_printed tables body path seen (object ms) s n h = absurd (cc h)
 
-  statement_printed : (tables : List Table) (body path : List PathPart) (seen : ℕ) (ds : Items) (s : Step) (n : ℕ) → statement_at tables body path seen ds ≡ Ok (s, n) → PrintedStep s
+  statement_printed : (tables : List Table) (body path : List PathPart) (seen : ℕ) (ds : Items) (s : Step) (n : ℕ)
+      → statement_at tables body path seen ds ≡ Ok (s, n) → PrintedStep s
   statement_printed tables body path seen no_items s n h = absurd (cc h)
-  statement_printed tables body path seen (item name operands) s n h = verb_printed tables body path seen (option_and_then verb_named (as_str name)) operands s n h
+  statement_printed tables body path seen (item name operands) s n h =
+      verb_printed tables body path seen (option_and_then verb_named (as_str name)) operands s n h
 
-  verb_printed : (tables : List Table) (body path : List PathPart) (seen : ℕ) (v : Option Verb) (ds : Items) (s : Step) (n : ℕ) → verb_at tables body path seen v ds ≡ Ok (s, n) → PrintedStep s
+  verb_printed : (tables : List Table) (body path : List PathPart) (seen : ℕ) (v : Option Verb) (ds : Items) (s : Step) (n : ℕ)
+      → verb_at tables body path seen v ds ≡ Ok (s, n) → PrintedStep s
   verb_printed tables body path seen (Some verb.Let) (item r (item e no_items)) s n h =
       let a = bind_ok (at_path path (index r)) _ (s, n) h in
       let t = bind_ok (term_at (in_item path 2) 1 e) _ (s, n) a.2 in
@@ -178,8 +191,11 @@ mutual
       let t = bind_ok (term_at (in_item path 1) 1 e) _ (s, n) h in
       let f = bind_ok (block_at tables body path 2 seen a) _ (s, n) t.2 in
       let g = bind_ok (block_at tables body path 3 f.0.1 b) _ (s, n) f.2 in
-      same_step g.0.1 n (If t.0 f.0.0 g.0.0) s g.2
-      (term_printed (in_item path 1) 1 e t.0 t.1, block_printed tables body path 2 seen a f.0.0 f.0.1 f.1, block_printed tables body path 3 f.0.1 b g.0.0 g.0.1 g.1)
+      same_step g.0.1 n (If t.0 f.0.0 g.0.0) s g.2 (
+        term_printed (in_item path 1) 1 e t.0 t.1,
+        block_printed tables body path 2 seen a f.0.0 f.0.1 f.1,
+        block_printed tables body path 3 f.0.1 b g.0.0 g.0.1 g.1,
+      )
   verb_printed tables body path seen (Some verb.Each) (item l (item a no_items)) s n h =
       let i = bind_ok (at_path path (index l)) _ (s, n) h in
       let f = bind_ok (block_at tables body path 2 seen a) _ (s, n) i.2 in
@@ -192,7 +208,8 @@ mutual
       same_step seen n (Fail f.0) s f.2 tt
   verb_printed tables body path seen other operands s n h = absurd (cc h)
 
-  block_printed : (tables : List Table) (body path : List PathPart) (at seen : ℕ) (d : Data) (b : Steps) (n : ℕ) → block_at tables body path at seen d ≡ Ok (b, n) → PrintedSteps b
+  block_printed : (tables : List Table) (body path : List PathPart) (at seen : ℕ) (d : Data) (b : Steps) (n : ℕ)
+      → block_at tables body path at seen d ≡ Ok (b, n) → PrintedSteps b
   block_printed tables body path at seen null b n h = absurd (cc h)
   block_printed tables body path at seen (boolean c) b n h = absurd (cc h)
   block_printed tables body path at seen (number m) b n h = absurd (cc h)
@@ -200,7 +217,8 @@ mutual
   block_printed tables body path at seen (array ds) b n h = steps_printed tables body (in_item path at) 0 seen [] ds b n tt h
   block_printed tables body path at seen (object ms) b n h = absurd (cc h)
 
-  steps_printed : (tables : List Table) (body path : List PathPart) (at seen : ℕ) (done : List Step) (ds : Items) (b : Steps) (n : ℕ) → AllByRecursion PrintedStep done
+  steps_printed : (tables : List Table) (body path : List PathPart) (at seen : ℕ) (done : List Step) (ds : Items) (b : Steps) (n : ℕ)
+      → AllByRecursion PrintedStep done
       → steps_after tables body path at seen done ds ≡ Ok (b, n) → PrintedSteps b
   steps_printed tables body path at seen done no_items b n a h =
       let p : ◌≡◌ {A = Steps × ℕ} (in_turn done, seen) (b, n) = cc h in
@@ -233,7 +251,8 @@ proc_printed tables path earlier d p h =
     let e : ◌≡◌ {A = Proc} (record { name = name.0; args = args.0; regs = regs.0; body = body.0 }) p = cc body.2 in
     subst IsPrinted e (body_printed tables (in_member path Body) ms.0.3 body.0 body.1)
 
-procs_printed : (tables : List Table) (path : List PathPart) (at : ℕ) (done : List Proc) (ds : Items) (ps : List Proc) → AllByRecursion IsPrinted done → procs_after tables path at done ds ≡ Ok ps
+procs_printed : (tables : List Table) (path : List PathPart) (at : ℕ) (done : List Proc) (ds : Items) (ps : List Proc) → AllByRecursion IsPrinted done
+    → procs_after tables path at done ds ≡ Ok ps
     → AllByRecursion IsPrinted ps
 procs_printed tables path at done no_items ps a h = let same : done ≡ ps = cc h in subst (AllByRecursion IsPrinted) same a
 procs_printed tables path at done (item d ds) ps a h =

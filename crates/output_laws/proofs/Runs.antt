@@ -81,7 +81,8 @@ some_when true o k h rest = rest
 some_when false o k h rest = h
 
 -- so is the key of the first access outside declared ones
-pub outside_printed : (declared : Declared Key) (t : Run) (db : Database) → PrintedRun t → PrintedRows db → IfSome (outside key_cmp declared (trace_of t db)) PrintedKey
+pub outside_printed : (declared : Declared Key) (t : Run) (db : Database) → PrintedRun t → PrintedRows db
+    → IfSome (outside key_cmp declared (trace_of t db)) PrintedKey
 outside_printed declared (Ends e) db p h = tt
 outside_printed declared (Reads k next) db p h =
     some_when (may_read key_cmp declared k) (outside key_cmp declared (trace_of (next (fin.get db k)) db)) k p.0
@@ -133,10 +134,12 @@ reads_printed key go f k h each =
     with_printed PrintedKey key (λ key. counted f (λ f. Reads key (go f))) k
     (λ key is. counted_printed f (λ f. Reads key (go f)) h (λ g held. (is, λ row printed. each g held row printed)))
 
-writes_printed : (key : Got Key) (row : Got (Option Cells)) (next : Next) (f : Frame) → IfOk key PrintedKey → IfOk row PrintedRow → PrintedFrame f → PrintedNext next
+writes_printed : (key : Got Key) (row : Got (Option Cells)) (next : Next) (f : Frame) → IfOk key PrintedKey → IfOk row PrintedRow → PrintedFrame f
+    → PrintedNext next
     → PrintedRun (writes key row next f)
 writes_printed key row next f k r h n =
-    with_printed (λ p. PrintedKey p.0 × PrintedRow p.1) (both key row) (λ p. counted f (λ f. Writes p.0 p.1 (next f))) (both_hold PrintedKey PrintedRow key row k r)
+    with_printed (λ p. PrintedKey p.0 × PrintedRow p.1) (both key row) (λ p. counted f (λ f. Writes p.0 p.1 (next f)))
+    (both_hold PrintedKey PrintedRow key row k r)
     (λ p is. counted_printed f (λ f. Writes p.0 p.1 (next f)) h (λ g held. (is.0, is.1, n g held)))
 
 -- registers
@@ -156,11 +159,13 @@ all_blank_printed (n ∷ ns) regs h =
     let v = blank (value_kind (slice_index_or regs n (value.Int (pos 0)))) in
     all_blank_printed ns (slice_set regs n v) (all_set PrintedValue regs n v (blank_printed (value_kind (slice_index_or regs n (value.Int (pos 0))))) h)
 
-row_printed : (absence : Absence) (rs : List ℕ) (next : Next) → PrintedNext next → (f : Frame) → PrintedFrame f → (row : Option Cells) → PrintedRow row → PrintedRun (row_or absence rs next f row)
+row_printed : (absence : Absence) (rs : List ℕ) (next : Next) → PrintedNext next → (f : Frame) → PrintedFrame f → (row : Option Cells) → PrintedRow row
+    → PrintedRun (row_or absence rs next f row)
 row_printed Traps rs next n f h None p = tt
 row_printed Traps rs next n f h (Some row) p = n (set_to f (set_all rs row f.regs)) (record { regs = all_set_printed rs row f.regs p h.regs; gives = h.gives })
 row_printed (Fails code) rs next n f h None p = tt
-row_printed (Fails code) rs next n f h (Some row) p = n (set_to f (set_all rs row f.regs)) (record { regs = all_set_printed rs row f.regs p h.regs; gives = h.gives })
+row_printed (Fails code) rs next n f h (Some row) p = n (set_to f (set_all rs row f.regs))
+    (record { regs = all_set_printed rs row f.regs p h.regs; gives = h.gives })
 row_printed (Blanks flag) rs next n f h None p =
     n (set_to f (slice_set (blank_all rs f.regs) flag (value.Int (pos 0))))
     (record { regs = all_set PrintedValue (blank_all rs f.regs) flag (value.Int (pos 0)) tt (all_blank_printed rs f.regs h.regs); gives = h.gives })
@@ -168,7 +173,8 @@ row_printed (Blanks flag) rs next n f h (Some row) p =
     n (set_to f (slice_set (set_all rs row f.regs) flag (value.Int (pos 1))))
     (record { regs = all_set PrintedValue (set_all rs row f.regs) flag (value.Int (pos 1)) tt (all_set_printed rs row f.regs p h.regs); gives = h.gives })
 
-each_printed : (body : List ℤ → Next → Next) → ((t : List ℤ) (next : Next) → PrintedNext next → PrintedNext (body t next)) → (ts : List (List ℤ)) (next : Next) → PrintedNext next
+each_printed : (body : List ℤ → Next → Next) → ((t : List ℤ) (next : Next) → PrintedNext next → PrintedNext (body t next)) → (ts : List (List ℤ)) (next : Next)
+    → PrintedNext next
     → PrintedNext (for_each body ts next)
 each_printed body b [] next n f h = n f h
 each_printed body b (t ∷ ts) next n f h = b t (for_each body ts next) (each_printed body b ts next n) f h
@@ -176,7 +182,8 @@ each_printed body b (t ∷ ts) next n f h = b t (for_each body ts next) (each_pr
 gives_printed : (next : Next) (f : Frame) (v : Value) → PrintedNext next → PrintedFrame f → PrintedValue v → PrintedRun (gives next f v)
 gives_printed next f v n h p =
     run_when (nat_lt (length f.gives) MOST_GIVEN) (next (record { regs = f.regs; gives = f.gives ++ v ∷ []; made = f.made })) (Ends (end.Trap Many))
-    (n (record { regs = f.regs; gives = f.gives ++ v ∷ []; made = f.made }) (record { regs = h.regs; gives = all_joined PrintedValue f.gives (v ∷ []) h.gives (p, tt) })) tt
+    (n (record { regs = f.regs; gives = f.gives ++ v ∷ []; made = f.made })
+    (record { regs = h.regs; gives = all_joined PrintedValue f.gives (v ∷ []) h.gives (p, tt) })) tt
 
 module _ (r : Request) (printed : PrintedCall r.call) where
   mutual
@@ -185,19 +192,24 @@ module _ (r : Request) (printed : PrintedCall r.call) where
         with_printed PrintedValue (value_of r item f.regs e) (λ v. next (set_to f (slice_set f.regs n v))) (value_gives r printed item f.regs h.regs e p)
         (λ v is. go (set_to f (slice_set f.regs n v)) (record { regs = all_set PrintedValue f.regs n v is h.regs; gives = h.gives }))
     step_printed (step.Read absence t ks rs) p item next go f h =
-        reads_printed (key_from r item f.regs t ks) (row_or absence rs next) f (key_gives r printed item f.regs h.regs t ks p) h (row_printed absence rs next go)
+        reads_printed (key_from r item f.regs t ks) (row_or absence rs next) f (key_gives r printed item f.regs h.regs t ks p) h
+        (row_printed absence rs next go)
     step_printed (step.Put t ks es) p item next go f h =
-        writes_printed (key_from r item f.regs t ks) (got (row_from r item f.regs es) (λ row. Ok (Some row))) next f (key_gives r printed item f.regs h.regs t ks p.0)
-        (got_holds PrintedCells PrintedRow (row_from r item f.regs es) (λ row. Ok (Some row)) (row_gives r printed item f.regs h.regs es p.1) (λ row is. is)) h go
+        writes_printed (key_from r item f.regs t ks) (got (row_from r item f.regs es) (λ row. Ok (Some row))) next f
+        (key_gives r printed item f.regs h.regs t ks p.0)
+        (got_holds PrintedCells PrintedRow (row_from r item f.regs es) (λ row. Ok (Some row)) (row_gives r printed item f.regs h.regs es p.1) (λ row is. is)) h
+        go
     step_printed (step.Del t ks) p item next go f h =
         writes_printed (key_from r item f.regs t ks) (Ok None) next f (key_gives r printed item f.regs h.regs t ks p) tt h go
     step_printed (step.If e a b) p item next go f h =
         with_printed PrintedValue (value_of r item f.regs e) _ (value_gives r printed item f.regs h.regs e p.0)
-        (λ v is. run_when _ (steps_run r a item next f) (steps_run r b item next f) (steps_printed a p.1 item next go f h) (steps_printed b p.2 item next go f h))
+        (λ v is. run_when _ (steps_run r a item next f) (steps_run r b item next f) (steps_printed a p.1 item next go f h)
+        (steps_printed b p.2 item next go f h))
     step_printed (step.Each n body) p item next go f h =
         each_printed (steps_run r body) (λ t next go. steps_printed body p t next go) (tuples_of (slice_get r.call.args n)) next go f h
     step_printed (step.Give e) p item next go f h =
-        with_printed PrintedValue (value_of r item f.regs e) (gives next f) (value_gives r printed item f.regs h.regs e p) (λ v is. gives_printed next f v go h is)
+        with_printed PrintedValue (value_of r item f.regs e) (gives next f) (value_gives r printed item f.regs h.regs e p)
+        (λ v is. gives_printed next f v go h is)
     step_printed (step.Fail code) p item next go f h = tt
 
     steps_printed : (b : Steps) → PrintedSteps b → (item : List ℤ) (next : Next) → PrintedNext next → PrintedNext (steps_run r b item next)
@@ -218,7 +230,8 @@ script_printed body kinds r p c = steps_printed r c body p [] done (λ f h. h.gi
     blanks [] = tt
     blanks (k ∷ ks) = (blank_printed k, blanks ks)
 
-found_run : (procs : List Proc) (n : ℕ) (r : Request) → AllByRecursion (λ (p : Proc). PrintedSteps p.body) procs → PrintedCall r.call → PrintedRun (run_by (slice_get procs n) r)
+found_run : (procs : List Proc) (n : ℕ) (r : Request) → AllByRecursion (λ (p : Proc). PrintedSteps p.body) procs → PrintedCall r.call
+    → PrintedRun (run_by (slice_get procs n) r)
 found_run [] n r a c = tt
 found_run (p ∷ procs) zero r a c = script_printed p.body p.regs r a.0 c
 found_run (p ∷ procs) (suc n) r a c = found_run procs n r a.1 c

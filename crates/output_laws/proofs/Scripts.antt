@@ -42,9 +42,11 @@ module _ (plan : Plan) (each : Bool) where
   one_lines state batch = if is_kept state batch then kept_line batch.0 ∷ [] else batch_lines plan each state batch.1
 
   abbrev OneRoom : State → ℕ × Handed → Type 0
-  OneRoom state batch = is_kept state batch ≡ false → (length state.waiting + length batch.1.calls ≤ MOST_REQUESTS) × (state.requests + length batch.1.calls < 2 ^ 64)
+  OneRoom state batch = is_kept state batch ≡ false → (length state.waiting + length batch.1.calls ≤ MOST_REQUESTS)
+      × (state.requests + length batch.1.calls < 2 ^ 64)
 
-  left_more : (state : State) (script : List (ℕ × Handed)) (batch : ℕ × Handed) → left plan state (script ++ batch ∷ []) ≡ next plan (left plan state script) batch
+  left_more : (state : State) (script : List (ℕ × Handed)) (batch : ℕ × Handed)
+      → left plan state (script ++ batch ∷ []) ≡ next plan (left plan state script) batch
   left_more state [] batch = refl
   left_more state (b ∷ script) batch = left_more (next plan state b) script batch
 
@@ -55,12 +57,14 @@ module _ (plan : Plan) (each : Bool) where
       ap (λ (l : List (List ℕ)). one_lines state b ++ l) (lines_more (next plan state b) script batch)
       ∙ sym (append_assoc (one_lines state b) (script_lines plan each (next plan state b) script) (one_lines (left plan (next plan state b) script) batch))
 
-  room_more : (state : State) (script : List (ℕ × Handed)) (batch : ℕ × Handed) → HaveRoom plan state script → OneRoom (left plan state script) batch → HaveRoom plan state (script ++ batch ∷ [])
+  room_more : (state : State) (script : List (ℕ × Handed)) (batch : ℕ × Handed) → HaveRoom plan state script → OneRoom (left plan state script) batch
+      → HaveRoom plan state (script ++ batch ∷ [])
   room_more state [] batch room one = (one, tt)
   room_more state (b ∷ script) batch room one = (room.0, room_more (next plan state b) script batch room.1 one)
 
 -- These batches were run or kept from these rows on, and left this state, but for its settings; and these bytes were printed.
-pub record IsTold (plan : Plan) (each : Bool) (rule : Rule) (percent : ℕ) (rows : Database) (script : List (ℕ × Handed)) (state : State) (bytes : List ℕ) : Type 0 where
+pub record IsTold (plan : Plan) (each : Bool) (rule : Rule) (percent : ℕ) (rows : Database) (script : List (ℕ × Handed)) (state : State)
+    (bytes : List ℕ) : Type 0 where
   pub state_is : state ≡ settled state.rule state.percent (left plan (fresh rule percent rows) script)
   pub room : HaveRoom plan (fresh rule percent rows) script
   pub bytes_are : bytes ≡ fed (script_lines plan each (fresh rule percent rows) script)
@@ -71,7 +75,8 @@ left_printed rule percent state other e is = let there = subst PrintedState e is
 
 module _ (each : Bool) (rule : Rule) (percent : ℕ) where
   -- where no batch was told it does not matter by which catalogue
-  pub other_plan : (plan other : Plan) (rows : Database) (state : State) (bytes : List ℕ) → IsTold plan each rule percent rows [] state bytes → IsTold other each rule percent rows [] state bytes
+  pub other_plan : (plan other : Plan) (rows : Database) (state : State) (bytes : List ℕ) → IsTold plan each rule percent rows [] state bytes
+      → IsTold other each rule percent rows [] state bytes
   other_plan plan other rows state bytes t = record { state_is = t.state_is; room = tt; bytes_are = t.bytes_are; printed = tt }
 
   module _ (plan : Plan) where
@@ -90,7 +95,8 @@ module _ (each : Bool) (rule : Rule) (percent : ℕ) where
     }
     put_told rows (b ∷ script) state bytes key row none t = absurd cc
 
-    pub set_told : (rows : Database) (script : List (ℕ × Handed)) (state : State) (bytes : List ℕ) (r : Rule) (p : ℕ) → IsTold plan each rule percent rows script state bytes
+    pub set_told : (rows : Database) (script : List (ℕ × Handed)) (state : State) (bytes : List ℕ) (r : Rule) (p : ℕ)
+        → IsTold plan each rule percent rows script state bytes
         → IsTold plan each rule percent rows script (record state { rule = r; percent = p }) bytes
     set_told rows script state bytes r p t = record {
       state_is = ap (settled r p) t.state_is;
@@ -99,7 +105,8 @@ module _ (each : Bool) (rule : Rule) (percent : ℕ) where
       printed = t.printed;
     }
 
-    module _ (lines : PrintedLines) (rows : Database) (script : List (ℕ × Handed)) (state : State) (bytes : List ℕ) (t : IsTold plan each rule percent rows script state bytes) where
+    module _ (lines : PrintedLines) (rows : Database) (script : List (ℕ × Handed)) (state : State) (bytes : List ℕ)
+        (t : IsTold plan each rule percent rows script state bytes) where
       abbrev First : State
       First = fresh rule percent rows
 
@@ -124,14 +131,16 @@ module _ (each : Bool) (rule : Rule) (percent : ℕ) where
           state_is = t.state_is ∙ ap (settled state.rule state.percent)
               (sym (left_more plan each First script batch ∙ ap (λ (b : Bool). cond b Left (step (run_of plan) Left batch.1)) was_kept));
           room = room_more plan each First script batch t.room (λ run. let clash : true ≡ false = sym was_kept ∙ run in cc);
-          bytes_are = (λ i. t.bytes_are i ++ lines.kepts batch.0 i) ∙ sym (fed_more (script_lines plan each First script) (kept_line batch.0 ∷ [])) ∙ ap fed (sym kept_lines);
+          bytes_are = (λ i. t.bytes_are i ++ lines.kepts batch.0 i) ∙ sym (fed_more (script_lines plan each First script) (kept_line batch.0 ∷ []))
+              ∙ ap fed (sym kept_lines);
           printed = subst (AllByRecursion Printed) (sym kept_lines)
               (all_joined Printed (script_lines plan each First script) (kept_line batch.0 ∷ []) t.printed (kept_printed batch.0, tt));
         }
 
       -- ---- a batch that is run
 
-      module _ (named : PrintedPlan plan) (is : PrintedState state) (number : ℕ) (calls : List Call) (new : state.batches < number) (asks : AllByRecursion PrintedCall calls)
+      module _ (named : PrintedPlan plan) (is : PrintedState state) (number : ℕ) (calls : List Call) (new : state.batches < number)
+          (asks : AllByRecursion PrintedCall calls)
           (room : length state.waiting + length calls ≤ MOST_REQUESTS) (few : state.requests + length calls < 2 ^ 64) where
         abbrev handed : Handed
         handed = record { rule = state.rule; percent = state.percent; calls = calls }
@@ -152,11 +161,15 @@ module _ (each : Bool) (rule : Rule) (percent : ℕ) where
         left_then : left plan First (script ++ (number, handed) ∷ []) ≡ step (run_of plan) Left handed
         left_then = left_more plan each First script (number, handed) ∙ ap (λ (b : Bool). cond b Left (step (run_of plan) Left handed)) was_run
 
-        pub run_told : IsTold plan each rule percent rows (script ++ (number, handed) ∷ []) (step (run_of plan) state handed) (bytes ++ texts_of plan each state handed)
+        pub run_told : IsTold plan each rule percent rows (script ++ (number, handed) ∷ []) (step (run_of plan) state handed)
+            (bytes ++ texts_of plan each state handed)
         run_told = record {
           state_is = ap (λ (s : State). step (run_of plan) s handed) t.state_is ∙ ap (settled state.rule state.percent) (sym left_then);
           room = room_more plan each First script (number, handed) t.room
-              (λ run. (subst (λ (s : State). length s.waiting + length calls ≤ MOST_REQUESTS) t.state_is room, subst (λ (s : State). s.requests + length calls < 2 ^ 64) t.state_is few));
+              (λ run. (
+                subst (λ (s : State). length s.waiting + length calls ≤ MOST_REQUESTS) t.state_is room,
+                subst (λ (s : State). s.requests + length calls < 2 ^ 64) t.state_is few,
+              ));
           bytes_are = (λ i. t.bytes_are i ++ (lines.batches plan each state handed ∙ ap fed same_lines) i)
               ∙ sym (fed_more (script_lines plan each First script) (batch_lines plan each Left handed)) ∙ ap fed (sym run_lines);
           printed = subst (AllByRecursion Printed) (sym run_lines)

@@ -77,7 +77,8 @@ onto_printed zero n acc h = h
 onto_printed (suc k) n acc h = by (n / 10 == 0) (onto_printed k (n / 10) (digit_glyph false (n % 10) ∷ acc) more)
   where
     more : Printed (digit_glyph false (n % 10) ∷ acc)
-    more = and_from (nat_le 32 (digit_glyph false (n % 10)) && nat_le (digit_glyph false (n % 10)) 126) (is_printed acc) (glyph_printed (n % 10) (omega arith)) h
+    more = and_from (nat_le 32 (digit_glyph false (n % 10)) && nat_le (digit_glyph false (n % 10)) 126) (is_printed acc)
+        (glyph_printed (n % 10) (omega arith)) h
 
     by : (b : Bool) → Printed (digits_onto k 10 false (n / 10) (digit_glyph false (n % 10) ∷ acc))
         → Printed (cond b (digit_glyph false (n % 10) ∷ acc) (digits_onto k 10 false (n / 10) (digit_glyph false (n % 10) ∷ acc)))
@@ -122,6 +123,7 @@ module _ {X : Type 0} (P : X → Type 0) where
   at_or (y ∷ ys) zero x h a = a.0
   at_or (y ∷ ys) (suc n) x h a = at_or ys n x h a.1
 
-pub all_mapped : {X Y : Type 0} (P : X → Type 0) (Q : Y → Type 0) (f : X → Y) → ((x : X) → P x → Q (f x)) → (xs : List X) → AllByRecursion P xs → AllByRecursion Q (map f xs)
+pub all_mapped : {X Y : Type 0} (P : X → Type 0) (Q : Y → Type 0) (f : X → Y) → ((x : X) → P x → Q (f x)) → (xs : List X) → AllByRecursion P xs
+    → AllByRecursion Q (map f xs)
 all_mapped P Q f each [] a = tt
 all_mapped P Q f each (x ∷ xs) a = (each x a.0, all_mapped P Q f each xs a.1)

@@ -25,9 +25,11 @@ passed_is : (lines : List (List ℕ)) (p : Place) → passed lines p ≡ record 
 passed_is [] p = refl
 passed_is (line ∷ lines) p = passed_is lines (next_line p)
 
-told_line : (c : check.Doing) (line : List ℕ) → c.place.reports ≡ true → check.on_line c line ≡ Goes [] (record c { place = next_line c.place; report = c.report ++ line ∷ [] })
+told_line : (c : check.Doing) (line : List ℕ) → c.place.reports ≡ true
+    → check.on_line c line ≡ Goes [] (record c { place = next_line c.place; report = c.report ++ line ∷ [] })
 told_line c line e =
-    ap (λ (b : Bool). check.done_by c line (cond b (Ok (next_line c.place, deed.Tell)) (by_head (next_line c.place) (check.counts_of c) c.place.head (said line)))) e
+    ap (λ (b : Bool). check.done_by c line (cond b (Ok (next_line c.place, deed.Tell))
+    (by_head (next_line c.place) (check.counts_of c) c.place.head (said line)))) e
 
 pub told_lines : (lines : List (List ℕ)) (c : check.Doing) → c.place.reports ≡ true
     → with_lines check.on_line (Goes [] c) lines ≡ Goes [] (record c { place = passed lines c.place; report = c.report ++ lines })

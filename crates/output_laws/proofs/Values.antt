@@ -116,22 +116,28 @@ module _ (r : Request) (printed : PrintedCall r.call) (item : List ℤ) (regs : 
   value_gives (term.Text bytes) h = h
   value_gives term.Me h = tt
   value_gives (term.Named from n) h = named_gives from n
-  value_gives (term.Unary o a) h = got_holds PrintedValue PrintedValue (value_of r item regs a) (λ v. Ok (by_unary o v)) (value_gives a h) (λ v k. unary_gives o v)
+  value_gives (term.Unary o a) h = got_holds PrintedValue PrintedValue (value_of r item regs a) (λ v. Ok (by_unary o v)) (value_gives a h)
+      (λ v k. unary_gives o v)
   value_gives (term.Binary o a b) h =
       got_holds (λ p. PrintedValue p.0 × PrintedValue p.1) PrintedValue (both (value_of r item regs a) (value_of r item regs b)) (by_binary o)
-      (both_hold PrintedValue PrintedValue (value_of r item regs a) (value_of r item regs b) (value_gives a h.0) (value_gives b h.1)) (λ p k. binary_gives o p k)
+      (both_hold PrintedValue PrintedValue (value_of r item regs a) (value_of r item regs b) (value_gives a h.0) (value_gives b h.1))
+      (λ p k. binary_gives o p k)
   value_gives (term.MulDiv a b c) h =
       let ab = both (value_of r item regs a) (value_of r item regs b) in
-      got_holds (λ p. (PrintedValue p.0.0 × PrintedValue p.0.1) × PrintedValue p.1) PrintedValue (both ab (value_of r item regs c)) (λ p. divided (int_of p.0.0 *ℤ int_of p.0.1) (int_of p.1))
+      got_holds (λ p. (PrintedValue p.0.0 × PrintedValue p.0.1) × PrintedValue p.1) PrintedValue (both ab (value_of r item regs c))
+      (λ p. divided (int_of p.0.0 *ℤ int_of p.0.1) (int_of p.1))
       (both_hold (λ p. PrintedValue p.0 × PrintedValue p.1) PrintedValue ab (value_of r item regs c)
       (both_hold PrintedValue PrintedValue (value_of r item regs a) (value_of r item regs b) (value_gives a h.0) (value_gives b h.1)) (value_gives c h.2))
       (λ p k. divided_gives (int_of p.0.0 *ℤ int_of p.0.1) (int_of p.1))
   value_gives (term.Front a b n) h =
-      got_holds (λ p. PrintedValue p.0 × PrintedValue p.1) PrintedValue (both (value_of r item regs a) (value_of r item regs b)) (λ p. Ok (front (text_of p.0) (text_of p.1) n))
+      got_holds (λ p. PrintedValue p.0 × PrintedValue p.1) PrintedValue (both (value_of r item regs a) (value_of r item regs b))
+      (λ p. Ok (front (text_of p.0) (text_of p.1) n))
       (both_hold PrintedValue PrintedValue (value_of r item regs a) (value_of r item regs b) (value_gives a h.0) (value_gives b h.1))
-      (λ p k. taken_printed (min n LONGEST_TEXT) (text_of p.0 ++ text_of p.1) (joined_printed (text_of p.0) (text_of p.1) (text_printed p.0 k.0) (text_printed p.1 k.1)))
+      (λ p k. taken_printed (min n LONGEST_TEXT) (text_of p.0 ++ text_of p.1)
+      (joined_printed (text_of p.0) (text_of p.1) (text_printed p.0 k.0) (text_printed p.1 k.1)))
 
-  values_after_give : (done : List Value) (ts : List Term) → PrintedCells done → AllByRecursion PrintedTerm ts → IfOk (values_after r item regs done ts) PrintedCells
+  values_after_give : (done : List Value) (ts : List Term) → PrintedCells done → AllByRecursion PrintedTerm ts
+      → IfOk (values_after r item regs done ts) PrintedCells
   values_after_give done [] h k = h
   values_after_give done (t ∷ ts) h k =
       got_holds PrintedValue PrintedCells (value_of r item regs t) (λ v. values_after r item regs (done ++ v ∷ []) ts) (value_gives t k.0)

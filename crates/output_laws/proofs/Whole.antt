@@ -53,7 +53,8 @@ refused_is_not : {A : Type 0} → REFUSED ≡ DONE → A
 refused_is_not e = absurd (omega (arith, e))
 
 module _ (own : (plan : Plan) (rule : Rule) (percent : ℕ) (rows : Database) → OwnReport plan rule percent rows)
-    (open_one : (plan : Plan) (rule : Rule) (percent : ℕ) (rows : Database) → OpenReport plan rule percent rows) (lines : PrintedLines) (settings : Once) (text : List ℕ) where
+    (open_one : (plan : Plan) (rule : Rule) (percent : ℕ) (rows : Database) → OpenReport plan rule percent rows) (lines : PrintedLines) (settings : Once)
+    (text : List ℕ) where
   abbrev each : Bool
   each = outs.is_each settings.listing
 
@@ -91,7 +92,8 @@ module _ (own : (plan : Plan) (rule : Rule) (percent : ℕ) (rows : Database) �
 
   -- ---- the script was run to its end, and what waits was drained
 
-  module _ (o : once.Doing) (bytes : List ℕ) (script : List (ℕ × Handed)) (c : check.Doing) (read : with_lines check.on_line (Goes [] check.start) (lines_of text) ≡ Goes [] c) (b : Beside each settings.rule settings.fallback o c script bytes)
+  module _ (o : once.Doing) (bytes : List ℕ) (script : List (ℕ × Handed)) (c : check.Doing)
+      (read : with_lines check.on_line (Goes [] check.start) (lines_of text) ≡ Goes [] c) (b : Beside each settings.rule settings.fallback o c script bytes)
       (q : Place) (shut : closing o.place ≡ Ok q) where
     abbrev plan : Plan
     plan = plan_in q.head
@@ -102,7 +104,8 @@ module _ (own : (plan : Plan) (rule : Rule) (percent : ℕ) (rows : Database) �
     abbrev after : State
     after = left plan first script
 
-    closed : (asked (as_mode mode.Check o.place) (check.counts_of c) (codes "report") ≡ Ok (record (as_mode mode.Check q) { reports = true }, deed.Nothing)) × Closes q
+    closed : (asked (as_mode mode.Check o.place) (check.counts_of c) (codes "report") ≡ Ok (record (as_mode mode.Check q) { reports = true }, deed.Nothing))
+        × Closes q
     closed = closing_beside (check.counts_of c) o.place b.mode_is b.quiet b.head q shut
 
     told : IsTold plan o.each settings.rule settings.fallback c.rows script o.state bytes
@@ -138,13 +141,15 @@ module _ (own : (plan : Plan) (rule : Rule) (percent : ℕ) (rows : Database) �
       bytes_are =
           (λ i. told.bytes_are i ++ ((d.bytes_are ∙ ap fed drained_lines) i ++ tail_is o.each i))
           ∙ sym (append_assoc (fed (script_lines plan o.each first script)) (fed (drain_lines plan o.each after d.drains)) (fed (listed_behind o.each)))
-          ∙ ap (λ (l : List ℕ). l ++ fed (listed_behind o.each)) (sym (fed_more (script_lines plan o.each first script) (drain_lines plan o.each after d.drains)))
+          ∙ ap (λ (l : List ℕ). l ++ fed (listed_behind o.each))
+          (sym (fed_more (script_lines plan o.each first script) (drain_lines plan o.each after d.drains)))
           ∙ sym (fed_more (script_lines plan o.each first script ++ drain_lines plan o.each after d.drains) (listed_behind o.each))
 
       report_printed : AllByRecursion Printed whole_report
       report_printed =
           all_joined Printed (script_lines plan o.each first script ++ drain_lines plan o.each after d.drains) (listed_behind o.each)
-          (all_joined Printed (script_lines plan o.each first script) (drain_lines plan o.each after d.drains) told.printed (subst (AllByRecursion Printed) drained_lines d.printed))
+          (all_joined Printed (script_lines plan o.each first script) (drain_lines plan o.each after d.drains) told.printed
+          (subst (AllByRecursion Printed) drained_lines d.printed))
           (tail_printed o.each)
 
       printed_lines : lines_of (bytes ++ (more ++ tail)) ≡ whole_report
@@ -167,9 +172,11 @@ module _ (own : (plan : Plan) (rule : Rule) (percent : ℕ) (rows : Database) �
           = ap (λ (x : Bool). report plan x first script d.drains) (sym e) ∙ sym printed_lines ∙ seen.1 in
           ap (λ (x : Bool). ends_listed plan x first script d.drains) e ∙ is_listed plan first script d.drains seen.0 last_line
 
-      holds : (each ≡ true → EndsListed Bytes) → check.out_of_finding c.ends (serial.finding plan (c.report ++ whole_report) c.rows c.script) ≡ record { bytes = holds_text; status = DONE }
+      holds : (each ≡ true → EndsListed Bytes) → check.out_of_finding c.ends
+          (serial.finding plan (c.report ++ whole_report) c.rows c.script) ≡ record { bytes = holds_text; status = DONE }
       holds listed =
-          ap (check.out_of_finding c.ends) (found ∙ own plan settings.rule settings.fallback c.rows o.each script d.drains told.room drains_are (ends_so listed))
+          ap (check.out_of_finding c.ends) (found ∙ own plan settings.rule settings.fallback c.rows o.each script d.drains told.room drains_are
+          (ends_so listed))
 
       -- or it does not
       ends_not : each ≡ true → (EndsListed Bytes → ⊥) → ends_listed plan true first script d.drains ≡ false
@@ -181,7 +188,8 @@ module _ (own : (plan : Plan) (rule : Rule) (percent : ℕ) (rows : Database) �
               let last = ends_listed_so plan first script d.drains k in
               absurd (other (last.0, printed_lines ∙ ap (λ (x : Bool). report plan x first script d.drains) (b.each_is ∙ e) ∙ last.1))
 
-      fails : each ≡ true → (EndsListed Bytes → ⊥) → (check.out_of_finding c.ends (serial.finding plan (c.report ++ whole_report) c.rows c.script)).status ≡ FAILS
+      fails : each ≡ true → (EndsListed Bytes → ⊥)
+          → (check.out_of_finding c.ends (serial.finding plan (c.report ++ whole_report) c.rows c.script)).status ≡ FAILS
       fails e other =
           ap (λ (f : Finding). (check.out_of_finding c.ends f).status)
           (found ∙ ap (λ (x : Bool). serial.finding plan (report plan x first script d.drains) c.rows (calls_of script)) (b.each_is ∙ e)
@@ -210,7 +218,8 @@ module _ (own : (plan : Plan) (rule : Rule) (percent : ℕ) (rows : Database) �
           ∙ ap (λ (k : Course check.Doing). with_lines check.on_line (behind [] k) whole_report) report_line
           ∙ told_lines whole_report begins refl
 
-      judged : IsInput text Bytes → checked.out_of (reported text Bytes) ≡ check.out_of_finding c.ends (serial.finding plan (c.report ++ whole_report) c.rows c.script)
+      judged : IsInput text Bytes → checked.out_of (reported text Bytes) ≡ check.out_of_finding c.ends
+          (serial.finding plan (c.report ++ whole_report) c.rows c.script)
       judged within =
           ap (ended check.on_end)
           (whole_lines check.on_line MOST_BYTES LONGEST_CHECKED check.start (reported text Bytes) within
@@ -226,7 +235,9 @@ module _ (own : (plan : Plan) (rule : Rule) (percent : ℕ) (rows : Database) �
 
   -- ---- how it came to its end
 
-  module _ (o : once.Doing) (bytes : List ℕ) (script : List (ℕ × Handed)) (c : check.Doing) (read : with_lines check.on_line (Goes [] check.start) (lines_of text) ≡ Goes [] c) (b : Beside each settings.rule settings.fallback o c script bytes) where
+  module _ (o : once.Doing) (bytes : List ℕ) (script : List (ℕ × Handed)) (c : check.Doing)
+      (read : with_lines check.on_line (Goes [] check.start) (lines_of text) ≡ Goes [] c)
+      (b : Beside each settings.rule settings.fallback o c script bytes) where
     by_drained : (q : Place) (shut : closing o.place ≡ Ok q) (d : Course State)
         → DrainedBy lines (plan_in q.head) o.each (named_plan q.head (closed o bytes script c read b q shut).1.head) o.state d
         → Passes (out_behind bytes (ended (once.listed (plan_in q.head) o.each) d))
@@ -239,8 +250,10 @@ module _ (own : (plan : Plan) (rule : Rule) (percent : ℕ) (rows : Database) �
       where
         by : (drain : Bool) → Passes (out_behind bytes (once.drained drain (plan_in q.head) o.each (line_after o.place.lines) o.state))
         by true = by_drained q e (drains (plan_in q.head) o.each (line_after o.place.lines) o.state)
-            (drained_told lines (plan_in q.head) o.each (named_plan q.head (closed o bytes script c read b q e).1.head) (line_after o.place.lines) (length o.state.waiting) o.state b.state)
-        by false = by_drained q e (Goes [] o.state) (none_drained lines (plan_in q.head) o.each (named_plan q.head (closed o bytes script c read b q e).1.head) o.state b.state)
+            (drained_told lines (plan_in q.head) o.each (named_plan q.head (closed o bytes script c read b q e).1.head) (line_after o.place.lines)
+            (length o.state.waiting) o.state b.state)
+        by false = by_drained q e (Goes [] o.state) (none_drained lines (plan_in q.head) o.each (named_plan q.head (closed o bytes script c read b q e).1.head)
+            o.state b.state)
 
   by_course : (course : Course once.Doing) → told_whole once.on_line outs.no_line start text ≡ course → Passes (ended (once.on_end settings.drain) course)
   by_course (Stops bytes) e = λ done. refused_is_not done
@@ -248,7 +261,8 @@ module _ (own : (plan : Plan) (rule : Rule) (percent : ℕ) (rows : Database) �
       let none = goes_within once.on_line outs.no_line start o text bytes e in
       let run_so : with_lines once.on_line (Goes [] start) (lines_of text) ≡ Goes bytes o =
       sym (whole_lines once.on_line MOST_BYTES LONGEST_LINE start text none) ∙ e in
-      let beside = subst (λ (k : Course once.Doing). LinesOn lines each settings.rule settings.fallback k (with_lines check.on_line (Goes [] check.start) (lines_of text))) run_so
+      let beside = subst (λ (k : Course once.Doing). LinesOn lines each settings.rule settings.fallback k
+      (with_lines check.on_line (Goes [] check.start) (lines_of text))) run_so
       (lines_beside lines each settings.rule settings.fallback (lines_of text) start check.start [] [] begun) in
       by_closed o bytes beside.1 beside.0 beside.2 beside.3 (closing o.place) refl
 

@@ -15,14 +15,16 @@ use Rattle.replica_run.specs.declared.jobs.Ran.{Ran}
 use Rattle.replica_run.proofs.Pairs.{zip_map, zip_lengths, one_of_all, holds_of_all, ap_two}
 
 -- an engine and equal copies of it
-pub alike_copies : (first : Between) (copies : List Between) → All (λ copy. copy ≡ unmarked first) copies → length copies < MOST_REPLICAS → AreAlike (first ∷ copies)
+pub alike_copies : (first : Between) (copies : List Between) → All (λ copy. copy ≡ unmarked first) copies → length copies < MOST_REPLICAS
+    → AreAlike (first ∷ copies)
 alike_copies first copies same few =
     let each : All (λ engine. unmarked engine ≡ unmarked first) (first ∷ copies) =
     All-cons (λ (engine : Between). unmarked engine ≡ unmarked first) first copies refl
     (All-weaker (λ copy. copy ≡ unmarked first) (λ copy. unmarked copy ≡ unmarked first) (λ copy e. ap unmarked e) copies same) in
     record { some = omega arith; few = omega arith; alike = λ k d h j e g. each k d h ∙ sym (each j e g) }
 
-pub alike_first : (engines : List Between) (first : Between) → AreAlike engines → slice_get engines 0 ≡ Some first → All (λ engine. unmarked engine ≡ unmarked first) engines
+pub alike_first : (engines : List Between) (first : Between) → AreAlike engines → slice_get engines 0 ≡ Some first
+    → All (λ engine. unmarked engine ≡ unmarked first) engines
 alike_first [] first are is = absurd (let some = are.some in omega arith)
 alike_first (engine ∷ engines) first are is =
     let same : engine ≡ first = cc in
@@ -54,14 +56,16 @@ module _ (config : Config) (calls : List Call) where
 
   -- the engines of those that have run
   pub are_after : (befores : List Between) (rans : List Ran) → HaveRun config calls befores rans → AreAfter config calls befores (map (λ ran. ran.engine) rans)
-  are_after befores rans z = zip_map (λ before ran. HasRun config (job_of calls before) ran) (IsAfter config calls) (λ ran. ran.engine) (λ before ran did. did.after) befores rans z
+  are_after befores rans z = zip_map (λ before ran. HasRun config (job_of calls before) ran) (IsAfter config calls) (λ ran. ran.engine)
+      (λ before ran did. did.after) befores rans z
 
   alike_answers : (befores : List Between) → AreAlike befores → (k : ℕ) (d : Between) → k < length befores
       → All (λ before. answer_of config calls before ≡ answer_of config calls (get_or befores k d)) befores
   alike_answers befores are k d h j e g =
       let same = are.alike j e g k d h in
       ap_two (λ (p : Plan) (s : State). answer (run_of p) s (handed_by config calls)) (get_or befores j e).plan (get_or befores k d).plan
-      (state_in config (get_or befores j e)) (state_in config (get_or befores k d)) (ap (λ (b : Between). b.plan) same) (ap (λ (b : Between). state_in config b) same)
+      (state_in config (get_or befores j e)) (state_in config (get_or befores k d)) (ap (λ (b : Between). b.plan) same)
+      (ap (λ (b : Between). state_in config b) same)
 
   -- an answer that is that of all who run is the answer of each
   pub one_answer : (befores : List Between) (rans : List Ran) (found : Answer) → AreAlike befores → HaveRun config calls befores rans
@@ -90,7 +94,8 @@ pub record Told (config : Config) (calls : List Call) (befores afters : List Bet
   pub serial : All (IsSerialFor config calls found) befores
   pub progress : All (IsProgressFor config calls found) befores
 
-told_of : (config : Config) (calls : List Call) (befores : List Between) (rans : List Ran) (found : Answer) → AreAlike befores → HaveRun config calls befores rans
+told_of : (config : Config) (calls : List Call) (befores : List Between) (rans : List Ran) (found : Answer) → AreAlike befores
+    → HaveRun config calls befores rans
     → ((one : Answer) → All (λ ran. ran.answer ≡ one) rans → found ≡ one) → Told config calls befores (map (λ ran. ran.engine) rans) found
 told_of config calls befores rans found are z is =
     let after = are_after config calls befores rans z in
@@ -103,7 +108,8 @@ told_of config calls befores rans found are z is =
       progress = progress_for_all config calls befores rans found z same;
     }
 
-pub told : (config : Config) (calls given : List Call) (befores inside afters : List Between) (rans : List Ran) (found : Answer) → given ≡ calls → inside ≡ befores → AreAlike inside
+pub told : (config : Config) (calls given : List Call) (befores inside afters : List Between) (rans : List Ran) (found : Answer) → given ≡ calls
+    → inside ≡ befores → AreAlike inside
     → HaveRun config given inside rans → afters ≡ map (λ ran. ran.engine) rans → ((one : Answer) → All (λ ran. ran.answer ≡ one) rans → found ≡ one)
     → Told config calls befores afters found
 told config calls given befores inside afters rans found c i are z e is =
@@ -112,6 +118,7 @@ told config calls given befores inside afters rans found c i are z e is =
     (subst (λ (l : List Between). Told config given inside l found) (sym e) (told_of config given inside rans found are z is)))
 
 -- who runs is there
-pub some_ran : (config : Config) (calls : List Call) (engines : List Between) (rans : List Ran) → HaveRun config calls engines rans → 1 ≤ length engines → 1 ≤ length rans
+pub some_ran : (config : Config) (calls : List Call) (engines : List Between) (rans : List Ran) → HaveRun config calls engines rans → 1 ≤ length engines
+    → 1 ≤ length rans
 some_ran config calls engines rans z some =
     let same = zip_lengths (λ engine ran. HasRun config (job_of calls engine) ran) engines rans z in omega (arith, same, some)

@@ -18,7 +18,8 @@ module _ {A B : Type 0} (P : A → B → Type 0) where
   zip_places (x ∷ xs) (y ∷ ys) len each = (each 0 x y (omega arith), zip_places xs ys (omega arith) (λ i d e h. each (suc i) d e (omega arith)))
 
   -- what each pair says of its second part, or of its first
-  pub all_second : {Q : A → Type 0} {R : B → Type 0} → ((x : A) (y : B) → P x y → Q x → R y) → (xs : List A) (ys : List B) → AllZip P xs ys → All Q xs → All R ys
+  pub all_second : {Q : A → Type 0} {R : B → Type 0} → ((x : A) (y : B) → P x y → Q x → R y) → (xs : List A) (ys : List B) → AllZip P xs ys → All Q xs
+      → All R ys
   all_second {Q} {R} f [] [] z all = All-nil R
   all_second {Q} {R} f [] (y ∷ ys) z all = elim z [ ]
   all_second {Q} {R} f (x ∷ xs) [] z all = elim z [ ]
@@ -41,7 +42,8 @@ module _ {E R A : Type 0} (P : E → R → Type 0) (of : E → A) (part : R → 
   pub one_of_all : (xs : List E) (ys : List R) (found : A) → AllZip P xs ys → ((k : ℕ) (d : E) → k < length xs → All (λ x. of x ≡ of (get_or xs k d)) xs)
       → ((one : A) → All (λ y. part y ≡ one) ys → found ≡ one) → All (λ x. found ≡ of x) xs
   one_of_all xs ys found z alike is k d h =
-      is (of (get_or xs k d)) (all_second P {Q = λ x. of x ≡ of (get_or xs k d)} {R = λ y. part y ≡ of (get_or xs k d)} (λ x y p e. says x y p ∙ e) xs ys z (alike k d h))
+      is (of (get_or xs k d)) (all_second P {Q = λ x. of x ≡ of (get_or xs k d)} {R = λ y. part y ≡ of (get_or xs k d)} (λ x y p e. says x y p ∙ e) xs ys z
+      (alike k d h))
 
   pub holds_of_all : (Q : A → E → Type 0) → ((x : E) (y : R) → P x y → Q (part y) x) → (xs : List E) (ys : List R) (found : A) → AllZip P xs ys
       → All (λ x. found ≡ of x) xs → All (Q found) xs
@@ -55,7 +57,8 @@ ap_two {X} f x u y v p q = ap (λ (w : X). f w y) p ∙ ap (f u) q
 pub zip_results : {A B E : Type 0} (P : A → B → Type 0) (xs : List A) (ys : List B) (rs : List (Result B E)) → map Ok ys ≡ rs → length rs ≡ length xs
     → ((i : ℕ) (d : A) (e : Result B E) → i < length xs → IfOk (get_or rs i e) (P (get_or xs i d))) → AllZip P xs ys
 zip_results {A} {B} {E} P xs ys rs are len each = zip_places P xs ys (sym (length-map ys Ok) ∙ ap length are ∙ len)
-    (λ i d e h. subst (λ (r : Result B E). IfOk r (P (get_or xs i d))) (ap (λ (l : List (Result B E)). get_or l i (Ok e)) (sym are) ∙ get_or-map Ok ys i e) (each i d (Ok e) h))
+    (λ i d e h. subst (λ (r : Result B E). IfOk r (P (get_or xs i d))) (ap (λ (l : List (Result B E)). get_or l i (Ok e)) (sym are) ∙ get_or-map Ok ys i e)
+    (each i d (Ok e) h))
 
 -- of the second parts, or the first ones, that are made of other items
 pub zip_map : {A B C : Type 0} (P : A → B → Type 0) (Q : A → C → Type 0) (f : B → C) → ((x : A) (y : B) → P x y → Q x (f y)) → (xs : List A) (ys : List B)

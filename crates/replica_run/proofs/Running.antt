@@ -15,13 +15,16 @@ use Rattle.replica_run.specs.declared.jobs.Job.{Job}
 use Rattle.replica_run.specs.declared.jobs.Ran.{Ran}
 use Rattle.replica_run.proofs.Pairs.{zip_results, zip_unmap}
 
-pub all_doable : (config : Config) (calls : List Call) (engines : List Between) (jobs : List Job) → jobs ≡ map (job_of calls) engines → All (MayRun config calls) engines
+pub all_doable : (config : Config) (calls : List Call) (engines : List Between) (jobs : List Job) → jobs ≡ map (job_of calls) engines
+    → All (MayRun config calls) engines
     → All (IsDoable config) jobs
-all_doable config calls engines jobs e may = All-same (IsDoable config) jobs (map (job_of calls) engines) e (All-map (IsDoable config) (job_of calls) engines may)
+all_doable config calls engines jobs e may = All-same (IsDoable config) jobs (map (job_of calls) engines) e
+    (All-map (IsDoable config) (job_of calls) engines may)
 
 pub have_run : (config : Config) (calls : List Call) (engines : List Between) (jobs : List Job) (results : List (Result Ran Memory)) (rans : List Ran)
     → jobs ≡ map (job_of calls) engines → map Ok rans ≡ results → length results ≡ length jobs
-    → ((i : ℕ) (d : Job) (e : Result Ran Memory) → i < length jobs → IfOk (get_or results i e) (HasRun config (get_or jobs i d))) → HaveRun config calls engines rans
+    → ((i : ℕ) (d : Job) (e : Result Ran Memory) → i < length jobs → IfOk (get_or results i e) (HasRun config (get_or jobs i d)))
+    → HaveRun config calls engines rans
 have_run config calls engines jobs results rans made are len each =
     zip_unmap (HasRun config) (job_of calls) engines rans
     (subst (λ (l : List Job). AllZip (HasRun config) l rans) made (zip_results (HasRun config) jobs rans results are len each))

@@ -124,7 +124,8 @@ module _ (plan : Plan) (state : State) (handed : Handed) (numbered : IsNumbered 
       let middle = numbers_line order in
       let last = end_line number in
       let place = at + 1 + length list in
-      let one : check.expect report (batch_line number) at ≡ Ok (at + 1) = stands_at report (batch_line number) at ((replies ++ middle ∷ last ∷ []) ++ more) h in
+      let one : check.expect report (batch_line number) at ≡ Ok (at + 1) =
+      stands_at report (batch_line number) at ((replies ++ middle ∷ last ∷ []) ++ more) h in
       let behind_first : drop (at + 1) report ≡ replies ++ (middle ∷ last ∷ more)
       = behind report at (batch_line number) ((replies ++ middle ∷ last ∷ []) ++ more) h ∙ append_assoc replies (middle ∷ last ∷ []) more in
       let many : length replies ≡ length list = length-map lines (reply_line plan.tables) ∙ as_many in
@@ -135,19 +136,38 @@ module _ (plan : Plan) (state : State) (handed : Handed) (numbered : IsNumbered 
       = ap (λ o. check.or_failing report place (check.told_order list o)) (got report place middle (last ∷ more) behind_replies)
       ∙ ap (check.or_failing report place) order_found in
       let ran = check.run_from plan state.rows requests in
-      let replied : check.replies report ends list (at + 1) ≡ Ok place = replies_stand report plan.tables ends list lines (middle ∷ last ∷ more) (at + 1) told_each behind_first in
+      let replied : check.replies report ends list (at + 1) ≡ Ok place =
+      replies_stand report plan.tables ends list lines (middle ∷ last ∷ more) (at + 1) told_each behind_first in
       let lined : check.answer_lines report number ends list (at + 1) ≡ Ok (place + 1 + 1)
       = ap (λ r. r >>= (λ n. check.expect report (end_line number) (n + 1))) replied ∙ stands_at report last (place + 1) more behind_middle in
       let told_all : check.told_at plan report state.rows number list (at + 1) ≡ Ok (place + 1 + 1, ran)
-      = ap (λ r. (r >>= (λ o. Ok (check.run_from plan state.rows o))) >>= (λ ran. check.answer_lines report number ran.0 list (at + 1) >>= (λ n. Ok (n, ran)))) chosen
+      = ap (λ r. (r >>= (λ o. Ok (check.run_from plan state.rows o))) >>= (λ ran. check.answer_lines report number ran.0 list (at + 1) >>= (λ n. Ok (n, ran))))
+      chosen
       ∙ ap (λ r. r >>= (λ n. Ok (n, ran))) lined in
       let sum : length (replies ++ middle ∷ last ∷ []) ≡ length replies + 2 = length-append replies (middle ∷ last ∷ []) in
       let there : place + 1 + 1 ≡ at + suc (length (replies ++ middle ∷ last ∷ [])) = omega (arith, sum, many) in
-      ap (λ r. r >>= (λ n. check.told_at plan report state.rows number list n >>= (λ told. Ok (record (check.begun state.rows) { at = told.0; standing = check.after (standing_of state) handed.calls told.1; listed = false })))) one
-      ∙ ap (λ r. r >>= (λ told. Ok (record (check.begun state.rows) { at = told.0; standing = check.after (standing_of state) handed.calls told.1; listed = false }))) told_all
+      ap (λ r. r >>= (λ n. check.told_at plan report state.rows number list n >>=
+      (λ told. Ok (record (check.begun state.rows) { at = told.0; standing = check.after (standing_of state) handed.calls told.1; listed = false })))) one
+      ∙ ap (λ r. r >>= (λ told. Ok (record (check.begun state.rows) {
+        at = told.0;
+        standing = check.after (standing_of state) handed.calls told.1;
+        listed =
+            false;
+      }))) told_all
       ∙ ap (λ n. Ok (record (check.begun state.rows) { at = n; standing = check.after (standing_of state) handed.calls ran; listed = false })) there
-      ∙ ap (λ waiting. Ok (record (check.begun state.rows) { at = at + suc (length (replies ++ middle ∷ last ∷ [])); standing = record (check.after (standing_of state) handed.calls ran) { carried = waiting }; listed = false })) left_is
-      ∙ ap (λ rows. Ok (record (check.begun state.rows) { at = at + suc (length (replies ++ middle ∷ last ∷ [])); standing = record (check.after (standing_of state) handed.calls ran) { tables = rows; carried = (step (run_of plan) state handed).waiting }; listed = false })) (sym serial.rows)
+      ∙ ap (λ waiting. Ok (record (check.begun state.rows) {
+        at = at + suc (length (replies ++ middle ∷ last ∷ []));
+        standing =
+            record (check.after (standing_of state) handed.calls ran) { carried = waiting };
+        listed = false;
+      })) left_is
+      ∙ ap (λ rows. Ok (record (check.begun state.rows) {
+        at = at + suc (length (replies ++ middle ∷ last ∷ []));
+        standing =
+            record (check.after (standing_of state) handed.calls ran) { tables = rows; carried = (step (run_of plan) state handed).waiting };
+        listed = false;
+      }))
+      (sym serial.rows)
 
   pub answer_within : (before more : List (List ℕ))
       → check.answer plan (before ++ answer_lines plan.tables (answer (run_of plan) state handed) ++ more) (standing_of state) handed.calls (length before)

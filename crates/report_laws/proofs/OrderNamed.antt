@@ -135,8 +135,10 @@ names_all list done (r ∷ rs) (q ∷ qs) a d once e =
     still : (q : ℕ) (r : Request) → r.q ≡ q → ((n : ℕ) → times n (numbers done) + times n (q ∷ qs) ≤ 1)
         → (n : ℕ) → times n (numbers (done ++ r ∷ [])) + times n qs ≤ 1
     still q r same once n =
-        let parts : numbers (done ++ r ∷ []) ≡ numbers done ++ q ∷ [] = map-append (λ (request : Request). request.q) done (r ∷ []) ∙ ap (λ m. numbers done ++ m ∷ []) same in
-        let longer : times n (numbers (done ++ r ∷ [])) ≡ times n (numbers done) + times n (q ∷ []) = ap (times n) parts ∙ sum_by-append (one_if n) (numbers done) (q ∷ []) in
+        let parts : numbers (done ++ r ∷ []) ≡ numbers done ++ q ∷ [] = map-append (λ (request : Request). request.q) done (r ∷ [])
+        ∙ ap (λ m. numbers done ++ m ∷ []) same in
+        let longer : times n (numbers (done ++ r ∷ [])) ≡ times n (numbers done) + times n (q ∷ []) = ap (times n) parts
+        ∙ sum_by-append (one_if n) (numbers done) (q ∷ []) in
         let last : times n (q ∷ []) ≡ one_if n q + times n [] = sum_by-cons (one_if n) q [] in
         let none : times n [] ≡ 0 = refl in
         let first : times n (q ∷ qs) ≡ one_if n q + times n qs = sum_by-cons (one_if n) q qs in

@@ -104,7 +104,8 @@ each_found low [] high r = tt
 each_found low (l ∷ ls) high r = (
   (r.0, ap (λ b. cond b (Some l) (line_of ls l.q)) (eq-eqb l.q l.q refl)),
   each_weaker (λ (x : Line). (l.q < x.q) × (line_of ls x.q ≡ Some x)) (λ (x : Line). (low < x.q) × (line_of (l ∷ ls) x.q ≡ Some x))
-      (λ x h. let own = r.0 in let above = h.0 in (omega (arith, own, above), ap (λ b. cond b (Some l) (line_of ls x.q)) (ne_eqb l.q x.q (λ e. omega (arith, above, e))) ∙ h.1))
+      (λ x h. let own = r.0 in let above = h.0 in
+      (omega (arith, own, above), ap (λ b. cond b (Some l) (line_of ls x.q)) (ne_eqb l.q x.q (λ e. omega (arith, above, e))) ∙ h.1))
       ls (each_found l.q ls high r.1),
 )
 

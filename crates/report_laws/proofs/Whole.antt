@@ -154,7 +154,8 @@ module _ (plan : Plan) (each shut : Bool) (shuts : each ≡ false → shut ≡ t
               (on true (λ _. refl) n (within (state_lines plan state) [] at w only) (behind_all text (state_lines plan state) [] at only ∙ sym last.1))
 
       answered : (state : State) (handed : Handed) → IsNumbered state → state.requests + length handed.calls < 2 ^ 64
-          → (at : ℕ) (listed : Bool) (tail : Bool → List (List ℕ)) (go : Reading → Result ℕ Flaw) → (each ≡ false → IsTail tail (step (run_of plan) state handed))
+          → (at : ℕ) (listed : Bool) (tail : Bool → List (List ℕ)) (go : Reading → Result ℕ Flaw)
+          → (each ≡ false → IsTail tail (step (run_of plan) state handed))
           → Goes_on tail (step (run_of plan) state handed) go → at ≤ length text
           → drop at text ≡ batch_lines plan each state handed ++ tail each
           → Ends (check.answered plan text (reading_at at state listed) handed.calls >>= go)
@@ -164,14 +165,16 @@ module _ (plan : Plan) (each shut : Bool) (shuts : each ≡ false → shut ≡ t
           let more = if each then state_lines plan behind else [] in
           let whole : drop at text ≡ lines ++ (more ++ tail each) = h ∙ append_assoc lines more (tail each) in
           subst (λ r. Ends ((r >>= check.may_list plan text) >>= go)) (sym (answer_stands plan state handed numbered few text (more ++ tail each) at whole))
-          (after_answer behind (at + length lines) tail go t on (within lines (more ++ tail each) at w whole) each refl (behind_all text lines (more ++ tail each) at whole))
+          (after_answer behind (at + length lines) tail go t on (within lines (more ++ tail each) at w whole) each refl
+          (behind_all text lines (more ++ tail each) at whole))
 
     -- ---- the end
 
     nothing_behind : (at : ℕ) → drop at text ≡ [] → check.expect_end text at ≡ Ok at
     nothing_behind at h =
         let short : length text - at ≡ 0 = sym (length-drop at text) ∙ ap length h in
-        let past : nat_lt at (length text) ≡ false = false_from_ne_true (nat_lt at (length text)) (λ t. let below = ltb-true at (length text) t in omega (arith, short, below)) in
+        let past : nat_lt at (length text) ≡ false = false_from_ne_true (nat_lt at (length text))
+        (λ t. let below = ltb-true at (length text) t in omega (arith, short, below)) in
         ap (λ b. cond b (Err (check.failing text at [])) (Ok at)) past
 
     all_read : (at : ℕ) → at ≤ length text → drop at text ≡ [] → at ≡ length text
@@ -197,7 +200,8 @@ module _ (plan : Plan) (each shut : Bool) (shuts : each ≡ false → shut ≡ t
         → check.is_line text (batch_line (state.batches + 1)) at ≡ false
     no_batch false state at false h = ap (check.passes (λ line. bytes_eq line (batch_line (state.batches + 1)))) (none_got text at h)
     no_batch true state at b h = ap (check.passes (λ line. bytes_eq line (batch_line (state.batches + 1)))) (none_got text at h)
-    no_batch false state at true h = ap (check.passes (λ line. bytes_eq line (batch_line (state.batches + 1)))) (got text at (state_line state.batches) (row_lines plan state.rows ++ end_state_line ∷ []) h)
+    no_batch false state at true h = ap (check.passes (λ line. bytes_eq line (batch_line (state.batches + 1))))
+        (got text at (state_line state.batches) (row_lines plan state.rows ++ end_state_line ∷ []) h)
 
     abbrev going : ℕ → State → ℕ → Bool → Result Reading Flaw
     going n state at listed = check.answered plan text (reading_at at state listed) [] >>= check.drained plan text n
@@ -210,11 +214,13 @@ module _ (plan : Plan) (each shut : Bool) (shuts : each ≡ false → shut ≡ t
         = ap (λ b. nat_lt 0 (length state.waiting) && b) (no_batch listed state at shut h) ∙ never (nat_lt 0 (length state.waiting)) in
         ap (λ b. cond b (going n state at listed) (Ok (reading_at at state listed))) none
 
-    goes : (n : ℕ) (state : State) (at : ℕ) (listed : Bool) (more : List (List ℕ)) → 0 < length state.waiting → drop at text ≡ batch_line (state.batches + 1) ∷ more
+    goes : (n : ℕ) (state : State) (at : ℕ) (listed : Bool) (more : List (List ℕ)) → 0 < length state.waiting
+        → drop at text ≡ batch_line (state.batches + 1) ∷ more
         → check.drained plan text (suc n) (reading_at at state listed) ≡ going n state at listed
     goes n state at listed more some h =
         let there : check.is_line text (batch_line (state.batches + 1)) at ≡ true
-        = ap (check.passes (λ line. bytes_eq line (batch_line (state.batches + 1)))) (got text at (batch_line (state.batches + 1)) more h) ∙ itself (batch_line (state.batches + 1)) in
+        = ap (check.passes (λ line. bytes_eq line (batch_line (state.batches + 1)))) (got text at (batch_line (state.batches + 1)) more h)
+        ∙ itself (batch_line (state.batches + 1)) in
         let drained : check.is_drained text (reading_at at state listed) ≡ true
         = ap (λ b. nat_lt 0 (length state.waiting) && b) there ∙ ap (λ b. b && true) (lt-ltb 0 (length state.waiting) some) in
         ap (λ b. cond b (going n state at listed) (Ok (reading_at at state listed))) drained
@@ -260,7 +266,8 @@ module _ (plan : Plan) (each shut : Bool) (shuts : each ≡ false → shut ≡ t
     drains_short (handed ∷ more) listed state =
         let behind = step (run_of plan) state handed in
         let lines = batch_lines plan each state handed in
-        let sum : length (lines ++ rest_drains each behind more) ≡ length lines + length (rest_drains each behind more) = length-append lines (rest_drains each behind more) in
+        let sum : length (lines ++ rest_drains each behind more) ≡ length lines + length (rest_drains each behind more) =
+        length-append lines (rest_drains each behind more) in
         let one : 1 ≤ length lines = omega arith in
         let more_short = drains_short more each behind in
         omega (arith, sum, one, more_short)
@@ -302,25 +309,31 @@ module _ (plan : Plan) (each shut : Bool) (shuts : each ≡ false → shut ≡ t
         one_kept : (batch : ℕ × Handed) (more : List (ℕ × Handed)) (state : State) (at : ℕ) (listed : Bool)
             → ((n : ℕ) → n ≤ length text → drop n text ≡ rest false state more drains → Ends (to_the_end more (reading_at n state false)))
             → at ≤ length text → drop at text ≡ kept_line batch.0 ∷ rest false state more drains
-            → Ends ((check.kept text (reading_at at state listed) batch.0 >>= (λ reading. check.batches plan text reading (calls_of more))) >>= check.ended plan text)
+            → Ends ((check.kept text (reading_at at state listed) batch.0 >>= (λ reading. check.batches plan text reading (calls_of more))) >>= check.ended
+            plan text)
         one_kept batch more state at listed on w h =
             let stands = stands_at text (kept_line batch.0) at (rest false state more drains) h in
-            subst (λ r. Ends (((r >>= (λ n. Ok (record (reading_at at state listed) { at = n; listed = false }))) >>= (λ reading. check.batches plan text reading (calls_of more))) >>= check.ended plan text))
-            (sym stands) (on (at + 1) (within (kept_line batch.0 ∷ []) (rest false state more drains) at w h) (behind text at (kept_line batch.0) (rest false state more drains) h))
+            subst (λ r. Ends (((r >>= (λ n. Ok (record (reading_at at state listed) { at = n; listed = false }))) >>=
+            (λ reading. check.batches plan text reading (calls_of more))) >>= check.ended plan text))
+            (sym stands) (on (at + 1) (within (kept_line batch.0 ∷ []) (rest false state more drains) at w h)
+            (behind text at (kept_line batch.0) (rest false state more drains) h))
 
         one_run : (batch : ℕ × Handed) (more : List (ℕ × Handed)) (state : State) (at : ℕ) (listed : Bool) → IsNumbered state
             → length state.waiting + length batch.1.calls ≤ MOST_REQUESTS → state.requests + length batch.1.calls < 2 ^ 64
             → Goes_on Ends (λ l. rest l (step (run_of plan) state batch.1) more drains) (step (run_of plan) state batch.1) (to_the_end more)
             → at ≤ length text → drop at text ≡ batch_lines plan each state batch.1 ++ rest each (step (run_of plan) state batch.1) more drains
-            → Ends ((check.run plan text (reading_at at state listed) batch.1.calls >>= (λ reading. check.batches plan text reading (calls_of more))) >>= check.ended plan text)
+            → Ends ((check.run plan text (reading_at at state listed) batch.1.calls >>= (λ reading. check.batches plan text reading (calls_of more))) >>=
+            check.ended plan text)
         one_run batch more state at listed numbered room few on w h =
             let behind = step (run_of plan) state batch.1 in
             let taken : nat_lt MOST_REQUESTS (length state.waiting + length batch.1.calls) ≡ false
-            = false_from_ne_true (nat_lt MOST_REQUESTS (length state.waiting + length batch.1.calls)) (λ t. let above = ltb-true MOST_REQUESTS (length state.waiting + length batch.1.calls) t in omega (arith, room, above)) in
+            = false_from_ne_true (nat_lt MOST_REQUESTS (length state.waiting + length batch.1.calls))
+            (λ t. let above = ltb-true MOST_REQUESTS (length state.waiting + length batch.1.calls) t in omega (arith, room, above)) in
             let runs : check.run plan text (reading_at at state listed) batch.1.calls ≡ check.answered plan text (reading_at at state listed) batch.1.calls
             = otherwise (nat_lt MOST_REQUESTS (length state.waiting + length batch.1.calls)) _ _ taken in
             subst (λ r. Ends ((r >>= (λ reading. check.batches plan text reading (calls_of more))) >>= check.ended plan text)) (sym runs)
-            (after_both Ends (check.answered plan text (reading_at at state listed) batch.1.calls) (λ reading. check.batches plan text reading (calls_of more)) (check.ended plan text)
+            (after_both Ends (check.answered plan text (reading_at at state listed) batch.1.calls) (λ reading. check.batches plan text reading (calls_of more))
+            (check.ended plan text)
             (answered Ends state batch.1 numbered few at listed (λ l. rest l behind more drains) (to_the_end more) (tail_of behind more drains) on w h))
 
       script_ends : (script : List (ℕ × Handed)) → Holding script
@@ -347,12 +360,14 @@ module _ (plan : Plan) (each shut : Bool) (shuts : each ≡ false → shut ≡ t
   -- ---- the whole
 
   drains_are : (drains : List Handed) (listed : Bool) (state : State)
-      → rest_drains listed state drains ≡ drain_lines plan each state drains ++ close_lines plan shut (listed_drains plan each listed drains) (run (run_of plan) state drains)
+      → rest_drains listed state drains ≡ drain_lines plan each state drains ++ close_lines plan shut (listed_drains plan each listed drains)
+      (run (run_of plan) state drains)
   drains_are [] listed state = refl
   drains_are (handed ∷ more) listed state =
       let behind = step (run_of plan) state handed in
       ap (λ l. batch_lines plan each state handed ++ l) (drains_are more each behind)
-      ∙ sym (append_assoc (batch_lines plan each state handed) (drain_lines plan each behind more) (close_lines plan shut (listed_drains plan each each more) (run (run_of plan) behind more)))
+      ∙ sym (append_assoc (batch_lines plan each state handed) (drain_lines plan each behind more)
+      (close_lines plan shut (listed_drains plan each each more) (run (run_of plan) behind more)))
 
   rest_is : (script : List (ℕ × Handed)) (drains : List Handed) (listed : Bool) (state : State)
       → rest listed state script drains ≡ script_lines plan each state script
@@ -408,7 +423,8 @@ module _ (plan : Plan) (rule : Rule) (percent : ℕ) (rows : Database) (each : B
       let same : text ≡ rest plan each (not each) (not_each each) false state script drains
       = append_assoc before drained (if each then [] else state_lines plan final)
       ∙ ap (λ l. before ++ (drained ++ l)) (closes plan each state final script drains)
-      ∙ ap (λ l. before ++ l) (sym (drains_are plan each (not each) (not_each each) drains (listed_script plan each false state script) (left plan state script)))
+      ∙ ap (λ l. before ++ l) (sym (drains_are plan each (not each) (not_each each) drains (listed_script plan each false state script)
+      (left plan state script)))
       ∙ sym (rest_is plan each (not each) (not_each each) script drains false state) in
       script_ends plan each (not each) (not_each each) text drains script state 0 false (omega arith) (omega arith) room d (omega arith) same
 

@@ -65,33 +65,42 @@ no_found p (Some plan) = refl
 
 no_catalog : (p : Place) (name : List ℕ) → NoRun (at_catalog p name)
 no_catalog p name =
-    no_if (not (has_catalog p.mode && is_unnamed p.head)) (Err kind.Site) (if is_audit p.mode && not (bytes_eq name (codes "tpcc")) then Err kind.Name else (if bytes_eq name (codes "text") then Ok (record p { head = head.Text [] }, deed.Nothing) else found p (builtin_named name))) tt
-    (no_if (is_audit p.mode && not (bytes_eq name (codes "tpcc"))) (Err kind.Name) (if bytes_eq name (codes "text") then Ok (record p { head = head.Text [] }, deed.Nothing) else found p (builtin_named name)) tt
-    (no_if (bytes_eq name (codes "text")) (Ok (record p { head = head.Text [] }, deed.Nothing)) (found p (builtin_named name)) refl (no_found p (builtin_named name))))
+    no_if (not (has_catalog p.mode && is_unnamed p.head)) (Err kind.Site)
+    (if is_audit p.mode && not (bytes_eq name (codes "tpcc")) then Err
+    kind.Name else (if bytes_eq name (codes "text") then Ok (record p { head = head.Text [] }, deed.Nothing) else found p (builtin_named name))) tt
+    (no_if (is_audit p.mode && not (bytes_eq name (codes "tpcc"))) (Err kind.Name)
+    (if bytes_eq name (codes "text") then Ok (record p { head = head.Text [] }, deed.Nothing) else found p (builtin_named name)) tt
+    (no_if (bytes_eq name (codes "text")) (Ok (record p { head = head.Text [] }, deed.Nothing)) (found p (builtin_named name)) refl
+    (no_found p (builtin_named name))))
 
 no_calls : (p : Place) (call : Call) → NoRun (calls p call)
-no_calls p call = no_if (nat_lt p.open_calls MOST_REQUESTS) (Ok (record p { rows_ended = true; open_calls = p.open_calls + 1 }, deed.Call call)) (Err kind.Batch) refl tt
+no_calls p call = no_if (nat_lt p.open_calls MOST_REQUESTS) (Ok (record p { rows_ended = true; open_calls = p.open_calls + 1 }, deed.Call call))
+    (Err kind.Batch) refl tt
 
 no_row : (p : Place) (table : List ℕ) (parts : List Part) (row : Cells) → NoRun (at_row p table parts row)
 no_row p table parts row =
     no_under p.head (λ plan. if p.rows_ended then Err kind.Site else and_then (puts p) (placed_row plan table parts row))
-    (λ plan. no_if p.rows_ended (Err kind.Site) (and_then (puts p) (placed_row plan table parts row)) tt (no_then (puts p) (placed_row plan table parts row) (λ r. refl)))
+    (λ plan. no_if p.rows_ended (Err kind.Site) (and_then (puts p) (placed_row plan table parts row)) tt
+    (no_then (puts p) (placed_row plan table parts row) (λ r. refl)))
 
 no_call : (p : Place) (proc : List ℕ) (args : List Arg) → NoRun (at_call p proc args)
 no_call p proc args =
     no_under p.head (λ plan. if has_batches p.mode then and_then (calls p) (placed_call plan proc args) else Err kind.Site)
-    (λ plan. no_if (has_batches p.mode) (and_then (calls p) (placed_call plan proc args)) (Err kind.Site) (no_then (calls p) (placed_call plan proc args) (λ call. no_calls p call)) tt)
+    (λ plan. no_if (has_batches p.mode) (and_then (calls p) (placed_call plan proc args)) (Err kind.Site)
+    (no_then (calls p) (placed_call plan proc args) (λ call. no_calls p call)) tt)
 
 no_settings : (p : Place) (name : List ℕ) (percent : ℤ) → NoRun (at_settings p name percent)
 no_settings p name percent =
     no_under p.head (λ plan. if has_batches p.mode && p.open_calls == 0 then and_then (sets p) (placed_settings name percent) else Err kind.Site)
-    (λ plan. no_if (has_batches p.mode && p.open_calls == 0) (and_then (sets p) (placed_settings name percent)) (Err kind.Site) (no_then (sets p) (placed_settings name percent) (λ r. refl)) tt)
+    (λ plan. no_if (has_batches p.mode && p.open_calls == 0) (and_then (sets p) (placed_settings name percent)) (Err kind.Site)
+    (no_then (sets p) (placed_settings name percent) (λ r. refl)) tt)
 
 no_report : (p : Place) → NoRun (at_report p)
 no_report p = no_if (is_check p.mode && p.open_calls == 0) (Ok (record p { reports = true }, deed.Nothing)) (Err kind.Site) refl tt
 
 no_piece : (p : Place) (text piece : List ℕ) → NoRun (at_piece p text piece)
-no_piece p text piece = no_if (nat_lt MOST_CATALOG (length text + length piece)) (Err (kind.Catalog fault.Long)) (Ok (record p { head = head.Text (text ++ piece) }, deed.Nothing)) tt refl
+no_piece p text piece = no_if (nat_lt MOST_CATALOG (length text + length piece)) (Err (kind.Catalog fault.Long))
+    (Ok (record p { head = head.Text (text ++ piece) }, deed.Nothing)) tt refl
 
 -- ---- more batches
 
@@ -147,12 +156,14 @@ module _ (c d : Counts) (less : c.batches < d.batches) where
   ends_by true b p n e f = tt
   ends_by false true p n e f = end_kept p n (grind (arith, f))
   ends_by false false p n e f =
-      run_kept (not (is_check p.mode) && nat_lt MOST_REQUESTS (c.waiting + p.open_calls)) (nat_lt GREATEST_NUMBER n || nat_lt GREATEST_NUMBER (c.requests + p.open_calls)) p n (grind (arith, e, f))
+      run_kept (not (is_check p.mode) && nat_lt MOST_REQUESTS (c.waiting + p.open_calls))
+      (nat_lt GREATEST_NUMBER n || nat_lt GREATEST_NUMBER (c.requests + p.open_calls)) p n (grind (arith, e, f))
 
   kept_end : (p : Place) (n : ℕ) → AsKept (at_end p c n) (at_end p d n)
   kept_end p n =
       kept_under p.head (λ plan. if has_batches p.mode then ends p c n else Err kind.Site) (λ plan. if has_batches p.mode then ends p d n else Err kind.Site)
-      (λ plan. kept_if (has_batches p.mode) (ends p c n) (Err kind.Site) (ends p d n) (Err kind.Site) (ends_by (nat_lt (c.batches + 1) n) (nat_le n c.batches) p n refl refl) tt)
+      (λ plan. kept_if (has_batches p.mode) (ends p c n) (Err kind.Site) (ends p d n) (Err kind.Site)
+      (ends_by (nat_lt (c.batches + 1) n) (nat_le n c.batches) p n refl refl) tt)
 
   kept_item : (p : Place) (i : Item) → AsKept (at_item p c i) (at_item p d i)
   kept_item p item.Skip = refl
@@ -178,10 +189,12 @@ module _ (c d : Counts) (less : c.batches < d.batches) where
   kept_behind p text i = kept_then (λ ready. at_item ready c i) (λ ready. at_item ready d i) (read_text p text) (λ ready. kept_item ready i)
 
   no_refused : (p : Place) (text : List ℕ) (why : RefusalKind) → NoRun (refused_in_text p text why)
-  no_refused p text why = no_if (is_byte why) (Err why) (and_then (λ ready. Err why) (read_text p text)) tt (no_then (λ ready. Err why) (read_text p text) (λ ready. tt))
+  no_refused p text why = no_if (is_byte why) (Err why) (and_then (λ ready. Err why) (read_text p text)) tt
+      (no_then (λ ready. Err why) (read_text p text) (λ ready. tt))
 
   kept_text : (p : Place) (text : List ℕ) (line : Result Item RefusalKind) → AsKept (in_text p c text line) (in_text p d text line)
-  kept_text p text (Ok i) = kept_if (goes_on i) (within_text p text i) (behind_text p c text i) (within_text p text i) (behind_text p d text i) (kept_within p text i) (kept_behind p text i)
+  kept_text p text (Ok i) = kept_if (goes_on i) (within_text p text i) (behind_text p c text i) (within_text p text i) (behind_text p d text i)
+      (kept_within p text i) (kept_behind p text i)
   kept_text p text (Err why) = same (refused_in_text p text why) (no_refused p text why)
 
   kept_head : (p : Place) (h : Head) (line : Result Item RefusalKind) → AsKept (by_head p c h line) (by_head p d h line)
@@ -190,10 +203,12 @@ module _ (c d : Counts) (less : c.batches < d.batches) where
   kept_head p (head.Ready plan) line = kept_then (at_item p c) (at_item p d) line (λ i. kept_item p i)
 
   kept_at : (p : Place) (line : List ℕ) → AsKept (asked_at p c line) (asked_at p d line)
-  kept_at p line = kept_if p.reports (Ok (p, deed.Tell)) (by_head p c p.head (said line)) (Ok (p, deed.Tell)) (by_head p d p.head (said line)) refl (kept_head p p.head (said line))
+  kept_at p line = kept_if p.reports (Ok (p, deed.Tell)) (by_head p c p.head (said line)) (Ok (p, deed.Tell)) (by_head p d p.head (said line)) refl
+      (kept_head p p.head (said line))
 
   of_asked : (x other : Asked) (after : Place) (asks : Deed) → x ≡ Ok (after, asks) → AsKept x other → other ≡ Ok (after, as_kept c.batches asks)
   of_asked x other after asks e h = subst (λ (a : Asked). AsKept a other) e h
 
-  pub asked_later : (p : Place) (line : List ℕ) (after : Place) (asks : Deed) → asked p c line ≡ Ok (after, asks) → asked p d line ≡ Ok (after, as_kept c.batches asks)
+  pub asked_later : (p : Place) (line : List ℕ) (after : Place) (asks : Deed) → asked p c line ≡ Ok (after, asks)
+      → asked p d line ≡ Ok (after, as_kept c.batches asks)
   asked_later p line after asks e = of_asked (asked p c line) (asked p d line) after asks e (kept_at (next_line p) line)

@@ -108,7 +108,8 @@ asked_counts d (Err why) = tt
 pub line_counts : (d : Doing) (line : List ℕ) → Rises d (on_line d line)
 line_counts d line = asked_counts d (asked d.place (counts_of d.state) line)
 
-by_more : (lines : List (List ℕ)) (d : Doing) (t : State) (c : Course Doing) → ((next : Doing) → Reaches (map Line lines) next t → next.state.batches < t.batches) → Rises d c
+by_more : (lines : List (List ℕ)) (d : Doing) (t : State) (c : Course Doing)
+    → ((next : Doing) → Reaches (map Line lines) next t → next.state.batches < t.batches) → Rises d c
     → ReachesBy d (Reaches (map Line lines)) c t → d.state.batches < t.batches
 by_more lines d t (Stops bytes) each rises h = absurd h
 by_more lines d t (Goes bytes next) each rises (inl h) =
@@ -130,7 +131,8 @@ above_less : (n m : ℕ) (answered : List (ℕ × List ℕ)) → m ≤ n → Abo
 above_less n m [] le h = tt
 above_less n m (a ∷ rest) le h = (let first = h.0 in omega (arith, le, first), above_less n m rest le h.1)
 
-above_if : (b : Bool) (n m : ℕ) (text : List ℕ) (rest : List (ℕ × List ℕ)) → (m == n) ≡ b → n ≤ m → Above n rest → Above n (if b then rest else (m, text) ∷ rest)
+above_if : (b : Bool) (n m : ℕ) (text : List ℕ) (rest : List (ℕ × List ℕ)) → (m == n) ≡ b → n ≤ m → Above n rest
+    → Above n (if b then rest else (m, text) ∷ rest)
 above_if true n m text rest e le h = h
 above_if false n m text rest e le h = (grind (arith, e, le), h)
 
@@ -148,7 +150,8 @@ above (line ∷ lines) d = by_above lines d (on_line d line) (λ next. above lin
 not_later : (n m : ℕ) → m ≤ n → nat_lt n m ≡ false
 not_later n m le = grind (arith, le)
 
-later_if : (b : Bool) (n : ℕ) (a : ℕ × List ℕ) (rest : List (ℕ × List ℕ)) → nat_lt n a.0 ≡ b → later_than n (a ∷ rest) ≡ (if b then a ∷ later_than n rest else later_than n rest)
+later_if : (b : Bool) (n : ℕ) (a : ℕ × List ℕ) (rest : List (ℕ × List ℕ)) → nat_lt n a.0 ≡ b
+    → later_than n (a ∷ rest) ≡ (if b then a ∷ later_than n rest else later_than n rest)
 later_if b n a rest e = ap (λ (x : Bool). if x then a ∷ later_than n rest else later_than n rest) e
 
 later_all : (n : ℕ) (answered : List (ℕ × List ℕ)) → Above n answered → later_than n answered ≡ answered
@@ -173,7 +176,8 @@ pub record Caught (lines : List (List ℕ)) (d : Doing) (t : State) (e last : Do
   pub answered : answers (map Line lines) e ≡ later_than t.batches (answers (map Line lines) d)
   pub back : (u : State) → Reaches (map Line lines) e u → Reaches (map Line lines) d u
 
-answers_if : (b : Bool) (n m : ℕ) (text : List ℕ) (rest : List (ℕ × List ℕ)) → (m == n) ≡ b → (if m == n then rest else (m, text) ∷ rest) ≡ (if b then rest else (m, text) ∷ rest)
+answers_if : (b : Bool) (n m : ℕ) (text : List ℕ) (rest : List (ℕ × List ℕ)) → (m == n) ≡ b
+    → (if m == n then rest else (m, text) ∷ rest) ≡ (if b then rest else (m, text) ∷ rest)
 answers_if b n m text rest e = ap (λ (x : Bool). if x then rest else (m, text) ∷ rest) e
 
 -- the first line goes on from d to next, and from e to after
@@ -205,7 +209,8 @@ module _ (line : List ℕ) (lines : List (List ℕ)) (d e next after : Doing) (t
   only_later u (inl k) = absurd (k.0 same_e)
   only_later u (inr k) = k
 
-  back_on : (u : State) → ((u : State) → Reaches (map Line lines) after u → Reaches (map Line lines) next u) → Reaches (map Line (line ∷ lines)) e u → Reaches (map Line (line ∷ lines)) d u
+  back_on : (u : State) → ((u : State) → Reaches (map Line lines) after u → Reaches (map Line lines) next u) → Reaches (map Line (line ∷ lines)) e u
+      → Reaches (map Line (line ∷ lines)) d u
   back_on u back h =
       subst (λ (c : Course Doing). ReachesBy d (Reaches (map Line lines)) c u) (sym is)
       (inr (back u (only_later u (subst (λ (c : Course Doing). ReachesBy e (Reaches (map Line lines)) c u) stands h))))
@@ -218,10 +223,12 @@ module _ (line : List ℕ) (lines : List (List ℕ)) (d e next after : Doing) (t
   }
 
 -- where both stand at one place, both go on alike
-pub caught_same : (lines : List (List ℕ)) (d : Doing) (t : State) (last : Doing) → t.batches ≡ d.state.batches → EndsIn (goes lines d) last → Caught lines d t d last
+pub caught_same : (lines : List (List ℕ)) (d : Doing) (t : State) (last : Doing) → t.batches ≡ d.state.batches → EndsIn (goes lines d) last
+    → Caught lines d t d last
 caught_same lines d t last e ends = record {
   ends = ends;
-  answered = sym (later_all t.batches (answers (map Line lines) d) (above_less d.state.batches t.batches (answers (map Line lines) d) (omega (arith, e)) (above lines d)));
+  answered = sym (later_all t.batches (answers (map Line lines) d)
+      (above_less d.state.batches t.batches (answers (map Line lines) d) (omega (arith, e)) (above lines d)));
   back = λ u h. h;
 }
 
@@ -247,7 +254,8 @@ IsOver (deed.Call call) = Unit {0}
 IsOver (deed.Set rule percent) = Unit {0}
 IsOver (deed.Keep number) = Unit {0}
 
-quiet_goes : (d : Doing) (place : Place) (asks : Deed) → runs_batch asks ≡ false → IsOver asks → (text : List ℕ) × (done (record d { place = place }) asks ≡ Goes text (quiet_next d place asks))
+quiet_goes : (d : Doing) (place : Place) (asks : Deed) → runs_batch asks ≡ false → IsOver asks
+    → (text : List ℕ) × (done (record d { place = place }) asks ≡ Goes text (quiet_next d place asks))
 quiet_goes d place deed.Run q over = absurd cc
 quiet_goes d place deed.Nothing q over = ([], refl)
 quiet_goes d place deed.Tell q over = ([], refl)
@@ -307,7 +315,8 @@ kept_catches d t e place (inl h) = inl (ap (λ (x : Doing). kept_next x place) h
 kept_catches d t e place (inr h) = inr (ap (λ (x : Doing). kept_next x place) h)
 
 -- a row may not stand in it, and so it is behind each line
-over_of : (d : Doing) (line : List ℕ) (place : Place) (asks : Deed) → asked d.place (counts_of d.state) line ≡ Ok (place, asks) → d.place.rows_ended ≡ true → IsOver asks × (place.rows_ended ≡ true)
+over_of : (d : Doing) (line : List ℕ) (place : Place) (asks : Deed) → asked d.place (counts_of d.state) line ≡ Ok (place, asks) → d.place.rows_ended ≡ true
+    → IsOver asks × (place.rows_ended ≡ true)
 over_of d line place deed.Run e rows = (tt, (follows d.place (counts_of d.state) line place deed.Run e).allows.rows)
 over_of d line place deed.Nothing e rows = (tt, (follows d.place (counts_of d.state) line place deed.Nothing e).allows.rows rows)
 over_of d line place deed.Tell e rows = (tt, (follows d.place (counts_of d.state) line place deed.Tell e).allows.rows rows)
@@ -318,7 +327,8 @@ over_of d line place (deed.Call call) e rows = (tt, (follows d.place (counts_of 
 over_of d line place (deed.Set rule percent) e rows = (tt, (follows d.place (counts_of d.state) line place (deed.Set rule percent) e).allows.rows)
 over_of d line place (deed.Keep number) e rows = (tt, (follows d.place (counts_of d.state) line place (deed.Keep number) e).allows.rows)
 
-rows_next : (d : Doing) (place : Place) (asks : Deed) → IsOver asks → place.rows_ended ≡ true → runs_batch asks ≡ false → (quiet_next d place asks).place.rows_ended ≡ true
+rows_next : (d : Doing) (place : Place) (asks : Deed) → IsOver asks → place.rows_ended ≡ true → runs_batch asks ≡ false
+    → (quiet_next d place asks).place.rows_ended ≡ true
 rows_next d place deed.Run over rows q = absurd cc
 rows_next d place deed.Nothing over rows q = rows
 rows_next d place deed.Tell over rows q = rows
@@ -328,7 +338,8 @@ rows_next d place (deed.Set rule percent) over rows q = rows
 rows_next d place (deed.Keep number) over rows q = rows
 
 -- what is asked for of the later state
-asked_of : (d : Doing) (t : State) (e : Doing) (line : List ℕ) (place : Place) (asks : Deed) → Catches d t e → d.state.batches < t.batches → asked d.place (counts_of d.state) line ≡ Ok (place, asks)
+asked_of : (d : Doing) (t : State) (e : Doing) (line : List ℕ) (place : Place) (asks : Deed) → Catches d t e → d.state.batches < t.batches
+    → asked d.place (counts_of d.state) line ≡ Ok (place, asks)
     → on_line e line ≡ done (record e { place = place }) (as_kept d.state.batches asks)
 asked_of d t e line place asks c less is =
     let count : (counts_of e.state).batches ≡ t.batches = at_count d t e c in
@@ -345,26 +356,32 @@ quiet_kept n (deed.Set rule percent) q = refl
 quiet_kept n (deed.Keep number) q = refl
 
 -- a state that a line's rest reaches, where it runs no batch
-later_only : (lines : List (List ℕ)) (d next : Doing) (t : State) → next.state.batches ≡ d.state.batches → ((next.state.batches ≢ d.state.batches) × (t ≡ next.state)) ⊎ Reaches (map Line lines) next t
+later_only : (lines : List (List ℕ)) (d next : Doing) (t : State) → next.state.batches ≡ d.state.batches
+    → ((next.state.batches ≢ d.state.batches) × (t ≡ next.state)) ⊎ Reaches (map Line lines) next t
     → Reaches (map Line lines) next t
 later_only lines d next t same (inl h) = absurd (h.0 same)
 later_only lines d next t same (inr h) = h
 
-ends_next : (line : List ℕ) (lines : List (List ℕ)) (d next last : Doing) (text : List ℕ) → on_line d line ≡ Goes text next → EndsIn (goes (line ∷ lines) d) last → EndsIn (goes lines next) last
+ends_next : (line : List ℕ) (lines : List (List ℕ)) (d next last : Doing) (text : List ℕ) → on_line d line ≡ Goes text next
+    → EndsIn (goes (line ∷ lines) d) last → EndsIn (goes lines next) last
 ends_next line lines d next last text is h =
     ends_behind text (goes lines next) last (subst (λ (c : Course Doing). EndsIn (goes_by (goes lines) c) last) is h)
 
-reach_by : (line : List ℕ) (lines : List (List ℕ)) (d : Doing) (t : State) (c : Course Doing) → on_line d line ≡ c → Reaches (map Line (line ∷ lines)) d t → ReachesBy d (Reaches (map Line lines)) c t
+reach_by : (line : List ℕ) (lines : List (List ℕ)) (d : Doing) (t : State) (c : Course Doing) → on_line d line ≡ c → Reaches (map Line (line ∷ lines)) d t
+    → ReachesBy d (Reaches (map Line lines)) c t
 reach_by line lines d t c is h = subst (λ (k : Course Doing). ReachesBy d (Reaches (map Line lines)) k t) is h
 
 -- ---- all of it
 
 abbrev Catch : List (List ℕ) → Type 0
-Catch lines = (d : Doing) (t : State) (e last : Doing) → d.place.rows_ended ≡ true → Catches d t e → Reaches (map Line lines) d t → EndsIn (goes lines d) last → Caught lines d t e last
+Catch lines = (d : Doing) (t : State) (e last : Doing) → d.place.rows_ended ≡ true → Catches d t e → Reaches (map Line lines) d t → EndsIn (goes lines d) last
+    → Caught lines d t e last
 
-module _ (line : List ℕ) (lines : List (List ℕ)) (rest : Catch lines) (d : Doing) (t : State) (e last : Doing) (rows : d.place.rows_ended ≡ true) (c : Catches d t e)
+module _ (line : List ℕ) (lines : List (List ℕ)) (rest : Catch lines) (d : Doing) (t : State) (e last : Doing) (rows : d.place.rows_ended ≡ true)
+    (c : Catches d t e)
     (reach : Reaches (map Line (line ∷ lines)) d t) (ends : EndsIn (goes (line ∷ lines) d) last) where
-  catch_quiet : (place : Place) (asks : Deed) → asked d.place (counts_of d.state) line ≡ Ok (place, asks) → runs_batch asks ≡ false → Caught (line ∷ lines) d t e last
+  catch_quiet : (place : Place) (asks : Deed) → asked d.place (counts_of d.state) line ≡ Ok (place, asks) → runs_batch asks ≡ false
+      → Caught (line ∷ lines) d t e last
   catch_quiet place asks is q =
       let over = over_of d line place asks is rows in
       let next = quiet_next d place asks in
@@ -379,10 +396,12 @@ module _ (line : List ℕ) (lines : List (List ℕ)) (rest : Catch lines) (d : D
       let count_e = quiet_count e place asks q over.0 in
       let on = later_only lines d next t count_d (reach_by line lines d t (Goes goes_d.0 next) line_d reach) in
       caught_on line lines d e next after t last goes_d.0 goes_e.0 line_d line_e count_e (omega (arith, less, count_d))
-      (rest next t after last (rows_next d place asks over.0 over.1 q) (quiet_catches d t e place asks q over.0 c) on (ends_next line lines d next last goes_d.0 line_d ends))
+      (rest next t after last (rows_next d place asks over.0 over.1 q) (quiet_catches d t e place asks q over.0 c) on
+      (ends_next line lines d next last goes_d.0 line_d ends))
 
   run_rest : (place : Place) → EndsIn (goes lines (ran_next d place)) last → place.rows_ended ≡ true
-      → (((ran_next d place).state.batches ≢ d.state.batches) × (t ≡ (ran_next d place).state)) ⊎ Reaches (map Line lines) (ran_next d place) t → Caught lines (ran_next d place) t (kept_next e place) last
+      → (((ran_next d place).state.batches ≢ d.state.batches) × (t ≡ (ran_next d place).state)) ⊎ Reaches (map Line lines) (ran_next d place) t
+      → Caught lines (ran_next d place) t (kept_next e place) last
   run_rest place go rows_on (inl h) =
       subst (λ (x : Doing). Caught lines (ran_next d place) t x last) (sym (kept_same d t e place c h.1))
       (caught_same lines (ran_next d place) t last (ap (λ (s : State). s.batches) h.1) go)
@@ -416,4 +435,5 @@ module _ (line : List ℕ) (lines : List (List ℕ)) (rest : Catch lines) (d : D
 
 pub catch : (lines : List (List ℕ)) → Catch lines
 catch [] d t e last rows c reach ends = absurd reach
-catch (line ∷ lines) d t e last rows c reach ends = catch_line line lines (catch lines) d t e last rows c reach ends (asked d.place (counts_of d.state) line) refl
+catch (line ∷ lines) d t e last rows c reach ends = catch_line line lines (catch lines) d t e last rows c reach ends
+    (asked d.place (counts_of d.state) line) refl

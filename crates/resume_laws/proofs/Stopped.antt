@@ -28,15 +28,18 @@ lines_with lines (Some line) = lines ++ line ∷ []
 abbrev lines_of : List ℕ → List (List ℕ)
 lines_of text = lines_with (scan no_line text).lines (last_line (scan no_line text).feed)
 
-lines_more : (c : Course Doing) (lines : List (List ℕ)) (line : List ℕ) → with_lines on_line c (lines ++ line ∷ []) ≡ with_line on_line (with_lines on_line c lines) line
+lines_more : (c : Course Doing) (lines : List (List ℕ)) (line : List ℕ)
+    → with_lines on_line c (lines ++ line ∷ []) ≡ with_line on_line (with_lines on_line c lines) line
 lines_more c [] line = refl
 lines_more c (first ∷ lines) line = lines_more (with_line on_line c first) lines line
 
-last_more : (c : Course Doing) (lines : List (List ℕ)) (o : Option (List ℕ)) → with_last on_line (with_lines on_line c lines) o ≡ with_lines on_line c (lines_with lines o)
+last_more : (c : Course Doing) (lines : List (List ℕ)) (o : Option (List ℕ))
+    → with_last on_line (with_lines on_line c lines) o ≡ with_lines on_line c (lines_with lines o)
 last_more c lines None = refl
 last_more c lines (Some line) = sym (lines_more c lines line)
 
-by_goes : (bytes : List ℕ) (lines : List (List ℕ)) (c : Course Doing) → ((first : List ℕ) (d : Doing) → with_lines on_line (Goes first d) lines ≡ behind first (goes lines d))
+by_goes : (bytes : List ℕ) (lines : List (List ℕ)) (c : Course Doing)
+    → ((first : List ℕ) (d : Doing) → with_lines on_line (Goes first d) lines ≡ behind first (goes lines d))
     → with_lines on_line (behind bytes c) lines ≡ behind bytes (goes_by (goes lines) c)
 by_goes bytes lines (Goes more next) each = each (bytes ++ more) next ∙ behind-behind bytes more (goes lines next)
 by_goes bytes lines (Stops more) each = stopped_lines on_line (bytes ++ more) lines
@@ -46,7 +49,8 @@ lines_goes bytes d [] = ap (λ (b : List ℕ). Goes b d) (sym (append-nil bytes)
 lines_goes bytes d (line ∷ lines) = by_goes bytes lines (on_line d line) (λ first e. lines_goes first e lines)
 
 -- where no line passes a bound
-told_lines : (d : Doing) (s : Scan) → s.fault ≡ None → with_last on_line (with_fault (with_lines on_line (Goes [] d) s.lines) s.fault) (last_line s.feed) ≡ goes (lines_with s.lines (last_line s.feed)) d
+told_lines : (d : Doing) (s : Scan) → s.fault ≡ None → with_last on_line (with_fault (with_lines on_line (Goes [] d) s.lines) s.fault)
+    (last_line s.feed) ≡ goes (lines_with s.lines (last_line s.feed)) d
 told_lines d s none =
     ap (λ (f : Option Refusal). with_last on_line (with_fault (with_lines on_line (Goes [] d) s.lines) f) (last_line s.feed)) none
     ∙ last_more (Goes [] d) s.lines (last_line s.feed)
@@ -80,13 +84,15 @@ unclosed d (Ok place) t (inr (inl h)) = h.0 refl
 unclosed d (Ok place) t (inr (inr h)) = h
 
 by_in : (lines : List (List ℕ)) (d end : Doing) (t : State) (c : Course Doing)
-    → ((next : Doing) → EndsIn (goes lines next) end → Reaches (map Line lines ++ ending 0) next t → Reaches (map Line lines) next t) → EndsIn (goes_by (goes lines) c) end
+    → ((next : Doing) → EndsIn (goes lines next) end → Reaches (map Line lines ++ ending 0) next t → Reaches (map Line lines) next t)
+    → EndsIn (goes_by (goes lines) c) end
     → ReachesBy d (Reaches (map Line lines ++ ending 0)) c t → ReachesBy d (Reaches (map Line lines)) c t
 by_in lines d end t (Stops bytes) each ends h = h
 by_in lines d end t (Goes bytes next) each ends (inl h) = inl h
 by_in lines d end t (Goes bytes next) each ends (inr h) = inr (each next (ends_behind bytes (goes lines next) end ends) h)
 
-in_lines : (lines : List (List ℕ)) (d end : Doing) (t : State) → EndsIn (goes lines d) end → Reaches (map Line lines ++ ending 0) d t → Reaches (map Line lines) d t
+in_lines : (lines : List (List ℕ)) (d end : Doing) (t : State) → EndsIn (goes lines d) end → Reaches (map Line lines ++ ending 0) d t
+    → Reaches (map Line lines) d t
 in_lines [] d end t ends h = absurd (unclosed d (closing d.place) t h)
 in_lines (line ∷ lines) d end t ends h = by_in lines d end t (on_line d line) (λ next k r. in_lines lines next end t k r) ends h
 
@@ -113,7 +119,8 @@ module _ (each : Bool) (plan : Plan) (text : List ℕ) where
       let none = no_fault (with_lines on_line (Goes [] (From s)) all.lines) all.fault (last_line all.feed) end e in
       (e.0, sym (told_lines (From s) all none) ∙ e.1)
 
-  whole_lines : (s u : State) (end last : Doing) → EndsIn (run_from each plan text s) end → EndsIn (goes Lines (From u)) last → EndsIn (run_from each plan text u) last
+  whole_lines : (s u : State) (end last : Doing) → EndsIn (run_from each plan text s) end → EndsIn (goes Lines (From u)) last
+      → EndsIn (run_from each plan text u) last
   whole_lines s u end last right e =
       let all = scan no_line text in
       let none = no_fault (with_lines on_line (Goes [] (From s)) all.lines) all.fault (last_line all.feed) end right in
@@ -149,7 +156,8 @@ module _ (each : Bool) (plan : Plan) (text : List ℕ) where
   first_on s t u last right (inr r) (inl e) = inr (subst (λ (x : State). Reaches (map Line Lines) (From s) x) (sym e) r)
   first_on s t u last right (inr r) (inr h) = inr ((caught s t last right r).back u h)
 
-  chain : (between : List State) (s first second : State) (last : Doing) → EndsIn (run_from each plan text s) last → IsFirst s first → AreStopped each plan text first between second → IsFirst s second
+  chain : (between : List State) (s first second : State) (last : Doing) → EndsIn (run_from each plan text s) last → IsFirst s first
+      → AreStopped each plan text first between second → IsFirst s second
   chain [] s first second last right h stops = subst (λ (x : State). IsFirst s x) (sym stops) h
   chain (next ∷ between) s first second last right h stops =
       let on = stop_first first next last (first_right s first last right h) stops.0 in
@@ -163,7 +171,8 @@ module _ (each : Bool) (plan : Plan) (text : List ℕ) where
       let none = no_fault (with_lines on_line (Goes [] (From s)) all.lines) all.fault (last_line all.feed) end e in
       ap (λ (l : List Turn). answers l (From u)) (turns_are all none)
 
-  ends_alike : (s t : State) (last : Doing) → EndsIn (run_from each plan text s) last → Caught Lines (From s) t (From t) last → EndsAlike each plan text s t last
+  ends_alike : (s t : State) (last : Doing) → EndsIn (run_from each plan text s) last → Caught Lines (From s) t (From t) last
+      → EndsAlike each plan text s t last
   ends_alike s t last right c =
       let whole = whole_lines s t last last right c.ends in
       record {

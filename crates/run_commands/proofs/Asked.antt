@@ -25,7 +25,8 @@ module _ (place : Place) (work : Work) (counts : Counts) (line : List ℕ) (same
   pub line_is : (a : Asked) → asked place counts line ≡ a → on_line (doing_of place work) line ≡ done_by (doing_of place work) a
   line_is a is = ap (λ (k : Counts). done_by (doing_of place work) (asked place k line)) (sym same) ∙ ap (λ (x : Asked). done_by (doing_of place work) x) is
 
-  pub moved_by : (after : Place) (asks : Deed) (bytes : List ℕ) (next : Doing) → asked place counts line ≡ Ok (after, asks) → done (doing_of after work) asks ≡ Goes bytes next
+  pub moved_by : (after : Place) (asks : Deed) (bytes : List ℕ) (next : Doing) → asked place counts line ≡ Ok (after, asks)
+      → done (doing_of after work) asks ≡ Goes bytes next
       → on_line (doing_of place work) line ≡ Goes bytes next
   moved_by after asks bytes next is did = line_is (Ok (after, asks)) is ∙ did
 

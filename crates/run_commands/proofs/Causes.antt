@@ -28,7 +28,8 @@ module _ (start now : Option Kept) (none : start ≡ None → now ≡ None) (a b
   cause_since stop.NoDisk h = disk_since start now none p q r disk h
   cause_since stop.NoRead h = h
 
-  pub read_since : (source : Type 0) (s : Stop) → IsCause s (Rose b c) (IsSomeAnd now (λ _. Rose q r)) → IsReadCause s source (Rose a c) (IsSomeAnd start (λ _. Rose p r))
+  pub read_since : (source : Type 0) (s : Stop) → IsCause s (Rose b c) (IsSomeAnd now (λ _. Rose q r))
+      → IsReadCause s source (Rose a c) (IsSomeAnd start (λ _. Rose p r))
   read_since source stop.Refused h = h
   read_since source stop.NoMemory h = h
   read_since source stop.NoWrite h = rose_since a b c sink h

@@ -54,7 +54,8 @@ line_by p q (head.Text text) e = text_by (without_head p) q (catalog_of text) e
 pub closing_line : (p q : Place) → closing p ≡ Ok q → q.lines ≡ line_after p.lines
 closing_line p q e = line_by (next_line p) q p.head e
 
-pub end_is : (p q : Place) (work : Work) (line : ℕ) → closing p ≡ Ok q → line ≡ line_after p.lines → IsEnd (plan_in q.head) work.each line (state_in work.base) (doing_of q work)
+pub end_is : (p q : Place) (work : Work) (line : ℕ) → closing p ≡ Ok q → line ≡ line_after p.lines
+    → IsEnd (plan_in q.head) work.each line (state_in work.base) (doing_of q work)
 end_is p q work line e same = record { plan_is = refl; each_is = refl; line_is = closing_line p q e ∙ sym same; state_is = refl }
 
 -- a database with a store has a catalogue, and keeps it
@@ -69,7 +70,8 @@ plan_stays (head.Ready plan) next calls (base.Runs live) on of some = ap plan_in
 pub store_some : (first : ℕ) (disk : History) (plan : Plan) (b : Base) → HoldsBase first disk plan b → store_in b ≢ None
 store_some first disk plan b h e = subst (λ (s : Option Kept). Holds disk plan (held_in b) s h.c h.later) e h.holds
 
-pub rows_none : (first : ℕ) (disk : History) (plan : Plan) (b : Base) (tables : Database) (config : Config) → b ≡ base.Rows tables config → HoldsBase first disk plan b → ⊥
+pub rows_none : (first : ℕ) (disk : History) (plan : Plan) (b : Base) (tables : Database) (config : Config) → b ≡ base.Rows tables config
+    → HoldsBase first disk plan b → ⊥
 rows_none first disk plan b tables config is h = store_some first disk plan b h (ap store_in is)
 
 module _ (h : Head) (b : Base) (each : Bool) (live : Live) (is : b ≡ base.Runs live) (named : IsNamed h b) (listed : IsListed each b) where
@@ -89,17 +91,20 @@ module _ (h : Head) (b : Base) (each : Bool) (live : Live) (is : b ≡ base.Runs
 
   pub holds_live : (first : ℕ) (disk : History) → HoldsBase first disk (plan_in h) b → HoldsLive first disk live
   holds_live first disk held =
-      subst (λ (p : Plan). HoldsState first live.checkpoint disk p (stored_state live) live.store) (sym named_live) (subst (λ (x : Base). HoldsBase first disk (plan_in h) x) is held)
+      subst (λ (p : Plan). HoldsState first live.checkpoint disk p (stored_state live) live.store) (sym named_live)
+      (subst (λ (x : Base). HoldsBase first disk (plan_in h) x) is held)
 
   -- and what is said of it is said of the database
   to_base : (P : Plan → Base → Type 0) → P (plan_of live) (base.Runs live) → P (plan_in h) b
   to_base P p = subst (λ (x : Base). P (plan_in h) x) (sym is) (subst (λ (q : Plan). P q (base.Runs live)) named_live p)
 
-  pub keeps_base : (d : Doing) (old new : History) (ga gb : Option (List ℕ)) → Keeps (PassesTurns (drains_of (state_of live)) d (stored_state live)) (plan_of live) old new ga gb
+  pub keeps_base : (d : Doing) (old new : History) (ga gb : Option (List ℕ))
+      → Keeps (PassesTurns (drains_of (state_of live)) d (stored_state live)) (plan_of live) old new ga gb
       → Keeps (PassesTurns (drains_of (state_in b)) d (held_in b)) (plan_in h) old new ga gb
   keeps_base d old new ga gb k = to_base (λ plan x. Keeps (PassesTurns (drains_of (state_in x)) d (held_in x)) plan old new ga gb) k
 
-  pub laid_base : (first : ℕ) (d : Doing) (disk : History) → LeavesLaid first live.checkpoint disk (plan_of live) (held_behind (drains_of (state_of live)) d (stored_state live))
+  pub laid_base : (first : ℕ) (d : Doing) (disk : History) → LeavesLaid first live.checkpoint disk (plan_of live)
+      (held_behind (drains_of (state_of live)) d (stored_state live))
       → LeavesLaid first (checkpoint_in b) disk (plan_in h) (held_behind (drains_of (state_in b)) d (held_in b))
   laid_base first d disk laid = to_base (λ plan x. LeavesLaid first (checkpoint_in x) disk plan (held_behind (drains_of (state_in x)) d (held_in x))) laid
 
@@ -116,7 +121,8 @@ module _ (h : Head) (b : Base) (each : Bool) (live : Live) (is : b ≡ base.Runs
 
 -- ---- the whole end, by the script before it
 
-module _ (p q : Place) (work : Work) (is : closing p ≡ Ok q) (stays : HeadStays p.head q.head) (of : IsOf p.head work.calls.items work.base) (drain : Bool) (first : ℕ) (old : History)
+module _ (p q : Place) (work : Work) (is : closing p ≡ Ok q) (stays : HeadStays p.head q.head) (of : IsOf p.head work.calls.items work.base) (drain : Bool)
+    (first : ℕ) (old : History)
     (h : HoldsBase first old (plan_in p.head) work.base) where
   same_plan : plan_in q.head ≡ plan_in p.head
   same_plan = plan_stays p.head q.head work.calls.items work.base stays of (store_some first old (plan_in p.head) work.base h)
@@ -130,16 +136,20 @@ module _ (p q : Place) (work : Work) (is : closing p ≡ Ok q) (stays : HeadStay
   closed_keeps new ga gb k =
       close_keeps (doing_of p work) (held_in work.base) (closing_turns drain (state_in work.base)) q is (plan_in p.head) old new ga gb
       (holds_leave first (checkpoint_in work.base) old (plan_in p.head) (held_in work.base) (store_in work.base) h)
-      (subst (λ (plan : Plan). Keeps (PassesTurns (closing_turns drain (state_in work.base)) (doing_of q work) (held_in work.base)) plan old new ga gb) same_plan k)
+      (subst (λ (plan : Plan). Keeps (PassesTurns (closing_turns drain (state_in work.base)) (doing_of q work) (held_in work.base)) plan old new ga gb)
+      same_plan k)
 
-  pub closed_laid : (new : History) → LeavesLaid first (checkpoint_in work.base) new (plan_in q.head) (held_behind (closing_turns drain (state_in work.base)) (doing_of q work) (held_in work.base))
+  pub closed_laid : (new : History) → LeavesLaid first (checkpoint_in work.base) new (plan_in q.head)
+      (held_behind (closing_turns drain (state_in work.base)) (doing_of q work) (held_in work.base))
       → LeavesLaid first (checkpoint_in work.base) new (plan_in p.head) (held_behind (ending_of drain (doing_of p work)) (doing_of p work) (held_in work.base))
   closed_laid new laid =
       close_laid (doing_of p work) (held_in work.base) (closing_turns drain (state_in work.base)) q is first (checkpoint_in work.base) new (plan_in p.head)
-      (subst (λ (plan : Plan). LeavesLaid first (checkpoint_in work.base) new plan (held_behind (closing_turns drain (state_in work.base)) (doing_of q work) (held_in work.base))) same_plan laid)
+      (subst (λ (plan : Plan). LeavesLaid first (checkpoint_in work.base) new plan
+      (held_behind (closing_turns drain (state_in work.base)) (doing_of q work) (held_in work.base))) same_plan laid)
 
 -- where it is refused
-module _ (p : Place) (work : Work) (refusal : Refusal) (at : refusal.line ≡ line_after p.lines) (is : closing p ≡ Err refusal.kind) (drain : Bool) (first : ℕ) (disk : History)
+module _ (p : Place) (work : Work) (refusal : Refusal) (at : refusal.line ≡ line_after p.lines) (is : closing p ≡ Err refusal.kind) (drain : Bool) (first : ℕ)
+    (disk : History)
     (h : HoldsBase first disk (plan_in p.head) work.base) where
   pub close_refused : (ga gb : Option (List ℕ)) → AppendsFront ga gb (refusal_text refusal)
       → Keeps (PassesTurns (ending_of drain (doing_of p work)) (doing_of p work) (held_in work.base)) (plan_in p.head) disk disk ga gb
@@ -148,7 +158,9 @@ module _ (p : Place) (work : Work) (refusal : Refusal) (at : refusal.line ≡ li
       (subst (λ (n : ℕ). AppendsFront ga gb (refusal_text (record { line = n; kind = refusal.kind }))) at front)
       (holds_leave first (checkpoint_in work.base) disk (plan_in p.head) (held_in work.base) (store_in work.base) h)
 
-  pub close_refused_laid : LeavesLaid first (checkpoint_in work.base) disk (plan_in p.head) (held_behind (ending_of drain (doing_of p work)) (doing_of p work) (held_in work.base))
+  pub close_refused_laid : LeavesLaid first (checkpoint_in work.base) disk (plan_in p.head)
+      (held_behind (ending_of drain (doing_of p work)) (doing_of p work) (held_in work.base))
   close_refused_laid =
-      refused_laid (doing_of p work) (held_in work.base) (closing_turns drain (state_in work.base)) refusal.kind is first (checkpoint_in work.base) disk (plan_in p.head)
+      refused_laid (doing_of p work) (held_in work.base) (closing_turns drain (state_in work.base)) refusal.kind is first (checkpoint_in work.base) disk
+      (plan_in p.head)
       (holds_laid first (checkpoint_in work.base) disk (plan_in p.head) (held_in work.base) (store_in work.base) h)

@@ -43,10 +43,12 @@ same_doing : (bytes more : List ℕ) (d next : Doing) → Goes bytes d ≡ Goes 
 same_doing bytes more d next e = cc
 
 module _ (plan : Plan) (each : Bool) (line : ℕ) (state : State) (d : Doing) (end : IsEnd plan each line state d) (held : State) where
-  listed_keeps : (disk : History) (ga gb : Option (List ℕ)) (result : Result ℕ Stop) → Finishes (listed plan each state) ga gb result → LeavesState disk plan held
+  listed_keeps : (disk : History) (ga gb : Option (List ℕ)) (result : Result ℕ Stop) → Finishes (listed plan each state) ga gb result
+      → LeavesState disk plan held
       → Keeps (PassesTurns (Listed ∷ []) d held) plan disk disk ga gb
   listed_keeps disk ga gb result finishes leaves =
-      let same : (listed plan each state).bytes ≡ printed (on_turn d Listed) = λ i. (listed (sym end.plan_is i) (sym end.each_is i) (sym end.state_is i)).bytes in
+      let same : (listed plan each state).bytes ≡ printed (on_turn d Listed) =
+      λ i. (listed (sym end.plan_is i) (sym end.each_is i) (sym end.state_is i)).bytes in
       keeps_quiet on_turn held_then plan Listed d held disk ga gb (Err stop.NoMemory)
       (λ bytes next e. held_still held d next (ap (λ (x : Doing). x.state) (sym (same_doing (printed (on_turn d Listed)) bytes d next e))))
       (subst (λ (l : List ℕ). AppendsFront ga gb l) same (finish_front (listed plan each state) ga gb result finishes)) leaves
@@ -54,7 +56,8 @@ module _ (plan : Plan) (each : Bool) (line : ℕ) (state : State) (d : Doing) (e
   -- ---- what follows where nothing is refused
 
   -- where nothing is drained
-  pub quiet_keeps : (drain : Bool) → drain ≡ false → (disk : History) (ga gb : Option (List ℕ)) (result : Result ℕ Stop) → Finishes (listed plan each state) ga gb result
+  pub quiet_keeps : (drain : Bool) → drain ≡ false → (disk : History) (ga gb : Option (List ℕ)) (result : Result ℕ Stop)
+      → Finishes (listed plan each state) ga gb result
       → LeavesState disk plan held → Keeps (PassesTurns (closing_turns drain state) d held) plan disk disk ga gb
   quiet_keeps true off disk ga gb result finishes leaves = absurd cc
   quiet_keeps false off disk ga gb result finishes leaves = listed_keeps disk ga gb result finishes leaves
@@ -65,10 +68,12 @@ module _ (plan : Plan) (each : Bool) (line : ℕ) (state : State) (d : Doing) (e
   quiet_laid false off first checkpoint disk laid = subst (λ (s : State). LeavesLaid first checkpoint disk plan s) (sym (held_listed [] d held)) laid
 
   -- where all was drained
-  pub drained_laid : (drain : Bool) → drain ≡ true → (first checkpoint : ℕ) (disk : History) → LeavesLaid first checkpoint disk plan (held_behind (drains_of state) d held)
+  pub drained_laid : (drain : Bool) → drain ≡ true → (first checkpoint : ℕ) (disk : History)
+      → LeavesLaid first checkpoint disk plan (held_behind (drains_of state) d held)
       → LeavesLaid first checkpoint disk plan (held_behind (closing_turns drain state) d held)
   drained_laid false on first checkpoint disk laid = absurd cc
-  drained_laid true on first checkpoint disk laid = subst (λ (s : State). LeavesLaid first checkpoint disk plan s) (sym (held_listed (drains_of state) d held)) laid
+  drained_laid true on first checkpoint disk laid = subst (λ (s : State). LeavesLaid first checkpoint disk plan s)
+      (sym (held_listed (drains_of state) d held)) laid
 
   pub drained_stop : (drain : Bool) → drain ≡ true → (a b : History) (ga gb : Option (List ℕ)) → Keeps (PassesTurns (drains_of state) d held) plan a b ga gb
       → Keeps (PassesTurns (closing_turns drain state) d held) plan a b ga gb
@@ -77,16 +82,19 @@ module _ (plan : Plan) (each : Bool) (line : ℕ) (state : State) (d : Doing) (e
 
 module _ (plan : Plan) (each : Bool) (line : ℕ) (state : State) (d : Doing) (end : IsEnd plan each line state d) (held kept : State) where
   pub drained_keeps : (drain : Bool) → drain ≡ true → (next : State) (a b : History) (ga gb gc : Option (List ℕ)) (result : Result ℕ Stop)
-      → IsGoing next (drains plan each line state) ga gb → Finishes (listed plan each next) gb gc result → held_behind (drains_of state) d held ≡ kept → LeavesState b plan kept
+      → IsGoing next (drains plan each line state) ga gb → Finishes (listed plan each next) gb gc result → held_behind (drains_of state) d held ≡ kept
+      → LeavesState b plan kept
       → Keeps (PassesTurns (drains_of state) d held) plan a b ga gb → Keeps (PassesTurns (closing_turns drain state) d held) plan a b ga gc
   drained_keeps false on next a b ga gb gc result goes finishes is leaves k = absurd cc
   drained_keeps true on next a b ga gb gc result goes finishes is leaves k =
       let Next : Doing = record d { state = next } in
       let went = going_is (drains plan each line state) next ga gb goes in
-      let printed_is : over on_turn (drains_of state) d ≡ Goes went.0 Next = drains_are plan each line state d end ∙ ap (λ (c : Course State). as_doing d c) went.1.0 in
+      let printed_is : over on_turn (drains_of state) d ≡ Goes went.0 Next = drains_are plan each line state d end
+      ∙ ap (λ (c : Course State). as_doing d c) went.1.0 in
       let end_next : IsEnd plan each line next Next = record { plan_is = end.plan_is; each_is = end.each_is; line_is = end.line_is; state_is = refl } in
       keeps_append on_turn held_then plan (drains_of state) (Listed ∷ []) d held Next went.0 a b b ga gb gc printed_is went.1.1 k
-      (subst (λ (s : State). Keeps (PassesTurns (Listed ∷ []) Next s) plan b b gb gc) (sym is) (listed_keeps plan each line next Next end_next kept b gb gc result finishes leaves))
+      (subst (λ (s : State). Keeps (PassesTurns (Listed ∷ []) Next s) plan b b gb gc) (sym is)
+      (listed_keeps plan each line next Next end_next kept b gb gc result finishes leaves))
 
 -- ---- the end of the input
 
@@ -95,7 +103,8 @@ module _ (d : Doing) (held : State) (steps : List Turn) where
     closes_on : on_turn d Close ≡ Goes [] (record d { place = q })
     closes_on = ap (λ (r : Result Place RefusalKind). on_close d r) is
 
-    pub close_keeps : (plan : Plan) (a b : History) (ga gb : Option (List ℕ)) → LeavesState a plan held → Keeps (PassesTurns steps (record d { place = q }) held) plan a b ga gb
+    pub close_keeps : (plan : Plan) (a b : History) (ga gb : Option (List ℕ)) → LeavesState a plan held
+        → Keeps (PassesTurns steps (record d { place = q }) held) plan a b ga gb
         → Keeps (PassesTurns (Close ∷ steps) d held) plan a b ga gb
     close_keeps plan a b ga gb leaves k =
         keeps_on on_turn held_then plan Close steps d (record d { place = q }) held [] a a b ga ga gb closes_on (Appends-nil ga)
@@ -107,7 +116,8 @@ module _ (d : Doing) (held : State) (steps : List Turn) where
         ap (λ (c : Course Doing). held_by_step on_turn held_then d held (held_over on_turn held_then steps) c) closes_on
         ∙ ap (λ (s : State). held_behind steps (record d { place = q }) s) (held_still held d (record d { place = q }) refl)
 
-    pub close_laid : (first checkpoint : ℕ) (disk : History) (plan : Plan) → LeavesLaid first checkpoint disk plan (held_behind steps (record d { place = q }) held)
+    pub close_laid : (first checkpoint : ℕ) (disk : History) (plan : Plan)
+        → LeavesLaid first checkpoint disk plan (held_behind steps (record d { place = q }) held)
         → LeavesLaid first checkpoint disk plan (held_behind (Close ∷ steps) d held)
     close_laid first checkpoint disk plan laid = subst (λ (s : State). LeavesLaid first checkpoint disk plan s) (sym close_held) laid
 
@@ -115,7 +125,8 @@ module _ (d : Doing) (held : State) (steps : List Turn) where
     stops_on : on_turn d Close ≡ Stops (refused_after d.place.lines kind)
     stops_on = ap (λ (r : Result Place RefusalKind). on_close d r) is
 
-    pub refused_keeps : (plan : Plan) (disk : History) (ga gb : Option (List ℕ)) → AppendsFront ga gb (refused_after d.place.lines kind) → LeavesState disk plan held
+    pub refused_keeps : (plan : Plan) (disk : History) (ga gb : Option (List ℕ)) → AppendsFront ga gb (refused_after d.place.lines kind)
+        → LeavesState disk plan held
         → Keeps (PassesTurns (Close ∷ steps) d held) plan disk disk ga gb
     refused_keeps plan disk ga gb front leaves =
         keeps_cut on_turn held_then plan Close steps d held disk disk ga gb

@@ -33,11 +33,13 @@ use Rattle.run_commands.proofs.Standing.{consistent_with}
 
 -- ---- a row
 
-pub put_state : (b : Base) (key : Key) (row : Cells) → IsHead b → state_in (put_in b key row) ≡ record (state_in b) { rows = fin.insert (state_in b).rows key row }
+pub put_state : (b : Base) (key : Key) (row : Cells) → IsHead b
+    → state_in (put_in b key row) ≡ record (state_in b) { rows = fin.insert (state_in b).rows key row }
 put_state (base.Rows tables config) key row h = refl
 put_state (base.Runs live) key row h = absurd h
 
-put_of : (h : Head) (calls : List Call) (b : Base) (key : Key) (row : Cells) → IsHead b → IsReadyWith h (λ plan. Fits plan.tables key row) → IsOf h calls b → IsOf h calls (put_in b key row)
+put_of : (h : Head) (calls : List Call) (b : Base) (key : Key) (row : Cells) → IsHead b → IsReadyWith h (λ plan. Fits plan.tables key row) → IsOf h calls b
+    → IsOf h calls (put_in b key row)
 put_of head.Unnamed calls b key row before fits of = absurd fits
 put_of (head.Text text) calls b key row before fits of = absurd fits
 put_of (head.Ready plan) calls (base.Rows tables config) key row before fits of = (of.0, consistent_with plan.tables tables key row of.1 fits)
@@ -75,7 +77,8 @@ put_stands place work next key row may calls b replicas each =
 
 -- ---- a call
 
-call_of : (h : Head) (calls : List Call) (call : Call) (b : Base) → IsReadyWith h (λ plan. takes plan call ≡ true) → IsOf h calls b → IsOf h (calls ++ call ∷ []) b
+call_of : (h : Head) (calls : List Call) (call : Call) (b : Base) → IsReadyWith h (λ plan. takes plan call ≡ true) → IsOf h calls b
+    → IsOf h (calls ++ call ∷ []) b
 call_of head.Unnamed calls call b fits of = absurd fits
 call_of (head.Text text) calls call b fits of = absurd fits
 call_of (head.Ready plan) calls call b fits of =
@@ -122,7 +125,8 @@ set_listed each (base.Rows tables config) rule percent h = tt
 set_listed each (base.Runs live) rule percent h = h
 
 pub set_stands : (place : Place) (work next : Work) (rule : Rule) (percent : ℕ) → MaySet place work percent
-    → next.calls.items ≡ work.calls.items → next.base ≡ set_in work.base rule percent → next.replicas ≡ work.replicas → next.each ≡ work.each → Stands place next
+    → next.calls.items ≡ work.calls.items → next.base ≡ set_in work.base rule percent → next.replicas ≡ work.replicas → next.each ≡ work.each
+    → Stands place next
 set_stands place work next rule percent may calls b replicas each =
     let h = may.stands.holds in
     record {
@@ -146,14 +150,16 @@ no_calls_of head.Unnamed calls b of = (refl, of.1)
 no_calls_of (head.Text text) calls b of = (refl, of.1)
 no_calls_of (head.Ready plan) calls b of = (All-nil (λ (call : Call). takes plan call ≡ true), of.1)
 
-pub close_stands : (place : Place) (work next : Work) → MayClose place work → next.calls.items ≡ [] → next.base ≡ work.base → next.replicas ≡ work.replicas → next.each ≡ work.each
+pub close_stands : (place : Place) (work next : Work) → MayClose place work → next.calls.items ≡ [] → next.base ≡ work.base → next.replicas ≡ work.replicas
+    → next.each ≡ work.each
     → Stands place next
 close_stands place work next may none b replicas each =
     let h = may.holds in
     record {
       holds = record {
         mode_kept = h.mode_kept;
-        of_head = subst (λ (l : List Call). IsOf place.head l next.base) (sym none) (subst (λ (x : Base). IsOf place.head [] x) (sym b) (no_calls_of place.head work.calls.items work.base h.of_head));
+        of_head = subst (λ (l : List Call). IsOf place.head l next.base) (sym none)
+            (subst (λ (x : Base). IsOf place.head [] x) (sym b) (no_calls_of place.head work.calls.items work.base h.of_head));
         ended = subst (λ (x : Base). HasEnded place.rows_ended x) (sym b) h.ended;
         bounded = subst IsBounded (sym b) h.bounded;
         listed = rw each (subst (λ (x : Base). IsListed work.each x) (sym b) h.listed);
@@ -177,7 +183,8 @@ fit_head (head.Ready plan) calls b ready of = of.0
 
 pub may_serve : (place : Place) (work : Work) (live : Live) → MayRun place work → IsBegun place.head work.base work.each live → MayServe live work.calls.items
 may_serve place work live may begun = record {
-  fit = subst (λ (plan : Plan). All (λ call. takes plan call ≡ true) work.calls.items) (sym begun.plan) (fit_head place.head work.calls.items work.base may.ready may.holds.of_head);
+  fit = subst (λ (plan : Plan). All (λ call. takes plan call ≡ true) work.calls.items) (sym begun.plan)
+      (fit_head place.head work.calls.items work.base may.ready may.holds.of_head);
   room = subst (λ (s : State). length s.waiting + length work.calls.items ≤ MOST_REQUESTS) (sym begun.state) may.room;
   batches = subst (λ (s : State). s.batches < GREATEST_NUMBER) (sym begun.state) may.batches;
   requests = subst (λ (s : State). s.requests + length work.calls.items ≤ GREATEST_NUMBER) (sym begun.state) may.requests;
@@ -190,13 +197,15 @@ ran_of head.Unnamed live ready e = absurd ready
 ran_of (head.Text text) live ready e = absurd ready
 ran_of (head.Ready plan) live ready e = (All-nil (λ (call : Call). takes plan call ≡ true), e)
 
-pub run_stands : (place : Place) (work next : Work) (before after : Live) → MayRun place work → IsBegun place.head work.base work.each before → IsNext before work.calls.items after
+pub run_stands : (place : Place) (work next : Work) (before after : Live) → MayRun place work → IsBegun place.head work.base work.each before
+    → IsNext before work.calls.items after
     → next.calls.items ≡ [] → next.base ≡ base.Runs after → next.replicas ≡ work.replicas → next.each ≡ work.each → Stands place next
 run_stands place work next before after may begun is none b replicas each =
     record {
       holds = record {
         mode_kept = may.holds.mode_kept;
-        of_head = subst (λ (l : List Call). IsOf place.head l next.base) (sym none) (subst (λ (x : Base). IsOf place.head [] x) (sym b) (ran_of place.head after may.ready (is.plan ∙ begun.plan)));
+        of_head = subst (λ (l : List Call). IsOf place.head l next.base) (sym none)
+            (subst (λ (x : Base). IsOf place.head [] x) (sym b) (ran_of place.head after may.ready (is.plan ∙ begun.plan)));
         ended = subst (λ (x : Base). HasEnded place.rows_ended x) (sym b) may.rows;
         bounded = subst IsBounded (sym b) is.runnable;
         listed = rw each (subst (λ (x : Base). IsListed work.each x) (sym b) (is.each ∙ begun.listed));
@@ -238,14 +247,16 @@ module _ (place : Place) (work : Work) (before : Live) (begun : IsBegun place.he
 
 -- ---- over a database that runs
 
-pub resume_stands : (plan : Plan) (work : Work) (live : Live) → plan ≡ plan_of live → work.calls.items ≡ [] → work.base ≡ base.Runs live → work.each ≡ live.each → IsRunnable live
+pub resume_stands : (plan : Plan) (work : Work) (live : Live) → plan ≡ plan_of live → work.calls.items ≡ [] → work.base ≡ base.Runs live
+    → work.each ≡ live.each → IsRunnable live
     → (1 ≤ work.replicas) × (work.replicas ≤ MOST_REPLICAS) → Stands (start_with mode.Run plan) work
 resume_stands plan work live of none b each runnable engines =
     let place = start_with mode.Run plan in
     record {
       holds = record {
         mode_kept = refl;
-        of_head = subst (λ (l : List Call). IsOf place.head l work.base) (sym none) (subst (λ (x : Base). IsOf place.head [] x) (sym b) (All-nil (λ (call : Call). takes plan call ≡ true), sym of));
+        of_head = subst (λ (l : List Call). IsOf place.head l work.base) (sym none)
+            (subst (λ (x : Base). IsOf place.head [] x) (sym b) (All-nil (λ (call : Call). takes plan call ≡ true), sym of));
         ended = subst (λ (x : Base). HasEnded place.rows_ended x) (sym b) refl;
         bounded = subst IsBounded (sym b) runnable;
         listed = subst (λ (x : Base). IsListed work.each x) (sym b) (sym each);

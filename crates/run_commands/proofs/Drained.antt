@@ -51,7 +51,8 @@ module _ (plan : Plan) (each : Bool) (line m : ℕ) (state : State) where
       → ServesCut (cond b (Goes [] state) (goes_on (drained plan each line m) c)) now new why
   cut_by true c now new why off h = absurd cc
   cut_by false (Goes bytes s) now new why off h =
-      cut_longer (Goes bytes s) (behind bytes (drained plan each line m s)) (printed (drained plan each line m s)) now new why (printed_on bytes (drained plan each line m s)) (λ stopped. absurd stopped) h
+      cut_longer (Goes bytes s) (behind bytes (drained plan each line m s)) (printed (drained plan each line m s)) now new why
+      (printed_on bytes (drained plan each line m s)) (λ stopped. absurd stopped) h
   cut_by false (Stops bytes) now new why off h = h
 
   pub drain_cut : (now new : Option (List ℕ)) (why : Stop) → (length state.waiting == 0) ≡ false → ServesCut (one_drained plan each line state) now new why
@@ -63,9 +64,11 @@ module _ (plan : Plan) (each : Bool) (line m : ℕ) (state : State) where
   none_by false c now on = absurd cc
 
 -- where nothing waits, nothing is printed
-pub quiet : (plan : Plan) (each : Bool) (line m : ℕ) (state : State) (now : Option (List ℕ)) → (length state.waiting == 0) ≡ true → Serves (drained plan each line m state) now now (Ok state)
+pub quiet : (plan : Plan) (each : Bool) (line m : ℕ) (state : State) (now : Option (List ℕ)) → (length state.waiting == 0) ≡ true
+    → Serves (drained plan each line m state) now now (Ok state)
 quiet plan each line zero state now none = (refl, Appends-nil now)
-quiet plan each line (suc m) state now none = none_by plan each line m state (length state.waiting == 0) (goes_on (drained plan each line m) (one_drained plan each line state)) now none
+quiet plan each line (suc m) state now none = none_by plan each line m state (length state.waiting == 0)
+    (goes_on (drained plan each line m) (one_drained plan each line state)) now none
 
 -- ---- the loop
 
@@ -81,7 +84,8 @@ module _ (start live : Live) (line n i : ℕ) (like : IsLike start live) (within
   next_leads next now mid h =
       let here = subst (λ (plan : Plan). Serves (One plan live.each) now mid (Ok next)) like.plan h in
       let there = subst (λ (each : Bool). Serves (One (plan_of start) each) now mid (Ok next)) like.each here in
-      subst (λ (k : ℕ). Leads (drained (plan_of start) start.each line (n - (i + 1)) next) mid (drained (plan_of start) start.each line k (state_of live)) now) (sym (fuel n i within))
+      subst (λ (k : ℕ). Leads (drained (plan_of start) start.each line (n - (i + 1)) next) mid (drained (plan_of start) start.each line k (state_of live)) now)
+      (sym (fuel n i within))
       (drain_on (plan_of start) start.each line (n - (i + 1)) (state_of live) next now mid some there)
 
   pub next_cut : (now new : Option (List ℕ)) (why : Stop) → ServesCut (one_drained (plan_of live) live.each line (state_of live)) now new why
@@ -115,10 +119,12 @@ module _ (live : Live) (calls : List Call) (none : calls ≡ []) where
   Batch handed = Goes (batch_text (plan_of live) live.each (state_of live) handed) (step (run_of (plan_of live)) (state_of live) handed)
 
   -- what it comes to is the next batch, without calls
-  pub one_is : (line : ℕ) → (state_of live).batches < GREATEST_NUMBER → one_drained (plan_of live) live.each line (state_of live) ≡ Goes (next_text live calls) (next_state live calls)
+  pub one_is : (line : ℕ) → (state_of live).batches < GREATEST_NUMBER
+      → one_drained (plan_of live) live.each line (state_of live) ≡ Goes (next_text live calls) (next_state live calls)
   one_is line below =
       let test : nat_lt (state_of live).batches GREATEST_NUMBER ≡ true = grind (arith, below) in
-      cond-true (nat_lt (state_of live).batches GREATEST_NUMBER) (Batch (no_calls (state_of live))) (Refused line) test ∙ ap (λ (q : Handed). Batch q) (sym handed_none)
+      cond-true (nat_lt (state_of live).batches GREATEST_NUMBER) (Batch (no_calls (state_of live))) (Refused line) test
+      ∙ ap (λ (q : Handed). Batch q) (sym handed_none)
 
   pub fewer_next : (next : Live) → IsNext live calls next → 0 < length (state_of live).waiting → length (state_of next).waiting < length (state_of live).waiting
   fewer_next next is some =
@@ -127,7 +133,8 @@ module _ (live : Live) (calls : List Call) (none : calls ≡ []) where
       subst (λ (s : State). length s.waiting < length (state_of live).waiting) same (fewer (run_of (plan_of live)) (state_of live) some)
 
 -- where the numbers of batches are used up
-pub one_refused : (plan : Plan) (each : Bool) (line : ℕ) (state : State) → GREATEST_NUMBER ≤ state.batches → one_drained plan each line state ≡ Stops (refusal_text (record { line = line; kind = Numbers }))
+pub one_refused : (plan : Plan) (each : Bool) (line : ℕ) (state : State) → GREATEST_NUMBER ≤ state.batches
+    → one_drained plan each line state ≡ Stops (refusal_text (record { line = line; kind = Numbers }))
 one_refused plan each line state past =
     let test : nat_lt state.batches GREATEST_NUMBER ≡ false = grind (arith, past) in
     cond-false (nat_lt state.batches GREATEST_NUMBER) (Goes (batch_text plan each state (no_calls state)) (step (run_of plan) state (no_calls state)))

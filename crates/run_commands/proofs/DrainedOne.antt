@@ -40,7 +40,8 @@ not_refused delivery.NoMemory s k = λ e. absurd (let no : stop.NoMemory ≡ sto
 not_refused delivery.NoWrite s k = λ e. absurd (let no : stop.NoWrite ≡ stop.Refused = sym k ∙ e in cc)
 not_refused delivery.NoDisk s k = λ e. absurd (let no : stop.NoDisk ≡ stop.Refused = sym k ∙ e in cc)
 
-module _ (live : Live) (calls : List Call) (none : calls ≡ []) (line : ℕ) (below : (state_of live).batches < GREATEST_NUMBER) (ga gb : Option (List ℕ)) (r : Option Live × Delivery)
+module _ (live : Live) (calls : List Call) (none : calls ≡ []) (line : ℕ) (below : (state_of live).batches < GREATEST_NUMBER) (ga gb : Option (List ℕ))
+    (r : Option Live × Delivery)
     (tells : Tells (next_text live calls) (IsNext live calls) ga gb r) where
   pub one_told : (next : Live) → r.0 ≡ Some next → IsGoing (state_of next) (one_drained (plan_of live) live.each line (state_of live)) ga gb
   one_told next e =
@@ -83,7 +84,8 @@ module _ (live : Live) (calls : List Call) (none : calls ≡ []) (line : ℕ) (b
 
       pub none_next : live.store ≡ None → next.store ≡ None
       none_next off =
-          store_is ∙ ap (λ (s : Option Kept). turned_by (next_due live calls) (next_state live calls) (option_map (with_logged (plan_of live) (next_batch live calls)) s)) off
+          store_is ∙ ap (λ (s : Option Kept). turned_by (next_due live calls) (next_state live calls)
+          (option_map (with_logged (plan_of live) (next_batch live calls)) s)) off
 
       pub holds_next : (first : ℕ) (old new : History)
           → IfTold r (λ (n : Live). (c : Checkpoint) (later : List Batch) → Holds old (plan_of live) (stored_state live) live.store c later
@@ -93,7 +95,8 @@ module _ (live : Live) (calls : List Call) (none : calls ≡ []) (line : ℕ) (b
           turned_next first live next calls new next_here store_is
           (turned first live calls old new next.store h
           (told_here (λ (n : Live). (c : Checkpoint) (later : List Batch) → Holds old (plan_of live) (stored_state live) live.store c later
-          → HoldsTurned (next_due live calls) new (plan_of live) (next_state live calls) n.store c (added later live.config.rule live.config.fallback calls)) turns))
+          → HoldsTurned (next_due live calls) new (plan_of live) (next_state live calls) n.store c (added later live.config.rule live.config.fallback calls))
+          turns))
 
   -- ---- what is kept
 
@@ -103,10 +106,12 @@ module _ (live : Live) (calls : List Call) (none : calls ≡ []) (line : ℕ) (b
     pub keeps_told : (next : Live) → r.0 ≡ Some next → Keeps (PassesTurns (Drain ∷ []) d (stored_state live)) (plan_of live) a b ga gb
     keeps_told next e =
         let whole = (told_all (next_text live calls) (IsNext live calls) ga gb r next e tells).0 in
-        drain_told (plan_of live) live.each line (state_of live) d end some (stored_state live) (next_state live calls) (next_text live calls) (one_is live calls none line below) refl a b ga gb
+        drain_told (plan_of live) live.each line (state_of live) d end some (stored_state live) (next_state live calls) (next_text live calls)
+        (one_is live calls none line below) refl a b ga gb
         whole all (given (inl (told_is (next_text live calls) (IsNext live calls) ga gb r next e tells)))
 
     pub keeps_cut : r.0 ≡ None → Keeps (PassesTurns (Drain ∷ []) d (stored_state live)) (plan_of live) a b ga gb
     keeps_cut e =
-        drain_cut (plan_of live) live.each line (state_of live) d end some (stored_state live) (next_state live calls) (next_text live calls) (one_is live calls none line below) refl a b ga gb
+        drain_cut (plan_of live) live.each line (state_of live) d end some (stored_state live) (next_state live calls) (next_text live calls)
+        (one_is live calls none line below) refl a b ga gb
         (cut_front (next_text live calls) (IsNext live calls) ga gb r e tells) all (λ other. given (inr other))

@@ -37,7 +37,8 @@ disk_on (Some store) None a b c none le h = absurd h
 disk_on (Some store) (Some now) a b c none le h = rose_on a b c le h
 
 -- a fault of a later call is one of all
-pub cause_on : (start now : Option Kept) (why : Stop) (sa sb sc da db dc : ℕ) → (start ≡ None → now ≡ None) → sa ≤ sb → da ≤ db → IsCause why (Rose sb sc) (IsSomeAnd now (λ _. Rose db dc))
+pub cause_on : (start now : Option Kept) (why : Stop) (sa sb sc da db dc : ℕ) → (start ≡ None → now ≡ None) → sa ≤ sb → da ≤ db
+    → IsCause why (Rose sb sc) (IsSomeAnd now (λ _. Rose db dc))
     → IsCause why (Rose sa sc) (IsSomeAnd start (λ _. Rose da dc))
 cause_on start now stop.Refused sa sb sc da db dc none s d h = tt
 cause_on start now stop.NoMemory sa sb sc da db dc none s d h = tt
@@ -47,7 +48,8 @@ cause_on start now stop.NoRead sa sb sc da db dc none s d h = absurd h
 
 -- ---- the first turn of those that are left
 
-pub going_is : (c : Course State) (next : State) (ga gb : Option (List ℕ)) → IsGoing next c ga gb → (bytes : List ℕ) × ((c ≡ Goes bytes next) × Appends ga gb bytes)
+pub going_is : (c : Course State) (next : State) (ga gb : Option (List ℕ)) → IsGoing next c ga gb
+    → (bytes : List ℕ) × ((c ≡ Goes bytes next) × Appends ga gb bytes)
 going_is (Goes bytes s) next ga gb h = (bytes, (ap (λ (q : State). Goes bytes q) (sym h.0), h.1))
 going_is (Stops bytes) next ga gb h = absurd h
 
@@ -63,7 +65,8 @@ module _ (start live : Live) (line n i : ℕ) (d : Doing) (end : IsEnd (plan_of 
   here_end = record { plan_is = end.plan_is ∙ sym like.plan; each_is = end.each_is ∙ sym like.each; line_is = end.line_is; state_is = refl }
 
   -- nothing more is done
-  pub keeps_here : (first : ℕ) (steps : List Turn) (disk : History) (g : Option (List ℕ)) → HoldsLive first disk live → Keeps (PassesTurns steps Here (stored_state live)) (plan_of start) disk disk g g
+  pub keeps_here : (first : ℕ) (steps : List Turn) (disk : History) (g : Option (List ℕ)) → HoldsLive first disk live
+      → Keeps (PassesTurns steps Here (stored_state live)) (plan_of start) disk disk g g
   keeps_here first steps disk g h =
       subst (λ (p : Plan). Keeps (PassesTurns steps Here (stored_state live)) p disk disk g g) like.plan
       (keeps_none on_turn held_then (plan_of live) steps Here (stored_state live) disk g (Appends-nil g)
@@ -82,7 +85,8 @@ module _ (start live : Live) (line n i : ℕ) (d : Doing) (end : IsEnd (plan_of 
     drain_here : on_drain Here ≡ as_doing Here (one_drained (plan_of live) live.each line (state_of live))
     drain_here = drain_is (plan_of live) live.each line (state_of live) Here here_end some
 
-    module _ (next : Live) (ga gb : Option (List ℕ)) (counted : (state_of next).batches ≡ (state_of live).batches + 1) (told : stored_state next ≡ state_of next)
+    module _ (next : Live) (ga gb : Option (List ℕ)) (counted : (state_of next).batches ≡ (state_of live).batches + 1)
+        (told : stored_state next ≡ state_of next)
         (serves : IsGoing (state_of next) (one_drained (plan_of live) live.each line (state_of live)) ga gb) where
       abbrev Next : Doing
       Next = record d { state = state_of next }
@@ -91,7 +95,8 @@ module _ (start live : Live) (line n i : ℕ) (d : Doing) (end : IsEnd (plan_of 
       Printed = (going_is (one_drained (plan_of live) live.each line (state_of live)) (state_of next) ga gb serves).0
 
       next_is : on_drain Here ≡ Goes Printed Next
-      next_is = drain_here ∙ ap (λ (c : Course State). as_doing Here c) (going_is (one_drained (plan_of live) live.each line (state_of live)) (state_of next) ga gb serves).1.0
+      next_is = drain_here ∙ ap (λ (c : Course State). as_doing Here c)
+          (going_is (one_drained (plan_of live) live.each line (state_of live)) (state_of next) ga gb serves).1.0
 
       next_held : held_then (stored_state live) Here Next ≡ stored_state next
       next_held = held_after (stored_state live) Here Next counted ∙ sym told
@@ -104,7 +109,8 @@ module _ (start live : Live) (line n i : ℕ) (d : Doing) (end : IsEnd (plan_of 
           ∙ ap (λ (steps : List Turn). held_behind steps Here (stored_state live)) (sym turns_next)
 
       pub keeps_next : (a b c : History) (gc : Option (List ℕ)) → Keeps (PassesTurns (Drain ∷ []) Here (stored_state live)) (plan_of live) a b ga gb
-          → Keeps (PassesTurns Rest Next (stored_state next)) (plan_of start) b c gb gc → Keeps (PassesTurns (replicate (n - i) Drain) Here (stored_state live)) (plan_of start) a c ga gc
+          → Keeps (PassesTurns Rest Next (stored_state next)) (plan_of start) b c gb gc
+          → Keeps (PassesTurns (replicate (n - i) Drain) Here (stored_state live)) (plan_of start) a c ga gc
       keeps_next a b c gc k l =
           subst (λ (steps : List Turn). Keeps (PassesTurns steps Here (stored_state live)) (plan_of start) a c ga gc) (sym turns_next)
           (keeps_on on_turn held_then (plan_of start) Drain Rest Here Next (stored_state live) Printed a b c ga gb gc next_is
@@ -154,7 +160,8 @@ module _ (start : Live) (line : ℕ) (d : Doing) (end : IsEnd (plan_of start) st
       ∙ ap (λ (x : Doing). held_behind (drains_of (state_of start)) x (stored_state start)) doing_init
 
   pub keeps_init : (a b : History) (ga gb : Option (List ℕ))
-      → Keeps (PassesTurns (replicate (length (state_of start).waiting - 0) Drain) (record d { state = state_of start }) (stored_state start)) (plan_of start) a b ga gb
+      → Keeps (PassesTurns (replicate (length (state_of start).waiting - 0) Drain) (record d { state = state_of start }) (stored_state start))
+      (plan_of start) a b ga gb
       → Keeps (PassesTurns (drains_of (state_of start)) d (stored_state start)) (plan_of start) a b ga gb
   keeps_init a b ga gb k =
       subst (λ (x : Doing). Keeps (PassesTurns (drains_of (state_of start)) x (stored_state start)) (plan_of start) a b ga gb) doing_init
@@ -163,7 +170,8 @@ module _ (start : Live) (line : ℕ) (d : Doing) (end : IsEnd (plan_of start) st
 
 -- ---- what a disk holds of a database that stands further on
 
-pub laid_here : (first : ℕ) (start live : Live) (disk : History) → IsLike start live → HoldsLive first disk live → LeavesLaid first start.checkpoint disk (plan_of start) (stored_state live)
+pub laid_here : (first : ℕ) (start live : Live) (disk : History) → IsLike start live → HoldsLive first disk live
+    → LeavesLaid first start.checkpoint disk (plan_of start) (stored_state live)
 laid_here first start live disk like h =
     subst (λ (n : ℕ). LeavesLaid first n disk (plan_of start) (stored_state live)) like.checkpoint
     (subst (λ (p : Plan). LeavesLaid first live.checkpoint disk p (stored_state live)) like.plan

@@ -22,9 +22,11 @@ use Rattle.run_commands.specs.declared.bases.Base.{Base}
 use Rattle.run_commands.specs.declared.bases.Base.TheVariants as base
 
 module _ {R : Type 0} (on_end : R → Out) (c : Course R) where
-  pub ended_by : (r : R) (old mid new : Option (List ℕ)) (result : Result ℕ Stop) → Serves c old mid (Ok r) → result ≢ Err stop.NoRead → Finishes (on_end r) mid new result
+  pub ended_by : (r : R) (old mid new : Option (List ℕ)) (result : Result ℕ Stop) → Serves c old mid (Ok r) → result ≢ Err stop.NoRead
+      → Finishes (on_end r) mid new result
       → Finishes (ended on_end c) old new result
-  ended_by r old mid new result h read last = (completes_on on_end (λ (text : List ℕ). c) (λ (text : List ℕ). c) (Some []) None old mid new r result (h, tt) read last).0
+  ended_by r old mid new result h read last =
+      (completes_on on_end (λ (text : List ℕ). c) (λ (text : List ℕ). c) (Some []) None old mid new r result (h, tt) read last).0
 
   pub ended_cut : (old new : Option (List ℕ)) (why : Stop) → ServesCut c old new why → Finishes (ended on_end c) old new (Err why)
   ended_cut old new stop.Refused h = (completes_cut on_end (λ (text : List ℕ). c) (λ (text : List ℕ). c) (Some []) None old new stop.Refused (h, tt)).0
@@ -34,20 +36,24 @@ module _ {R : Type 0} (on_end : R → Out) (c : Course R) where
   ended_cut old new stop.NoRead h = absurd h
 
 module _ (drain : Bool) (plan : Plan) (each : Bool) (line : ℕ) (state : State) where
-  drained_if : (b : Bool) → b ≡ true → (r : State) (old mid new : Option (List ℕ)) (result : Result ℕ Stop) → Serves (drains plan each line state) old mid (Ok r) → result ≢ Err stop.NoRead
+  drained_if : (b : Bool) → b ≡ true → (r : State) (old mid new : Option (List ℕ)) (result : Result ℕ Stop)
+      → Serves (drains plan each line state) old mid (Ok r) → result ≢ Err stop.NoRead
       → Finishes (listed plan each r) mid new result → Finishes (drained b plan each line state) old new result
   drained_if true on r old mid new result h read last = ended_by (listed plan each) (drains plan each line state) r old mid new result h read last
   drained_if false on r old mid new result h read last = absurd cc
 
-  cut_if : (b : Bool) → b ≡ true → (old new : Option (List ℕ)) (why : Stop) → ServesCut (drains plan each line state) old new why → Finishes (drained b plan each line state) old new (Err why)
+  cut_if : (b : Bool) → b ≡ true → (old new : Option (List ℕ)) (why : Stop) → ServesCut (drains plan each line state) old new why
+      → Finishes (drained b plan each line state) old new (Err why)
   cut_if true on old new why h = ended_cut (listed plan each) (drains plan each line state) old new why h
   cut_if false on old new why h = absurd cc
 
-  pub drained_by : drain ≡ true → (r : State) (old mid new : Option (List ℕ)) (result : Result ℕ Stop) → Serves (drains plan each line state) old mid (Ok r) → result ≢ Err stop.NoRead
+  pub drained_by : drain ≡ true → (r : State) (old mid new : Option (List ℕ)) (result : Result ℕ Stop) → Serves (drains plan each line state) old mid (Ok r)
+      → result ≢ Err stop.NoRead
       → Finishes (listed plan each r) mid new result → Finishes (drained drain plan each line state) old new result
   drained_by on r old mid new result h read last = drained_if drain on r old mid new result h read last
 
-  pub drained_cut : drain ≡ true → (old new : Option (List ℕ)) (why : Stop) → ServesCut (drains plan each line state) old new why → Finishes (drained drain plan each line state) old new (Err why)
+  pub drained_cut : drain ≡ true → (old new : Option (List ℕ)) (why : Stop) → ServesCut (drains plan each line state) old new why
+      → Finishes (drained drain plan each line state) old new (Err why)
   drained_cut on old new why h = cut_if drain on old new why h
 
 -- a database runs by the catalogue of its head, at the end too

@@ -26,7 +26,8 @@ use Rattle.script_places.specs.Places.{plan_in}
 -- ---- what is held
 
 -- what is held is what a stop now leaves
-pub holds_leave : (first checkpoint : ℕ) (disk : History) (plan : Plan) (state : State) (store : Option Kept) → HoldsState first checkpoint disk plan state store → LeavesState disk plan state
+pub holds_leave : (first checkpoint : ℕ) (disk : History) (plan : Plan) (state : State) (store : Option Kept)
+    → HoldsState first checkpoint disk plan state store → LeavesState disk plan state
 holds_leave first checkpoint disk plan state store h = held_leaves_all disk plan state store h.c h.later h.holds
 
 -- by a checkpoint that has what it has to
@@ -79,11 +80,13 @@ drain_by : (n : ℕ) (d : Doing) (c : Course State) → ((s : State) → Turns n
 drain_by n d (Goes bytes s) rest = ap (λ (q : Course Doing). behind bytes q) (rest s) ∙ as_behind d s bytes (Drained n d s)
 drain_by n d (Stops bytes) rest = refl
 
-drain_step : (n : ℕ) (d : Doing) (b : Bool) → (length d.state.waiting == 0) ≡ b → ((s : State) → Turns n (record d { state = s }) ≡ as_doing (record d { state = s }) (Drained n d s))
+drain_step : (n : ℕ) (d : Doing) (b : Bool) → (length d.state.waiting == 0) ≡ b
+    → ((s : State) → Turns n (record d { state = s }) ≡ as_doing (record d { state = s }) (Drained n d s))
     → onward (Turns n) (cond b (Goes [] d) (as_doing d (one_drained (plan_in d.place.head) d.each d.place.lines d.state)))
     ≡ as_doing d (cond b (Goes [] d.state) (goes_on (Drained n d) (one_drained (plan_in d.place.head) d.each d.place.lines d.state)))
 drain_step n d true none rest =
-    behind_nothing (Turns n d) ∙ rest d.state ∙ ap (λ (c : Course State). as_doing d c) (none_drained (plan_in d.place.head) d.each d.place.lines n d.state none)
+    behind_nothing (Turns n d) ∙ rest d.state ∙ ap (λ (c : Course State). as_doing d c)
+    (none_drained (plan_in d.place.head) d.each d.place.lines n d.state none)
 drain_step n d false some rest = drain_by n d (one_drained (plan_in d.place.head) d.each d.place.lines d.state) rest
 
 over_drains : (n : ℕ) (d : Doing) → Turns n d ≡ as_doing d (Drained n d d.state)
@@ -93,7 +96,8 @@ over_drains (suc n) d = drain_step n d (length d.state.waiting == 0) refl (λ s.
 module _ (plan : Plan) (each : Bool) (line : ℕ) (state : State) (d : Doing) (end : IsEnd plan each line state d) where
   -- what these turns print and leave is what the requests that wait come to
   pub drains_are : over on_turn (drains_of state) d ≡ as_doing d (drains plan each line state)
-  drains_are = over_drains (length state.waiting) d ∙ (λ i. as_doing d (drained (end.plan_is i) (end.each_is i) (end.line_is i) (length state.waiting) (end.state_is i)))
+  drains_are = over_drains (length state.waiting) d
+      ∙ (λ i. as_doing d (drained (end.plan_is i) (end.each_is i) (end.line_is i) (length state.waiting) (end.state_is i)))
 
   -- ---- one of them
 
@@ -105,7 +109,8 @@ module _ (plan : Plan) (each : Bool) (line : ℕ) (state : State) (d : Doing) (e
         ∙ (λ i. as_doing d (one_drained (end.plan_is i) (end.each_is i) (end.line_is i) (end.state_is i)))
 
     -- one that is refused
-    pub drain_refused : (held : State) (text : List ℕ) (disk : History) (ga gb : Option (List ℕ)) → one_drained plan each line state ≡ Stops text → AppendsFront ga gb text
+    pub drain_refused : (held : State) (text : List ℕ) (disk : History) (ga gb : Option (List ℕ)) → one_drained plan each line state ≡ Stops text
+        → AppendsFront ga gb text
         → LeavesState disk plan held → Keeps (PassesTurns (Drain ∷ []) d held) plan disk disk ga gb
     drain_refused held text disk ga gb is front leaves =
         let on : on_drain d ≡ Stops text = drain_is ∙ ap (λ (c : Course State). as_doing d c) is in
@@ -113,7 +118,8 @@ module _ (plan : Plan) (each : Bool) (line : ℕ) (state : State) (d : Doing) (e
         (λ bytes next e. absurd (let no : Stops text ≡ Goes bytes next = sym on ∙ e in cc))
         (subst (λ (c : Course Doing). AppendsFront ga gb (printed c)) (sym on) front) leaves
 
-    module _ (held after : State) (text : List ℕ) (is : one_drained plan each line state ≡ Goes text after) (counted : after.batches ≡ state.batches + 1) (a b : History)
+    module _ (held after : State) (text : List ℕ) (is : one_drained plan each line state ≡ Goes text after) (counted : after.batches ≡ state.batches + 1)
+        (a b : History)
         (ga gb : Option (List ℕ)) where
       abbrev Next : Doing
       Next = record d { state = after }
@@ -125,16 +131,20 @@ module _ (plan : Plan) (each : Bool) (line : ℕ) (state : State) (d : Doing) (e
       held_next = held_after held d Next (counted ∙ ap (λ (s : State). s.batches + 1) (sym end.state_is))
 
       -- one that was told
-      pub drain_told : Appends ga gb text → LeavesAll a b (ReopensToEither plan held after) → LeavesState b plan after → Keeps (PassesTurns (Drain ∷ []) d held) plan a b ga gb
+      pub drain_told : Appends ga gb text → LeavesAll a b (ReopensToEither plan held after) → LeavesState b plan after
+          → Keeps (PassesTurns (Drain ∷ []) d held) plan a b ga gb
       drain_told whole all leaves =
           keeps_told on_turn held_then plan Drain d Next held text drain_goes a b ga gb whole
-          (subst (λ (s : State). LeavesAll a b (ReopensToEither plan held s)) (sym held_next) all) (subst (λ (s : State). LeavesState b plan s) (sym held_next) leaves)
+          (subst (λ (s : State). LeavesAll a b (ReopensToEither plan held s)) (sym held_next) all)
+          (subst (λ (s : State). LeavesState b plan s) (sym held_next) leaves)
 
       -- one that was cut off
-      pub drain_cut : AppendsFront ga gb text → LeavesAll a b (ReopensToEither plan held after) → ((gb ≢ ga) → LeavesState b plan after) → Keeps (PassesTurns (Drain ∷ []) d held) plan a b ga gb
+      pub drain_cut : AppendsFront ga gb text → LeavesAll a b (ReopensToEither plan held after) → ((gb ≢ ga) → LeavesState b plan after)
+          → Keeps (PassesTurns (Drain ∷ []) d held) plan a b ga gb
       drain_cut front all given =
           keeps_batch on_turn held_then plan Drain d Next held text drain_goes a b ga gb front
-          (subst (λ (s : State). LeavesAll a b (ReopensToEither plan held s)) (sym held_next) all) (λ other. subst (λ (s : State). LeavesState b plan s) (sym held_next) (given other))
+          (subst (λ (s : State). LeavesAll a b (ReopensToEither plan held s)) (sym held_next) all)
+          (λ other. subst (λ (s : State). LeavesState b plan s) (sym held_next) (given other))
 
 -- ---- what is held behind them
 
@@ -142,7 +152,8 @@ module _ (plan : Plan) (each : Bool) (line : ℕ) (state : State) (d : Doing) (e
 pub none_held : (n : ℕ) (d : Doing) (held : State) → (length d.state.waiting == 0) ≡ true → held_behind (replicate n Drain) d held ≡ held
 none_held zero d held none = refl
 none_held (suc n) d held none =
-    let quiet : on_drain d ≡ Goes [] d = cond-true (length d.state.waiting == 0) (Goes [] d) (as_doing d (one_drained (plan_in d.place.head) d.each d.place.lines d.state)) none in
+    let quiet : on_drain d ≡ Goes [] d = cond-true (length d.state.waiting == 0) (Goes [] d)
+    (as_doing d (one_drained (plan_in d.place.head) d.each d.place.lines d.state)) none in
     ap (λ (c : Course Doing). held_by_step on_turn held_then d held (held_over on_turn held_then (replicate n Drain)) c) quiet
     ∙ ap (λ (s : State). held_behind (replicate n Drain) d s) (held_still held d d refl)
     ∙ none_held n d held none
@@ -150,7 +161,8 @@ none_held (suc n) d held none =
 -- the listing changes nothing
 listed_by : (steps : List Turn) (d : Doing) (held : State) (c : Course Doing)
     → ((next : Doing) (kept : State) → held_behind (steps ++ Listed ∷ []) next kept ≡ held_behind steps next kept)
-    → held_by_step on_turn held_then d held (held_over on_turn held_then (steps ++ Listed ∷ [])) c ≡ held_by_step on_turn held_then d held (held_over on_turn held_then steps) c
+    → held_by_step on_turn held_then d held (held_over on_turn held_then (steps ++ Listed ∷ [])) c ≡ held_by_step on_turn held_then d held
+    (held_over on_turn held_then steps) c
 listed_by steps d held (Goes bytes next) rest = rest next (held_then held d next)
 listed_by steps d held (Stops bytes) rest = refl
 

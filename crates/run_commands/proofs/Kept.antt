@@ -30,7 +30,13 @@ module _ (plan : Plan) where
       → Keeps P plan a b ga gb → Keeps Q plan a b ga gb
   keeps_more P Q a b ga gb more k = record {
     images = leaves_more a b (ReopensToPassed P plan) (ReopensToPassed Q plan) k.images (passed_more P Q more);
-    exit = λ images left. let e = k.exit images left in record { state = e.state; given = e.given; passed = more e.state e.given e.passed; appends = e.appends; reopens = e.reopens };
+    exit = λ images left. let e = k.exit images left in record {
+      state = e.state;
+      given = e.given;
+      passed = more e.state e.given e.passed;
+      appends = e.appends;
+      reopens = e.reopens;
+    };
   }
 
   -- the second part begins behind these bytes
@@ -88,13 +94,15 @@ module _ {R X : Type 0} (on : R → X → Course R) (held_by : State → R → R
   one_by steps (Goes bytes next) r held t given (inr h) =
       inr (record { rest = h.rest; first = h.first; passes_on = here_in steps next (held_by held r next) t h.rest h.passes_on })
 
-  pub one_in : (x : X) (steps : List X) (r : R) (held t : State) (given : List ℕ) → Passes on held_by (x ∷ []) r held t given → Passes on held_by (x ∷ steps) r held t given
+  pub one_in : (x : X) (steps : List X) (r : R) (held t : State) (given : List ℕ) → Passes on held_by (x ∷ []) r held t given
+      → Passes on held_by (x ∷ steps) r held t given
   one_in x steps r held t given (inl h) = inl h
   one_in x steps r held t given (inr h) = inr (one_by steps (on r x) r held t given h)
 
   module _ (plan : Plan) where
     -- a step that went on, and the rest
-    pub keeps_on : (x : X) (steps : List X) (r next : R) (held : State) (bytes : List ℕ) (a b c : History) (ga gb gc : Option (List ℕ)) → on r x ≡ Goes bytes next → Appends ga gb bytes
+    pub keeps_on : (x : X) (steps : List X) (r next : R) (held : State) (bytes : List ℕ) (a b c : History) (ga gb gc : Option (List ℕ))
+        → on r x ≡ Goes bytes next → Appends ga gb bytes
         → Keeps (Passes on held_by (x ∷ []) r held) plan a b ga gb → Keeps (Passes on held_by steps next (held_by held r next)) plan b c gb gc
         → Keeps (Passes on held_by (x ∷ steps) r held) plan a c ga gc
     keeps_on x steps r next held bytes a b c ga gb gc is gives k l =
@@ -105,12 +113,15 @@ module _ {R X : Type 0} (on : R → X → Course R) (held_by : State → R → R
         (inr (record { rest = rest; first = refl; passes_on = h })))) k l
 
     -- a step that was cut off, whatever follows
-    pub keeps_cut : (x : X) (steps : List X) (r : R) (held : State) (a b : History) (ga gb : Option (List ℕ)) → Keeps (Passes on held_by (x ∷ []) r held) plan a b ga gb
+    pub keeps_cut : (x : X) (steps : List X) (r : R) (held : State) (a b : History) (ga gb : Option (List ℕ))
+        → Keeps (Passes on held_by (x ∷ []) r held) plan a b ga gb
         → Keeps (Passes on held_by (x ∷ steps) r held) plan a b ga gb
-    keeps_cut x steps r held a b ga gb k = keeps_more plan (Passes on held_by (x ∷ []) r held) (Passes on held_by (x ∷ steps) r held) a b ga gb (λ t given h. one_in x steps r held t given h) k
+    keeps_cut x steps r held a b ga gb k = keeps_more plan (Passes on held_by (x ∷ []) r held) (Passes on held_by (x ∷ steps) r held) a b ga gb
+        (λ t given h. one_in x steps r held t given h) k
 
     -- nothing is done
-    pub keeps_none : (steps : List X) (r : R) (held : State) (a : History) (g : Option (List ℕ)) → Appends g g [] → LeavesState a plan held → Keeps (Passes on held_by steps r held) plan a a g g
+    pub keeps_none : (steps : List X) (r : R) (held : State) (a : History) (g : Option (List ℕ)) → Appends g g [] → LeavesState a plan held
+        → Keeps (Passes on held_by steps r held) plan a a g g
     keeps_none steps r held a g none leaves =
         let passes = here_in steps r held held [] (record { state = refl; count = 0; front = refl }) in
         record {
@@ -158,7 +169,8 @@ module _ {R X : Type 0} (on : R → X → Course R) (held_by : State → R → R
       either_passes images (inl h) = record { state = held; given = []; passed = before_step; reopens = h }
       either_passes images (inr h) = record { state = held_by held r next; given = take 0 text; passed = in_step 0; reopens = h }
 
-      either_given : (ga gb : Option (List ℕ)) (images : ℕ → List ℕ) → Appends ga gb [] → ReopensToEither plan held (held_by held r next) images → ReopensAsGiven Step plan ga gb images
+      either_given : (ga gb : Option (List ℕ)) (images : ℕ → List ℕ) → Appends ga gb [] → ReopensToEither plan held (held_by held r next) images
+          → ReopensAsGiven Step plan ga gb images
       either_given ga gb images none (inl h) = record { state = held; given = []; passed = before_step; appends = none; reopens = h }
       either_given ga gb images none (inr h) = record { state = held_by held r next; given = take 0 text; passed = in_step 0; appends = none; reopens = h }
 
@@ -170,14 +182,16 @@ module _ {R X : Type 0} (on : R → X → Course R) (held_by : State → R → R
       exit_by : (b : History) (ga gb : Option (List ℕ)) (n : ℕ) (images : ℕ → List ℕ) → MayLeave b b.now images → Appends ga gb (take n text)
           → ((images : ℕ → List ℕ) → MayLeave b b.now images → ReopensToEither plan held (held_by held r next) images)
           → ((gb ≢ ga) → LeavesState b plan (held_by held r next)) → (gb ≢ ga) ⊎ Appends ga gb [] → ReopensAsGiven Step plan ga gb images
-      exit_by b ga gb n images left front either given (inl other) = record { state = held_by held r next; given = take n text; passed = in_step n; appends = front; reopens = given other images left }
+      exit_by b ga gb n images left front either given (inl other) =
+          record { state = held_by held r next; given = take n text; passed = in_step n; appends = front; reopens = given other images left }
       exit_by b ga gb n images left front either given (inr none) = either_given ga gb images none (either images left)
 
       pub keeps_batch : (a b : History) (ga gb : Option (List ℕ)) → AppendsFront ga gb text → LeavesAll a b (ReopensToEither plan held (held_by held r next))
           → ((gb ≢ ga) → LeavesState b plan (held_by held r next)) → Keeps Step plan a b ga gb
       keeps_batch a b ga gb front all given = record {
         images = leaves_more a b (ReopensToEither plan held (held_by held r next)) (ReopensToPassed Step plan) all either_passes;
-        exit = λ images left. exit_by b ga gb front.0 images left front.1 (λ i l. all.each b.now all.later (le_refl b.now) i l) given (given_or_none ga gb front.0 front.1);
+        exit = λ images left. exit_by b ga gb front.0 images left front.1 (λ i l. all.each b.now all.later (le_refl b.now) i l) given
+            (given_or_none ga gb front.0 front.1);
       }
 
       pub keeps_told : (a b : History) (ga gb : Option (List ℕ)) → Appends ga gb text → LeavesAll a b (ReopensToEither plan held (held_by held r next))

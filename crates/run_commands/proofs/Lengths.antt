@@ -55,29 +55,36 @@ all_one longest line h (suc k) d below = absurd (omega arith)
 room : (feed : Feed) (b : ℕ) → is_past_line feed b ≡ false → (b == 10) ≡ false → length feed.begun < feed.longest
 room feed b within other = grind (arith, common_steps, within, other)
 
-stops_within : (longest : ℕ) (past limit ends : Bool) (long size feed byte : Scan) → IsWithin longest long → IsWithin longest size → (ends ≡ true → IsWithin longest feed) → (past ≡ false → ends ≡ false → IsWithin longest byte)
+stops_within : (longest : ℕ) (past limit ends : Bool) (long size feed byte : Scan) → IsWithin longest long → IsWithin longest size
+    → (ends ≡ true → IsWithin longest feed) → (past ≡ false → ends ≡ false → IsWithin longest byte)
     → IsWithin longest (cond past long (cond limit size (cond ends feed byte)))
 stops_within longest true limit ends long size feed byte a b c d = a
 stops_within longest false true ends long size feed byte a b c d = b
 stops_within longest false false true long size feed byte a b c d = c refl
 stops_within longest false false false long size feed byte a b c d = d refl refl
 
-after_within : (done : List (List ℕ)) (feed : Feed) (bytes : List ℕ) (longest : ℕ) → feed.longest ≡ longest → length feed.begun ≤ longest → All (λ line. length line ≤ longest) done
+after_within : (done : List (List ℕ)) (feed : Feed) (bytes : List ℕ) (longest : ℕ) → feed.longest ≡ longest → length feed.begun ≤ longest
+    → All (λ line. length line ≤ longest) done
     → IsWithin longest (scan_after done feed bytes)
 after_within done feed [] longest is begun all = record { lines = all; longest_is = is; begun = begun }
 after_within done feed (b ∷ bs) longest is begun all =
     let line : length (unreturned feed.begun) ≤ longest = let few = unreturned_short feed.begun in omega arith in
-    stops_within longest (is_past_line feed b) (is_past_limit feed) (b == 10) (stopped done feed kind.Long) (stopped done feed kind.Size) (scan_after (done ++ unreturned feed.begun ∷ []) (with_feed feed) bs) (scan_after done (with_byte feed b) bs)
+    stops_within longest (is_past_line feed b) (is_past_limit feed) (b == 10) (stopped done feed kind.Long) (stopped done feed kind.Size)
+    (scan_after (done ++ unreturned feed.begun ∷ []) (with_feed feed) bs) (scan_after done (with_byte feed b) bs)
     (record { lines = all; longest_is = is; begun = begun })
     (record { lines = all; longest_is = is; begun = begun })
-    (λ ends. after_within (done ++ unreturned feed.begun ∷ []) (with_feed feed) bs longest is (omega arith) (All-append (λ l. length l ≤ longest) done (unreturned feed.begun ∷ []) all (all_one longest (unreturned feed.begun) line)))
-    (λ within other. after_within done (with_byte feed b) bs longest is (let some = room feed b within other in let more = length-append feed.begun (b ∷ []) in omega arith) all)
+    (λ ends. after_within (done ++ unreturned feed.begun ∷ []) (with_feed feed) bs longest is (omega arith)
+    (All-append (λ l. length l ≤ longest) done (unreturned feed.begun ∷ []) all (all_one longest (unreturned feed.begun) line)))
+    (λ within other. after_within done (with_byte feed b) bs longest is (let some = room feed b within other in let more = length-append feed.begun (b ∷ []) in
+    omega arith) all)
 
 pub scan_within : (feed : Feed) (bytes : List ℕ) → length feed.begun ≤ feed.longest → IsWithin feed.longest (scan feed bytes)
 scan_within feed bytes begun = after_within [] feed bytes feed.longest refl begun (λ i d below. absurd (omega arith))
 
-pub scan_short : (feed : Feed) (bytes : List ℕ) → feed.longest ≤ LONGEST_LINE → length feed.begun ≤ feed.longest → All (λ line. length line ≤ LONGEST_LINE) (scan feed bytes).lines
-scan_short feed bytes few begun = All-weaker (λ line. length line ≤ feed.longest) (λ line. length line ≤ LONGEST_LINE) (λ line h. omega arith) (scan feed bytes).lines (scan_within feed bytes begun).lines
+pub scan_short : (feed : Feed) (bytes : List ℕ) → feed.longest ≤ LONGEST_LINE → length feed.begun ≤ feed.longest
+    → All (λ line. length line ≤ LONGEST_LINE) (scan feed bytes).lines
+scan_short feed bytes few begun = All-weaker (λ line. length line ≤ feed.longest) (λ line. length line ≤ LONGEST_LINE) (λ line h. omega arith)
+    (scan feed bytes).lines (scan_within feed bytes begun).lines
 
 pub last_short : (feed : Feed) → feed.longest ≤ LONGEST_LINE → length feed.begun ≤ feed.longest → IfSome (last_line feed) (λ line. length line ≤ LONGEST_LINE)
 last_short feed few begun = by (length feed.begun == 0)
@@ -93,7 +100,8 @@ either_ok : {A : Type 0} (P : A → Type 0) (b : Bool) (x y : Result A RefusalKi
 either_ok P true x y h k = h refl
 either_ok P false x y h k = k refl
 
-then_ok : {A B : Type 0} (P : A → Type 0) (Q : B → Type 0) (f : A → Result B RefusalKind) (r : Result A RefusalKind) → IfOk r P → ((a : A) → P a → IfOk (f a) Q) → IfOk (and_then f r) Q
+then_ok : {A B : Type 0} (P : A → Type 0) (Q : B → Type 0) (f : A → Result B RefusalKind) (r : Result A RefusalKind) → IfOk r P
+    → ((a : A) → P a → IfOk (f a) Q) → IfOk (and_then f r) Q
 then_ok P Q f (Ok a) h k = k a h
 then_ok P Q f (Err why) h k = tt
 
@@ -114,7 +122,8 @@ catalog_short : (p : Place) (name : List ℕ) → IfOk (at_catalog p name) IsSho
 catalog_short p name =
     either_ok IsShortThere (not (has_catalog p.mode && is_unnamed p.head)) (Err kind.Site) _ (λ no. tt)
     (λ may. either_ok IsShortThere (is_audit p.mode && not (bytes_eq name (codes "tpcc"))) (Err kind.Name) _ (λ no. tt)
-    (λ is. either_ok IsShortThere (bytes_eq name (codes "text")) (Ok (record p { head = head.Text [] }, deed.Nothing)) (found p (builtin_named name)) (λ text. tt)
+    (λ is. either_ok IsShortThere (bytes_eq name (codes "text")) (Ok (record p { head = head.Text [] }, deed.Nothing)) (found p (builtin_named name))
+    (λ text. tt)
     (λ other. by (builtin_named name))))
   where
     by : (o : Option Plan) → IfOk (found p o) IsShortThere
@@ -126,15 +135,18 @@ row_short p table parts row = under_short p.head (λ plan. cond p.rows_ended (Er
     (λ plan is. either_ok IsShortThere p.rows_ended (Err kind.Site) (and_then (puts p) (placed_row plan table parts row)) (λ ended. tt)
     (λ open_yet. then_ok (λ r. Unit {0}) IsShortThere (puts p) (placed_row plan table parts row) (any_ok (placed_row plan table parts row)) (λ r any. tt)))
 
-calls_short : (p : Place) (plan : Plan) (call : Call) → p.head ≡ head.Ready plan → length (line_of_call plan call) ≤ LONGEST_LINE → IfOk (calls p call) IsShortThere
+calls_short : (p : Place) (plan : Plan) (call : Call) → p.head ≡ head.Ready plan → length (line_of_call plan call) ≤ LONGEST_LINE
+    → IfOk (calls p call) IsShortThere
 calls_short p plan call is few =
-    either_ok IsShortThere (nat_lt p.open_calls MOST_REQUESTS) (Ok (record p { rows_ended = true; open_calls = p.open_calls + 1 }, deed.Call call)) (Err kind.Batch)
+    either_ok IsShortThere (nat_lt p.open_calls MOST_REQUESTS) (Ok (record p { rows_ended = true; open_calls = p.open_calls + 1 }, deed.Call call))
+    (Err kind.Batch)
     (λ room. subst (λ (h : Head). length (line_of_call (plan_in h) call) ≤ LONGEST_LINE) (sym is) few) (λ full. tt)
 
 call_short : (p : Place) (proc : List ℕ) (args : List Arg) → 3 + length proc + weight arg_token args ≤ LONGEST_LINE → IfOk (at_call p proc args) IsShortThere
 call_short p proc args few = under_short p.head (λ plan. cond (has_batches p.mode) (and_then (calls p) (placed_call plan proc args)) (Err kind.Site))
     (λ plan is. either_ok IsShortThere (has_batches p.mode) (and_then (calls p) (placed_call plan proc args)) (Err kind.Site)
-    (λ may. then_ok (λ call. length (call_line plan.procs call) ≤ LONGEST_LINE) IsShortThere (calls p) (placed_call plan proc args) (placed_within plan proc args 4096 few) (λ call within. calls_short p plan call is within))
+    (λ may. then_ok (λ call. length (call_line plan.procs call) ≤ LONGEST_LINE) IsShortThere (calls p) (placed_call plan proc args)
+    (placed_within plan proc args 4096 few) (λ call within. calls_short p plan call is within))
     (λ no. tt))
 
 ends_short : (p : Place) (counts : Counts) (n : ℕ) → IfOk (ends p counts n) IsShortThere
@@ -142,14 +154,16 @@ ends_short p counts n =
     either_ok IsShortThere (nat_lt (counts.batches + 1) n) (Err (kind.Gap n (counts.batches + 1))) _ (λ gap. tt)
     (λ next. either_ok IsShortThere (nat_le n counts.batches) (Ok (closed p, deed.Keep n)) (runs p counts n) (λ before. tt)
     (λ new. either_ok IsShortThere (not (is_check p.mode) && nat_lt MOST_REQUESTS (counts.waiting + p.open_calls)) (Err kind.Batch) _ (λ full. tt)
-    (λ room. either_ok IsShortThere (nat_lt GREATEST_NUMBER n || nat_lt GREATEST_NUMBER (counts.requests + p.open_calls)) (Err kind.Numbers) (Ok (closed p, deed.Run)) (λ no. tt) (λ runs. tt))))
+    (λ room. either_ok IsShortThere (nat_lt GREATEST_NUMBER n || nat_lt GREATEST_NUMBER (counts.requests + p.open_calls)) (Err kind.Numbers)
+    (Ok (closed p, deed.Run)) (λ no. tt) (λ runs. tt))))
 
 end_short : (p : Place) (counts : Counts) (n : ℕ) → IfOk (at_end p counts n) IsShortThere
 end_short p counts n = under_short p.head (λ plan. cond (has_batches p.mode) (ends p counts n) (Err kind.Site))
     (λ plan is. either_ok IsShortThere (has_batches p.mode) (ends p counts n) (Err kind.Site) (λ may. ends_short p counts n) (λ no. tt))
 
 settings_short : (p : Place) (name : List ℕ) (percent : ℤ) → IfOk (at_settings p name percent) IsShortThere
-settings_short p name percent = under_short p.head (λ plan. cond (has_batches p.mode && p.open_calls == 0) (and_then (sets p) (placed_settings name percent)) (Err kind.Site))
+settings_short p name percent = under_short p.head (λ plan. cond (has_batches p.mode && p.open_calls == 0) (and_then (sets p) (placed_settings name percent))
+    (Err kind.Site))
     (λ plan is. either_ok IsShortThere (has_batches p.mode && p.open_calls == 0) (and_then (sets p) (placed_settings name percent)) (Err kind.Site)
     (λ may. then_ok (λ r. Unit {0}) IsShortThere (sets p) (placed_settings name percent) (any_ok (placed_settings name percent)) (λ r any. tt))
     (λ no. tt))
@@ -165,24 +179,28 @@ item_short p counts (item.Piece piece) short = tt
 item_short p counts (item.Row table parts row) short = row_short p table parts row
 item_short p counts (item.Tx proc args) short = call_short p proc args (short proc args refl)
 item_short p counts (item.End n) short = end_short p counts n
-item_short p counts item.Report short = either_ok IsShortThere (is_check p.mode && p.open_calls == 0) (Ok (record p { reports = true }, deed.Nothing)) (Err kind.Site) (λ may. tt) (λ no. tt)
+item_short p counts item.Report short = either_ok IsShortThere (is_check p.mode && p.open_calls == 0) (Ok (record p { reports = true }, deed.Nothing))
+    (Err kind.Site) (λ may. tt) (λ no. tt)
 item_short p counts (item.Settings name percent) short = settings_short p name percent
 
 piece_short : (p : Place) (text : List ℕ) (i : Item) → IfOk (within_text p text i) IsShortThere
 piece_short p text item.Skip = tt
 piece_short p text (item.Catalog name) = tt
 piece_short p text (item.Piece piece) =
-    either_ok IsShortThere (nat_lt MOST_CATALOG (length text + length piece)) (Err (kind.Catalog fault.Long)) (Ok (record p { head = head.Text (text ++ piece) }, deed.Nothing)) (λ long. tt) (λ fits. tt)
+    either_ok IsShortThere (nat_lt MOST_CATALOG (length text + length piece)) (Err (kind.Catalog fault.Long))
+    (Ok (record p { head = head.Text (text ++ piece) }, deed.Nothing)) (λ long. tt) (λ fits. tt)
 piece_short p text (item.Row table parts row) = tt
 piece_short p text (item.Tx proc args) = tt
 piece_short p text (item.End n) = tt
 piece_short p text item.Report = tt
 piece_short p text (item.Settings name percent) = tt
 
-text_line_short : (p : Place) (counts : Counts) (text : List ℕ) (line : Result Item RefusalKind) → IfOk line IsShortItem → IfOk (in_text p counts text line) IsShortThere
+text_line_short : (p : Place) (counts : Counts) (text : List ℕ) (line : Result Item RefusalKind) → IfOk line IsShortItem
+    → IfOk (in_text p counts text line) IsShortThere
 text_line_short p counts text (Ok i) short =
     either_ok IsShortThere (goes_on i) (within_text p text i) (behind_text p counts text i) (λ more. piece_short p text i)
-    (λ over. then_ok (λ ready. Unit {0}) IsShortThere (λ ready. at_item ready counts i) (read_text p text) (any_ok (read_text p text)) (λ ready any. item_short ready counts i short))
+    (λ over. then_ok (λ ready. Unit {0}) IsShortThere (λ ready. at_item ready counts i) (read_text p text) (any_ok (read_text p text))
+    (λ ready any. item_short ready counts i short))
 text_line_short p counts text (Err why) short =
     either_ok IsShortThere (is_byte why) (Err why) (and_then (λ ready. Err why) (read_text p text)) (λ byte. tt)
     (λ other. then_ok (λ ready. Unit {0}) IsShortThere (λ ready. Err why) (read_text p text) (any_ok (read_text p text)) (λ ready any. tt))
@@ -205,5 +223,6 @@ asked_short p counts line few =
     (λ none. line_short (next_line p) counts p.head (said line) (said_short line few))
 
 -- a line of a script asks for no call that is longer than a line of a log
-pub short_deed : (p next : Place) (counts : Counts) (line : List ℕ) (asks : Deed) → asked p counts line ≡ Ok (next, asks) → length line ≤ LONGEST_LINE → IsShort (plan_in next.head) asks
+pub short_deed : (p next : Place) (counts : Counts) (line : List ℕ) (asks : Deed) → asked p counts line ≡ Ok (next, asks) → length line ≤ LONGEST_LINE
+    → IsShort (plan_in next.head) asks
 short_deed p next counts line asks is few = subst (λ (r : Asked). IfOk r IsShortThere) is (asked_short p counts line few)

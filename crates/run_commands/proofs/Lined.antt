@@ -42,12 +42,14 @@ use Rattle.run_commands.proofs.Turns.{goes_to, held_one, not_both, stop_in, stop
 
 -- ---- only with a store something is held
 
-store_some : (first checkpoint : ℕ) (disk : History) (plan : Plan) (state : State) (store : Option Kept) → HoldsState first checkpoint disk plan state store → store ≢ None
+store_some : (first checkpoint : ℕ) (disk : History) (plan : Plan) (state : State) (store : Option Kept) → HoldsState first checkpoint disk plan state store
+    → store ≢ None
 store_some first checkpoint disk plan state None h = absurd h.holds
 store_some first checkpoint disk plan state (Some store) h = λ e. absurd cc
 
 -- settings alone are in no store
-told_set : (store : Option Kept) (state : State) (rule : Rule) (percent : ℕ) → store ≢ None → told_by store (record state { rule = rule; percent = percent }) ≡ told_by store state
+told_set : (store : Option Kept) (state : State) (rule : Rule) (percent : ℕ) → store ≢ None
+    → told_by store (record state { rule = rule; percent = percent }) ≡ told_by store state
 told_set None state rule percent some = absurd (some refl)
 told_set (Some store) state rule percent some = refl
 
@@ -69,13 +71,15 @@ module _ (place : Place) (work : Work) (ga gb : Option (List ℕ)) where
   abbrev IsQuiet : Running → Type 0
   IsQuiet next = (plan_in next.doing.place.head ≡ plan_in place.head) × (held_of next ≡ held_of Here)
 
-  quiet_as : (e : Doing) (next : Running) → next.doing ≡ e → next.store ≡ Store → plan_in e.place.head ≡ plan_in place.head → told_by Store e.state ≡ held_of Here → IsQuiet next
+  quiet_as : (e : Doing) (next : Running) → next.doing ≡ e → next.store ≡ Store → plan_in e.place.head ≡ plan_in place.head
+      → told_by Store e.state ≡ held_of Here → IsQuiet next
   quiet_as e next same kept plan held = (
     ap (λ (d : Doing). plan_in d.place.head) same ∙ plan,
     ap (λ (k : Option Kept). told_by k next.doing.state) kept ∙ ap (λ (d : Doing). told_by Store d.state) same ∙ held,
   )
 
-  quiet_next : (asks : Deed) → runs_batch asks ≡ false → MayDo place work asks → Store ≢ None → (next : Running) → next.store ≡ Store → Serves (done Here.doing asks) ga gb (Ok next.doing) → IsQuiet next
+  quiet_next : (asks : Deed) → runs_batch asks ≡ false → MayDo place work asks → Store ≢ None → (next : Running) → next.store ≡ Store
+      → Serves (done Here.doing asks) ga gb (Ok next.doing) → IsQuiet next
   quiet_next deed.Run q may some next kept h = absurd cc
   quiet_next deed.Nothing q may some next kept h = quiet_as Here.doing next h.0 kept refl refl
   quiet_next deed.Tell q may some next kept h = quiet_as Here.doing next h.0 kept refl refl
@@ -99,7 +103,8 @@ module _ (place : Place) (work : Work) (ga gb : Option (List ℕ)) where
           (subst (λ (k : Option Kept). HoldsState first Here.checkpoint disk (plan_in place.head) (held_of Here) k) (sym kept) h)));
     }
 
-    pub quiet_stays : (result : Result Running Stop) → IfOk result (λ next. next.store ≡ Store) → IfOk result (λ next. next.checkpoint ≡ checkpoint_in work.base)
+    pub quiet_stays : (result : Result Running Stop) → IfOk result (λ next. next.store ≡ Store)
+        → IfOk result (λ next. next.checkpoint ≡ checkpoint_in work.base)
         → Serves (done Here.doing asks) ga gb (doing_result result) → IfOk result (Stays first disk Here)
     quiet_stays (Ok next) kept n serves = stays_by next (quiet_is next kept serves) kept n
     quiet_stays (Err why) kept n serves = tt
@@ -111,7 +116,8 @@ module _ (place : Place) (work : Work) (ga gb : Option (List ℕ)) where
         let count : next.doing.state.batches ≡ before.state.batches =
         quiet_count Here.doing asks quiet went.0 next.doing went.1 ∙ ap (λ (s : State). s.batches) (sym same) in
         (quiet_is next kept serves).1
-        ∙ sym (when_true (next.doing.state.batches == before.state.batches) (held_of Here) next.doing.state (same_count next.doing.state.batches before.state.batches count))
+        ∙ sym (when_true (next.doing.state.batches == before.state.batches) (held_of Here) next.doing.state
+        (same_count next.doing.state.batches before.state.batches count))
     quiet_held before same (Err why) kept serves = tt
 
 -- ---- a batch
@@ -123,7 +129,8 @@ module _ (place : Place) (work : Work) (live : Live) (begun : IsBegun place.head
   abbrev Script : Running
   Script = running_of place work
 
-  begun_state : (first : ℕ) (disk : History) → HoldsScript first disk Script → HoldsState first live.checkpoint disk (plan_of live) (stored_state live) live.store
+  begun_state : (first : ℕ) (disk : History) → HoldsScript first disk Script
+      → HoldsState first live.checkpoint disk (plan_of live) (stored_state live) live.store
   begun_state first disk h =
       subst (λ (n : ℕ). HoldsState first n disk (plan_of live) (stored_state live) live.store) (sym begun.checkpoint)
       (subst (λ (p : Plan). HoldsState first Script.checkpoint disk p (stored_state live) live.store) (sym begun.plan)
@@ -163,7 +170,8 @@ head_plan head.Unnamed next calls (base.Runs live) on of some = absurd of.1
 head_plan (head.Text text) next calls (base.Runs live) on of some = absurd of.1
 head_plan (head.Ready plan) next calls (base.Runs live) on of some = ap plan_in on
 
-lines_on : (p q : Plan) (calls : List Call) (store : Option Kept) → (store ≢ None → q ≡ p) → IfSome store (λ _. HasLines p calls) → IfSome store (λ _. HasLines q calls)
+lines_on : (p q : Plan) (calls : List Call) (store : Option Kept) → (store ≢ None → q ≡ p) → IfSome store (λ _. HasLines p calls)
+    → IfSome store (λ _. HasLines q calls)
 lines_on p q calls None same h = tt
 lines_on p q calls (Some store) same h = subst (λ (x : Plan). HasLines x calls) (sym (same (λ e. absurd cc))) h
 
@@ -180,7 +188,8 @@ done_goes d (deed.Call call) bytes e = not_both bytes _ _ (sym e)
 done_goes d (deed.Set rule percent) bytes e = not_both bytes _ _ (sym e)
 done_goes d (deed.Keep number) bytes e = not_both bytes _ _ (sym e)
 
-module _ (place after : Place) (work : Work) (stands : Stands place work) (counts : Counts) (same : counts ≡ counts_of (state_in work.base)) (line : List ℕ) (asks : Deed)
+module _ (place after : Place) (work : Work) (stands : Stands place work) (counts : Counts) (same : counts ≡ counts_of (state_in work.base)) (line : List ℕ)
+    (asks : Deed)
     (is : asked place counts line ≡ Ok (after, asks)) where
   abbrev From : Running
   From = running_of place work
@@ -192,7 +201,11 @@ module _ (place after : Place) (work : Work) (stands : Stands place work) (count
   ask_plan some = head_plan place.head after.head work.calls.items work.base (follows place counts line after asks is).head_stays stands.holds.of_head some
 
   pub ask_open : (disk : History) → IsOpen disk From → IsOpen disk To
-  ask_open disk o = record { logging = o.logging; lines = lines_on (plan_in place.head) (plan_in after.head) work.calls.items (store_in work.base) ask_plan o.lines }
+  ask_open disk o = record {
+    logging = o.logging;
+    lines = lines_on (plan_in place.head) (plan_in after.head) work.calls.items
+        (store_in work.base) ask_plan o.lines;
+  }
 
   module _ (first : ℕ) (old : History) (h : HoldsScript first old From) where
     plan_is : plan_in after.head ≡ plan_in place.head

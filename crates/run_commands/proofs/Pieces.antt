@@ -45,15 +45,19 @@ turns_on feed piece text none =
 turns_more : (feed : Feed) (piece text : List ℕ) (fault : Option Refusal) → (scan feed piece).fault ≡ fault
     → (more : List Turn) × (turns_whole (scan feed (piece ++ text)) ≡ turns (scan feed piece) ++ more)
 turns_more feed piece text None none = (turns_whole (scan (scan feed piece).feed text), turns_on feed piece text none)
-turns_more feed piece text (Some refusal) some =
-    (last (last_line (scan feed piece).feed), ap turns_whole (scan-faulted [] feed piece text (λ none. let e : Some refusal ≡ None = sym some ∙ none in absurd cc)))
+turns_more feed piece text (Some refusal) some = (
+  last (last_line (scan feed piece).feed),
+  ap turns_whole
+      (scan-faulted [] feed piece text (λ none. let e : Some refusal ≡ None = sym some ∙ none in absurd cc)),
+)
 
 -- ---- what the loop over pieces needs
 
 module _ (first : ℕ) where
   -- what is kept of the text that is left, where the source tells it
   abbrev pub KeepsText : Feed → Running → History → Option (List ℕ) → Option (List ℕ) → History → Option (List ℕ) → Result Running Stop → Type 0
-  KeepsText feed script old left given_old new given_new result = IfSome left (λ text. KeepsTurns first (turns_whole (scan feed text)) script old new given_old given_new result)
+  KeepsText feed script old left given_old new given_new result =
+      IfSome left (λ text. KeepsTurns first (turns_whole (scan feed text)) script old new given_old given_new result)
 
   -- to keep the rest of a text from here is to keep the whole from there
   abbrev pub CarriesText : Feed → Running → History → Option (List ℕ) → Option (List ℕ) → Feed → Running → History → Option (List ℕ) → Option (List ℕ) → Type 0
@@ -62,12 +66,14 @@ module _ (first : ℕ) where
       → KeepsText rest_feed rest now here given new given_new result → KeepsText feed script old left given_old new given_new result
 
   module _ (feed : Feed) (script : Running) (a : History) (ga : Option (List ℕ)) where
-    over_scan : (piece : List ℕ) (gb : Option (List ℕ)) (result : Result Doing Stop) → Serves (with_scan on_line (Goes [] script.doing) (scan feed piece)) ga gb result
+    over_scan : (piece : List ℕ) (gb : Option (List ℕ)) (result : Result Doing Stop)
+        → Serves (with_scan on_line (Goes [] script.doing) (scan feed piece)) ga gb result
         → Serves (over on_turn (turns (scan feed piece)) script.doing) ga gb result
     over_scan piece gb result h = subst (λ (c : Course Doing). Serves c ga gb result) (scan_over (scan feed piece) script.doing) h
 
     -- it goes on behind a piece
-    pub piece_kept : (left mid : Option (List ℕ)) (piece : List ℕ) (after : Feed) (next : Running) (b c : History) (gb gc : Option (List ℕ)) (result : Result Running Stop)
+    pub piece_kept : (left mid : Option (List ℕ)) (piece : List ℕ) (after : Feed) (next : Running) (b c : History) (gb gc : Option (List ℕ))
+        (result : Result Running Stop)
         → Consumes left mid piece → Serves (with_scan on_line (Goes [] script.doing) (scan feed piece)) ga gb (Ok next.doing) → (scan feed piece).fault ≡ None
         → (scan feed piece).feed ≡ after → KeepsTurns first (turns (scan feed piece)) script a b ga gb (Ok next) → KeepsText after next b mid gb c gc result
         → KeepsText feed script a left ga c gc result
@@ -76,13 +82,15 @@ module _ (first : ℕ) where
     piece_kept (Some all) (Some text) piece after next b c gb gc result taken serves none same k l =
         let here : KeepsTurns first (turns_whole (scan (scan feed piece).feed text)) next b c gb gc result =
         subst (λ (f : Feed). KeepsTurns first (turns_whole (scan f text)) next b c gb gc result) (sym same) l in
-        let both = kept_then first (turns (scan feed piece)) (turns_whole (scan (scan feed piece).feed text)) script a b ga gb next c gc (over_scan piece gb (Ok next.doing) serves) k result here in
+        let both = kept_then first (turns (scan feed piece)) (turns_whole (scan (scan feed piece).feed text)) script a b ga gb next c gc
+        (over_scan piece gb (Ok next.doing) serves) k result here in
         subst (λ (t : List ℕ). KeepsTurns first (turns_whole (scan feed t)) script a c ga gc result) (sym taken)
         (subst (λ (steps : List Turn). KeepsTurns first steps script a c ga gc result) (sym (turns_on feed piece text none)) both)
 
     -- it was cut off in a piece
     pub cut_kept : (left rest : Option (List ℕ)) (piece : List ℕ) (b : History) (gb : Option (List ℕ)) (why : Stop) → Consumes left rest piece
-        → ServesCut (with_scan on_line (Goes [] script.doing) (scan feed piece)) ga gb why → KeepsTurns first (turns (scan feed piece)) script a b ga gb (Err why)
+        → ServesCut (with_scan on_line (Goes [] script.doing) (scan feed piece)) ga gb why
+        → KeepsTurns first (turns (scan feed piece)) script a b ga gb (Err why)
         → KeepsText feed script a left ga b gb (Err why)
     cut_kept None rest piece b gb why taken serves k = tt
     cut_kept (Some all) None piece b gb why taken serves k = absurd taken
@@ -111,6 +119,7 @@ pub fed_turns : (s : Scan) (lines : List (List ℕ)) (feed : Feed) → s ≡ rec
 fed_turns s lines feed is = ap turns is ∙ append-nil (map Line lines)
 
 -- one was
-pub fault_turns : (s : Scan) (lines : List (List ℕ)) (refusal : Refusal) → lines ≡ s.lines → s.fault ≡ Some refusal → turns s ≡ map Line lines ++ past (Some refusal)
+pub fault_turns : (s : Scan) (lines : List (List ℕ)) (refusal : Refusal) → lines ≡ s.lines → s.fault ≡ Some refusal
+    → turns s ≡ map Line lines ++ past (Some refusal)
 fault_turns s lines refusal is fault =
     ap (λ (l : List (List ℕ)). map Line l ++ past s.fault) (sym is) ∙ ap (λ (f : Option Refusal). map Line lines ++ past f) fault

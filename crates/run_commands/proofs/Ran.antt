@@ -47,7 +47,8 @@ batch_held held before d same =
     when_false ((behind_batch d).state.batches == before.state.batches) held (behind_batch d).state
     (other_count before.state.batches d.state.batches (ap (λ (s : State). s.batches) same))
 
-module _ (plan : Plan) (line : List ℕ) (before d : Doing) (held : State) (same : before.state ≡ d.state) (is : on_line before line ≡ Goes (text_of d) (behind_batch d))
+module _ (plan : Plan) (line : List ℕ) (before d : Doing) (held : State) (same : before.state ≡ d.state)
+    (is : on_line before line ≡ Goes (text_of d) (behind_batch d))
     (a b : History) (ga gb : Option (List ℕ)) where
   abbrev After : State
   After = (behind_batch d).state
@@ -58,7 +59,8 @@ module _ (plan : Plan) (line : List ℕ) (before d : Doing) (held : State) (same
   line_cut front all given =
       let at = batch_held held before d same in
       keeps_batch on_turn held_then plan (Line line) before (behind_batch d) held (text_of d) is a b ga gb front
-      (subst (λ (s : State). LeavesAll a b (ReopensToEither plan held s)) (sym at) all) (λ other. subst (λ (s : State). LeavesState b plan s) (sym at) (given other))
+      (subst (λ (s : State). LeavesAll a b (ReopensToEither plan held s)) (sym at) all)
+      (λ other. subst (λ (s : State). LeavesState b plan s) (sym at) (given other))
 
   -- one that was told
   pub line_told : Appends ga gb (text_of d) → LeavesAll a b (ReopensToEither plan held After) → LeavesState b plan After
@@ -71,13 +73,15 @@ module _ (plan : Plan) (line : List ℕ) (before d : Doing) (held : State) (same
 -- ---- what a batch of the database is for the script
 
 -- what a store holds is what a stop leaves
-pub held_leaves_all : (disk : History) (plan : Plan) (state : State) (store : Option Kept) (c : Checkpoint) (later : List Batch) → Holds disk plan state store c later → LeavesState disk plan state
+pub held_leaves_all : (disk : History) (plan : Plan) (state : State) (store : Option Kept) (c : Checkpoint) (later : List Batch)
+    → Holds disk plan state store c later → LeavesState disk plan state
 held_leaves_all disk plan state None c later h = absurd h
 held_leaves_all disk plan state (Some store) c later h = held_leaves disk plan state store c later h
 
 pub no_lines : (plan : Plan) (calls : List Call) (store : Option Kept) → calls ≡ [] → IfSome store (λ _. HasLines plan calls)
 no_lines plan calls None e = tt
-no_lines plan calls (Some store) e = subst (λ (l : List Call). HasLines plan l) (sym e) (All-nil (λ (call : Call). length (line_of_call plan call) ≤ LONGEST_LINE))
+no_lines plan calls (Some store) e = subst (λ (l : List Call). HasLines plan l) (sym e)
+    (All-nil (λ (call : Call). length (line_of_call plan call) ≤ LONGEST_LINE))
 
 pub open_without : (disk : History) (script : Running) → script.store ≡ None → IsOpen disk script
 open_without disk script e = record {
@@ -86,7 +90,8 @@ open_without disk script e = record {
 }
 
 -- behind a batch
-pub open_behind : (disk : History) (place : Place) (next : Work) (live : Live) → next.base ≡ base.Runs live → next.calls.items ≡ [] → IsLogging disk live → IsOpen disk (running_of place next)
+pub open_behind : (disk : History) (place : Place) (next : Work) (live : Live) → next.base ≡ base.Runs live → next.calls.items ≡ [] → IsLogging disk live
+    → IsOpen disk (running_of place next)
 open_behind disk place next live b none logging = record {
   logging = subst (λ (x : Base). IfSome (store_in x) (GoesOn disk (state_in x).batches)) (sym b) logging;
   lines = no_lines (plan_in place.head) next.calls.items (store_in next.base) none;
@@ -113,13 +118,15 @@ module _ (place : Place) (work : Work) (live : Live) (begun : IsBegun place.head
   pub held_is : stored_state live ≡ Held
   held_is = ap (λ (s : State). told_by live.store s) begun.state ∙ ap (λ (k : Option Kept). told_by k (state_in work.base)) begun.store
 
-  pub begun_holds : (disk : History) (c : Checkpoint) (later : List Batch) → Holds disk (plan_in place.head) Held (store_in work.base) c later → Holds disk (plan_of live) (stored_state live) live.store c later
+  pub begun_holds : (disk : History) (c : Checkpoint) (later : List Batch) → Holds disk (plan_in place.head) Held (store_in work.base) c later
+      → Holds disk (plan_of live) (stored_state live) live.store c later
   begun_holds disk c later h =
       subst (λ (p : Plan). Holds disk p (stored_state live) live.store c later) (sym begun.plan)
       (subst (λ (s : State). Holds disk (plan_in place.head) s live.store c later) (sym held_is)
       (subst (λ (k : Option Kept). Holds disk (plan_in place.head) Held k c later) (sym begun.store) h))
 
-  either_is : (a b : History) → LeavesAll a b (ReopensToEither (plan_of live) (stored_state live) (next_state live Calls)) → LeavesAll a b (ReopensToEither (plan_in place.head) Held (behind_batch Ran).state)
+  either_is : (a b : History) → LeavesAll a b (ReopensToEither (plan_of live) (stored_state live) (next_state live Calls))
+      → LeavesAll a b (ReopensToEither (plan_in place.head) Held (behind_batch Ran).state)
   either_is a b all =
       subst (λ (s : State). LeavesAll a b (ReopensToEither (plan_in place.head) Held s)) (state_is place work live begun)
       (subst (λ (s : State). LeavesAll a b (ReopensToEither (plan_in place.head) s (next_state live Calls))) held_is
@@ -138,11 +145,13 @@ module _ (place : Place) (work : Work) (live : Live) (begun : IsBegun place.head
     pub ran_told : (next : Live) → r.0 ≡ Some next → Keeps (PassesTurns (Line line ∷ []) before Held) (plan_in place.head) a b ga gb
     ran_told next e =
         let whole = (told_all (next_text live Calls) (IsNext live Calls) ga gb r next e tells).0 in
-        line_told (plan_in place.head) line before Ran Held same is a b ga gb (subst (λ (text : List ℕ). Appends ga gb text) (text_is place work live begun) whole)
+        line_told (plan_in place.head) line before Ran Held same is a b ga gb
+        (subst (λ (text : List ℕ). Appends ga gb text) (text_is place work live begun) whole)
         (either_is a b all) (after_is b (given (inl (told_is (next_text live Calls) (IsNext live Calls) ga gb r next e tells))))
 
     pub ran_cut : r.0 ≡ None → Keeps (PassesTurns (Line line ∷ []) before Held) (plan_in place.head) a b ga gb
     ran_cut e =
         line_cut (plan_in place.head) line before Ran Held same is a b ga gb
-        (subst (λ (text : List ℕ). AppendsFront ga gb text) (text_is place work live begun) (cut_front (next_text live Calls) (IsNext live Calls) ga gb r e tells))
+        (subst (λ (text : List ℕ). AppendsFront ga gb text) (text_is place work live begun)
+        (cut_front (next_text live Calls) (IsNext live Calls) ga gb r e tells))
         (either_is a b all) (λ other. after_is b (given (inr other)))

@@ -38,7 +38,8 @@ use Rattle.run_commands.proofs.Ran.{no_lines}
 use Rattle.script_places.specs.Places.{plan_in}
 
 -- the script over a database
-pub script_is : (live : Live) (script : Running) → script.doing ≡ over live → script.store ≡ live.store → script.checkpoint ≡ live.checkpoint → script ≡ running_over live
+pub script_is : (live : Live) (script : Running) → script.doing ≡ over live → script.store ≡ live.store → script.checkpoint ≡ live.checkpoint
+    → script ≡ running_over live
 script_is live script d s c = λ i. record { doing = d i; store = s i; checkpoint = c i }
 
 pub open_over : (disk : History) (live : Live) (script : Running) → script ≡ running_over live → IsLogging disk live → IsOpen disk script
@@ -47,18 +48,21 @@ open_over disk live script is logging =
 
 -- ---- what is printed, behind the count
 
-cut_behind : (out : Out) (first : List ℕ) (ga gm gc : Option (List ℕ)) (why : Stop) → Appends ga gm first → FinishesCut out gm gc why → FinishesCut (out_behind first out) ga gc why
+cut_behind : (out : Out) (first : List ℕ) (ga gm gc : Option (List ℕ)) (why : Stop) → Appends ga gm first → FinishesCut out gm gc why
+    → FinishesCut (out_behind first out) ga gc why
 cut_behind out first ga gm gc stop.Refused gives h = (h.0, Appends-trans ga gm gc first out.bytes gives h.1)
 cut_behind out first ga gm gc stop.NoMemory gives h = front_behind ga gm gc first out.bytes gives h
 cut_behind out first ga gm gc stop.NoWrite gives h = front_behind ga gm gc first out.bytes gives h
 cut_behind out first ga gm gc stop.NoDisk gives h = front_behind ga gm gc first out.bytes gives h
 cut_behind out first ga gm gc stop.NoRead gives h = front_behind ga gm gc first out.bytes gives h
 
-finishes_behind : (out : Out) (first : List ℕ) (ga gm gc : Option (List ℕ)) (result : Result ℕ Stop) → Appends ga gm first → Finishes out gm gc result → Finishes (out_behind first out) ga gc result
+finishes_behind : (out : Out) (first : List ℕ) (ga gm gc : Option (List ℕ)) (result : Result ℕ Stop) → Appends ga gm first → Finishes out gm gc result
+    → Finishes (out_behind first out) ga gc result
 finishes_behind out first ga gm gc (Ok status) gives h = (h.0, Appends-trans ga gm gc first out.bytes gives h.1)
 finishes_behind out first ga gm gc (Err why) gives h = cut_behind out first ga gm gc why gives h
 
-all_behind : (out : List ℕ → Out) (first : List ℕ) (left ga gm gc : Option (List ℕ)) (result : Result ℕ Stop) → Appends ga gm first → IfSome left (λ text. Finishes (out text) gm gc result)
+all_behind : (out : List ℕ → Out) (first : List ℕ) (left ga gm gc : Option (List ℕ)) (result : Result ℕ Stop) → Appends ga gm first
+    → IfSome left (λ text. Finishes (out text) gm gc result)
     → IfSome left (λ text. Finishes (out_behind first (out text)) ga gc result)
 all_behind out first None ga gm gc result gives h = tt
 all_behind out first (Some text) ga gm gc result gives h = finishes_behind (out text) first ga gm gc result gives h
@@ -67,7 +71,8 @@ so_far_behind : (c : Course Doing) (first : List ℕ) (ga gm gc : Option (List �
 so_far_behind (Goes bytes d) first ga gm gc gives h = Appends-trans ga gm gc first bytes gives h
 so_far_behind (Stops bytes) first ga gm gc gives h = absurd h
 
-told_behind : (told_of : List ℕ → Course Doing) (first : List ℕ) (left rest ga gm gc : Option (List ℕ)) (result : Result ℕ Stop) → Appends ga gm first → Tells told_of left rest gm gc result
+told_behind : (told_of : List ℕ → Course Doing) (first : List ℕ) (left rest ga gm gc : Option (List ℕ)) (result : Result ℕ Stop) → Appends ga gm first
+    → Tells told_of left rest gm gc result
     → Tells (λ text. behind first (told_of text)) left rest ga gc result
 told_behind told_of first left rest ga gm gc (Ok status) gives h = tt
 told_behind told_of first left rest ga gm gc (Err stop.Refused) gives h = tt
@@ -77,7 +82,8 @@ told_behind told_of first left rest ga gm gc (Err stop.NoDisk) gives h = tt
 told_behind told_of first left rest ga gm gc (Err stop.NoRead) gives h = (h.0, h.1, so_far_behind (told_of h.0) first ga gm gc gives h.2)
 
 -- nothing but a prefix of the count was given
-none_cut : (out : List ℕ → Out) (left ga gm : Option (List ℕ)) (why : Stop) → why ≢ stop.Refused → ((text : List ℕ) → AppendsFront ga gm (out text).bytes) → IfSome left (λ text. FinishesCut (out text) ga gm why)
+none_cut : (out : List ℕ → Out) (left ga gm : Option (List ℕ)) (why : Stop) → why ≢ stop.Refused → ((text : List ℕ) → AppendsFront ga gm (out text).bytes)
+    → IfSome left (λ text. FinishesCut (out text) ga gm why)
 none_cut out None ga gm why other front = tt
 none_cut out (Some text) ga gm stop.Refused other front = absurd (other refl)
 none_cut out (Some text) ga gm stop.NoMemory other front = front text
@@ -85,7 +91,8 @@ none_cut out (Some text) ga gm stop.NoWrite other front = front text
 none_cut out (Some text) ga gm stop.NoDisk other front = front text
 none_cut out (Some text) ga gm stop.NoRead other front = front text
 
-none_told : (told_of : List ℕ → Course Doing) (left rest ga gm : Option (List ℕ)) (why : Stop) → why ≢ stop.NoRead → Tells {A = ℕ} told_of left rest ga gm (Err why)
+none_told : (told_of : List ℕ → Course Doing) (left rest ga gm : Option (List ℕ)) (why : Stop) → why ≢ stop.NoRead
+    → Tells {A = ℕ} told_of left rest ga gm (Err why)
 none_told told_of left rest ga gm stop.Refused other = tt
 none_told told_of left rest ga gm stop.NoMemory other = tt
 none_told told_of left rest ga gm stop.NoWrite other = tt
@@ -98,13 +105,17 @@ module _ (drain : Bool) (d : Doing) (left rest ga : Option (List ℕ)) where
 
   pub completes_behind : (gm gc : Option (List ℕ)) (result : Result ℕ Stop) → Appends ga gm (at_text d.state.batches)
       → Completes (told on_line no_line d) (whole on_line (on_end drain) no_line d) left rest gm gc result → Whole0 gc result
-  completes_behind gm gc result gives h =
-      (all_behind (whole on_line (on_end drain) no_line d) (at_text d.state.batches) left ga gm gc result gives h.0, told_behind (told on_line no_line d) (at_text d.state.batches) left rest ga gm gc result gives h.1)
+  completes_behind gm gc result gives h = (
+    all_behind (whole on_line (on_end drain) no_line d) (at_text d.state.batches) left ga gm gc result gives h.0,
+    told_behind (told on_line no_line d) (at_text d.state.batches) left rest ga gm gc result gives h.1,
+  )
 
   -- nothing but a prefix of the count was given
-  pub completes_none : (gm : Option (List ℕ)) (why : Stop) → why ≢ stop.Refused → why ≢ stop.NoRead → AppendsFront ga gm (at_text d.state.batches) → Whole0 gm (Err why)
+  pub completes_none : (gm : Option (List ℕ)) (why : Stop) → why ≢ stop.Refused → why ≢ stop.NoRead → AppendsFront ga gm (at_text d.state.batches)
+      → Whole0 gm (Err why)
   completes_none gm why refused read front = (
-    none_cut (out_from drain d) left ga gm why refused (λ text. front_longer ga gm (at_text d.state.batches) (whole on_line (on_end drain) no_line d text).bytes front),
+    none_cut (out_from drain d) left ga gm why refused (λ text. front_longer ga gm (at_text d.state.batches)
+        (whole on_line (on_end drain) no_line d text).bytes front),
     none_told (told_from d) left rest ga gm why read,
   )
 
@@ -127,13 +138,16 @@ module _ (drain : Bool) (first : ℕ) (live : Live) (a : History) (ga gm : Optio
   at_stays : (bytes : List ℕ) (next : Doing) → Goes (at_text D0.state.batches) D0 ≡ Goes bytes next → held_then Held0 D0 next ≡ Held0
   at_stays bytes next e = held_still Held0 D0 next (ap state_in_course (sym e))
 
-  at_keeps : (result : Result Doing Stop) → Serves (Goes (at_text D0.state.batches) D0) ga gm result → Keeps (PassesTurns (At ∷ []) D0 Held0) (plan_of live) a a ga gm
+  at_keeps : (result : Result Doing Stop) → Serves (Goes (at_text D0.state.batches) D0) ga gm result
+      → Keeps (PassesTurns (At ∷ []) D0 Held0) (plan_of live) a a ga gm
   at_keeps result serves = keeps_quiet on_turn held_then (plan_of live) At D0 Held0 a ga gm result at_stays serves leaves_here
 
-  over_keeps : (c : History) (gc : Option (List ℕ)) (text : List ℕ) → Appends ga gm (at_text D0.state.batches) → Keeps (PassesTurns (text_turns drain D0 text) D0 Held0) (plan_of live) a c gm gc
+  over_keeps : (c : History) (gc : Option (List ℕ)) (text : List ℕ) → Appends ga gm (at_text D0.state.batches)
+      → Keeps (PassesTurns (text_turns drain D0 text) D0 Held0) (plan_of live) a c gm gc
       → Keeps (PassesTurns (turns_over drain D0 text) D0 Held0) (plan_of live) a c ga gc
   over_keeps c gc text gives k =
-      keeps_on on_turn held_then (plan_of live) At (text_turns drain D0 text) D0 D0 Held0 (at_text D0.state.batches) a a c ga gm gc refl gives (at_keeps (Ok D0) (refl, gives))
+      keeps_on on_turn held_then (plan_of live) At (text_turns drain D0 text) D0 D0 Held0 (at_text D0.state.batches) a a c ga gm gc refl gives
+      (at_keeps (Ok D0) (refl, gives))
       (subst (λ (s : State). Keeps (PassesTurns (text_turns drain D0 text) D0 s) (plan_of live) a c gm gc) (sym (held_still Held0 D0 D0 refl)) k)
 
   pub keeps_over : (left : Option (List ℕ)) (c : History) (gc : Option (List ℕ)) → Appends ga gm (at_text D0.state.batches)
@@ -145,22 +159,27 @@ module _ (drain : Bool) (first : ℕ) (live : Live) (a : History) (ga gm : Optio
   pub keeps_over_cut : (left : Option (List ℕ)) (why : Stop) → Serves (Goes (at_text D0.state.batches) D0) ga gm (Err why)
       → IfSome left (λ text. Keeps (PassesTurns (turns_over drain D0 text) D0 Held0) (plan_of live) a a ga gm)
   keeps_over_cut None why serves = tt
-  keeps_over_cut (Some text) why serves = keeps_cut on_turn held_then (plan_of live) At (text_turns drain D0 text) D0 Held0 a a ga gm (at_keeps (Err why) serves)
+  keeps_over_cut (Some text) why serves = keeps_cut on_turn held_then (plan_of live) At (text_turns drain D0 text) D0 Held0 a a ga gm
+      (at_keeps (Err why) serves)
 
-  pub laid_over : (left : Option (List ℕ)) (c : History) → IfSome left (λ text. LeavesLaid first live.checkpoint c (plan_of live) (held_behind (text_turns drain D0 text) D0 Held0))
+  pub laid_over : (left : Option (List ℕ)) (c : History) → IfSome left
+      (λ text. LeavesLaid first live.checkpoint c (plan_of live) (held_behind (text_turns drain D0 text) D0 Held0))
       → IfSome left (λ text. LeavesLaid first live.checkpoint c (plan_of live) (held_behind (turns_over drain D0 text) D0 Held0))
   laid_over None c h = tt
   laid_over (Some text) c h =
-      subst (λ (s : State). LeavesLaid first live.checkpoint c (plan_of live) (held_behind (text_turns drain D0 text) D0 s)) (sym (held_still Held0 D0 D0 refl)) h
+      subst (λ (s : State). LeavesLaid first live.checkpoint c (plan_of live) (held_behind (text_turns drain D0 text) D0 s))
+      (sym (held_still Held0 D0 D0 refl)) h
 
 -- ---- by what was opened
 
 -- the database is that of what was opened
-start_is : (settings : Run) (live : Live) (c : Checkpoint) (later : List Batch) → live.each ≡ is_each settings.listing → IsOpenedAs (Found c later) live → over live ≡ start_over settings c later
+start_is : (settings : Run) (live : Live) (c : Checkpoint) (later : List Batch) → live.each ≡ is_each settings.listing → IsOpenedAs (Found c later) live
+    → over live ≡ start_over settings c later
 start_is settings live c later each is = λ i. resumed (each i) (is.0 i) (is.1 i)
 
 module _ (settings : Run) (live : Live) (each : live.each ≡ is_each settings.listing) (left rest ga gb : Option (List ℕ)) (result : Result ℕ Stop) where
-  pub completes_opened : (found : Reopened) → IsOpenedAs found live → Completes (told_from (over live)) (out_from settings.drain (over live)) left rest ga gb result
+  pub completes_opened : (found : Reopened) → IsOpenedAs found live
+      → Completes (told_from (over live)) (out_from settings.drain (over live)) left rest ga gb result
       → CompletesOver settings found left rest ga gb result
   completes_opened NoStore is h = absurd is
   completes_opened (Damaged file at) is h = absurd is
@@ -168,18 +187,24 @@ module _ (settings : Run) (live : Live) (each : live.each ≡ is_each settings.l
       subst (λ (d : Doing). Completes (told_from d) (out_from settings.drain d) left rest ga gb result) (start_is settings live c later each is) h
 
   pub laid_opened : (found : Reopened) (disk : History) → IsOpenedAs found live → live.checkpoint ≡ settings.checkpoint → stored_state live ≡ state_of live
-      → IfSome left (λ text. LeavesLaid (state_of live).batches live.checkpoint disk (plan_of live) (held_behind (turns_over settings.drain (over live) text) (over live) (stored_state live)))
+      → IfSome left (λ text. LeavesLaid (state_of live).batches live.checkpoint disk (plan_of live)
+      (held_behind (turns_over settings.drain (over live) text) (over live) (stored_state live)))
       → IfSome left (λ text. HoldsOver settings found text disk)
   laid_opened NoStore disk is checkpoint same h = absurd is
   laid_opened (Damaged file at) disk is checkpoint same h = absurd is
   laid_opened (Found c later) disk is checkpoint same h =
       let d = start_is settings live c later each is in
       let held : stored_state live ≡ (over live).state = same in
-      let own = subst (λ (s : State). IfSome left (λ text. LeavesLaid (state_of live).batches live.checkpoint disk (plan_of live) (held_behind (turns_over settings.drain (over live) text) (over live) s))) held h in
-      let by = subst (λ (e : Doing). IfSome left (λ text. LeavesLaid (state_of live).batches live.checkpoint disk (plan_of live) (held_behind (turns_over settings.drain e text) e e.state))) d own in
-      let under = subst (λ (p : Plan). IfSome left (λ text. LeavesLaid (state_of live).batches live.checkpoint disk p (held_behind (turns_over settings.drain (start_over settings c later) text) (start_over settings c later) (state_behind c later)))) is.0 by in
-      let from = subst (λ (s : State). IfSome left (λ text. LeavesLaid s.batches live.checkpoint disk c.plan (held_behind (turns_over settings.drain (start_over settings c later) text) (start_over settings c later) (state_behind c later)))) is.1 under in
-      subst (λ (n : ℕ). IfSome left (λ text. LeavesLaid (state_behind c later).batches n disk c.plan (held_behind (turns_over settings.drain (start_over settings c later) text) (start_over settings c later) (state_behind c later)))) checkpoint from
+      let own = subst (λ (s : State). IfSome left (λ text. LeavesLaid (state_of live).batches live.checkpoint disk (plan_of live)
+      (held_behind (turns_over settings.drain (over live) text) (over live) s))) held h in
+      let by = subst (λ (e : Doing). IfSome left (λ text. LeavesLaid (state_of live).batches live.checkpoint disk (plan_of live)
+      (held_behind (turns_over settings.drain e text) e e.state))) d own in
+      let under = subst (λ (p : Plan). IfSome left (λ text. LeavesLaid (state_of live).batches live.checkpoint disk p
+      (held_behind (turns_over settings.drain (start_over settings c later) text) (start_over settings c later) (state_behind c later)))) is.0 by in
+      let from = subst (λ (s : State). IfSome left (λ text. LeavesLaid s.batches live.checkpoint disk c.plan
+      (held_behind (turns_over settings.drain (start_over settings c later) text) (start_over settings c later) (state_behind c later)))) is.1 under in
+      subst (λ (n : ℕ). IfSome left (λ text. LeavesLaid (state_behind c later).batches n disk c.plan
+      (held_behind (turns_over settings.drain (start_over settings c later) text) (start_over settings c later) (state_behind c later)))) checkpoint from
 
 -- before the count, what was opened is held
 begun : (drain : Bool) (d : Doing) (text : List ℕ) → PassesOver drain d text d.state []
@@ -189,30 +214,39 @@ module _ (settings : Run) (c : Checkpoint) (later : List Batch) (text : List ℕ
   abbrev Passed : State → List ℕ → Type 0
   Passed = PassesOver settings.drain (start_over settings c later) text
 
-  or_opened : (old : History) (images : ℕ → List ℕ) → MayLeave old old.now images ⊎ ReopensToOpened (Found c later) images → MayLeave old old.now images ⊎ ReopensToPassed Passed c.plan images
+  or_opened : (old : History) (images : ℕ → List ℕ) → MayLeave old old.now images ⊎ ReopensToOpened (Found c later) images
+      → MayLeave old old.now images ⊎ ReopensToPassed Passed c.plan images
   or_opened old images (inl h) = inl h
-  or_opened old images (inr h) = inr (record { state = state_behind c later; given = []; passed = begun settings.drain (start_over settings c later) text; reopens = h })
+  or_opened old images (inr h) =
+      inr (record { state = state_behind c later; given = []; passed = begun settings.drain (start_over settings c later) text; reopens = h })
 
-  exit_opened : (old : History) (ga gb : Option (List ℕ)) (images : ℕ → List ℕ) → Appends ga gb [] → MayLeave old old.now images ⊎ ReopensToOpened (Found c later) images
+  exit_opened : (old : History) (ga gb : Option (List ℕ)) (images : ℕ → List ℕ) → Appends ga gb []
+      → MayLeave old old.now images ⊎ ReopensToOpened (Found c later) images
       → ReopensAsGiven Passed c.plan ga gb images ⊎ (MayLeave old old.now images × Appends ga gb [])
   exit_opened old ga gb images none (inl h) = inr (h, none)
-  exit_opened old ga gb images none (inr h) = inl (record { state = state_behind c later; given = []; passed = begun settings.drain (start_over settings c later) text; appends = none; reopens = h })
+  exit_opened old ga gb images none (inr h) =
+      inl (record { state = state_behind c later; given = []; passed = begun settings.drain (start_over settings c later) text; appends = none; reopens = h })
 
   -- it was opened, and the script ran
-  outlives_ran : (old mid new : History) (ga gb : Option (List ℕ)) → LeavesAll old mid (λ images. MayLeave old old.now images ⊎ ReopensToOpened (Found c later) images)
+  outlives_ran : (old mid new : History) (ga gb : Option (List ℕ))
+      → LeavesAll old mid (λ images. MayLeave old old.now images ⊎ ReopensToOpened (Found c later) images)
       → Keeps Passed c.plan mid new ga gb → Outlives Passed c.plan old new ga gb
   outlives_ran old mid new ga gb opened k = record {
     images = leaves_then old mid new (λ images. MayLeave old old.now images ⊎ ReopensToPassed Passed c.plan images)
-        (leaves_more old mid (λ images. MayLeave old old.now images ⊎ ReopensToOpened (Found c later) images) (λ images. MayLeave old old.now images ⊎ ReopensToPassed Passed c.plan images) opened (or_opened old))
-        (leaves_more mid new (ReopensToPassed Passed c.plan) (λ images. MayLeave old old.now images ⊎ ReopensToPassed Passed c.plan images) k.images (λ images h. inr h));
+        (leaves_more old mid (λ images. MayLeave old old.now images ⊎ ReopensToOpened (Found c later) images)
+        (λ images. MayLeave old old.now images ⊎ ReopensToPassed Passed c.plan images) opened (or_opened old))
+        (leaves_more mid new (ReopensToPassed Passed c.plan) (λ images. MayLeave old old.now images ⊎ ReopensToPassed Passed c.plan images) k.images
+        (λ images h. inr h));
     exit = λ images may. inl (k.exit images may);
   }
 
   -- it was not
-  outlives_none : (old new : History) (ga gb : Option (List ℕ)) → Appends ga gb [] → LeavesAll old new (λ images. MayLeave old old.now images ⊎ ReopensToOpened (Found c later) images)
+  outlives_none : (old new : History) (ga gb : Option (List ℕ)) → Appends ga gb []
+      → LeavesAll old new (λ images. MayLeave old old.now images ⊎ ReopensToOpened (Found c later) images)
       → Outlives Passed c.plan old new ga gb
   outlives_none old new ga gb none opened = record {
-    images = leaves_more old new (λ images. MayLeave old old.now images ⊎ ReopensToOpened (Found c later) images) (λ images. MayLeave old old.now images ⊎ ReopensToPassed Passed c.plan images) opened (or_opened old);
+    images = leaves_more old new (λ images. MayLeave old old.now images ⊎ ReopensToOpened (Found c later) images)
+        (λ images. MayLeave old old.now images ⊎ ReopensToPassed Passed c.plan images) opened (or_opened old);
     exit = λ images may. exit_opened old ga gb images none (opened.each new.now opened.later (le_refl new.now) images may);
   }
 
@@ -224,7 +258,8 @@ module _ (settings : Run) (old : History) where
   abbrev Opening : Reopened → History → Type 0
   Opening found new = LeavesAll old new (λ images. MayLeave old old.now images ⊎ ReopensToOpened found images)
 
-  pub leaves_opened : (live : Live) (each : live.each ≡ is_each settings.listing) (found : Reopened) (left : Option (List ℕ)) (mid new : History) (ga gb : Option (List ℕ)) → IsOpenedAs found live
+  pub leaves_opened : (live : Live) (each : live.each ≡ is_each settings.listing) (found : Reopened) (left : Option (List ℕ)) (mid new : History)
+      (ga gb : Option (List ℕ)) → IsOpenedAs found live
       → stored_state live ≡ state_of live → Opening found mid
       → IfSome left (λ text. Keeps (PassesTurns (turns_over settings.drain (over live) text) (over live) (stored_state live)) (plan_of live) mid new ga gb)
       → IfSome left (λ text. LeavesOver settings found text old new ga gb)
@@ -238,11 +273,14 @@ module _ (settings : Run) (old : History) where
       let under = subst (λ (p : Plan). Keeps (PassesOver settings.drain (start_over settings c later) text) p mid new ga gb) is.0 by in
       outlives_ran settings c later text old mid new ga gb opened under
 
-  pub leaves_refused : (found : Reopened) (left : Option (List ℕ)) (new : History) (ga gb : Option (List ℕ)) → ((c : Checkpoint) (later : List Batch) → found ≡ Found c later → Appends ga gb []) → Opening found new
+  pub leaves_refused : (found : Reopened) (left : Option (List ℕ)) (new : History) (ga gb : Option (List ℕ))
+      → ((c : Checkpoint) (later : List Batch) → found ≡ Found c later → Appends ga gb []) → Opening found new
       → IfSome left (λ text. LeavesOver settings found text old new ga gb)
   leaves_refused found None new ga gb none opened = tt
-  leaves_refused NoStore (Some text) new ga gb none opened = leaves_more old new (λ images. MayLeave old old.now images ⊎ ⊥) (MayLeave old old.now) opened (only_left old)
-  leaves_refused (Damaged file at) (Some text) new ga gb none opened = leaves_more old new (λ images. MayLeave old old.now images ⊎ ⊥) (MayLeave old old.now) opened (only_left old)
+  leaves_refused NoStore (Some text) new ga gb none opened =
+      leaves_more old new (λ images. MayLeave old old.now images ⊎ ⊥) (MayLeave old old.now) opened (only_left old)
+  leaves_refused (Damaged file at) (Some text) new ga gb none opened =
+      leaves_more old new (λ images. MayLeave old old.now images ⊎ ⊥) (MayLeave old old.now) opened (only_left old)
   leaves_refused (Found c later) (Some text) new ga gb none opened = outlives_none settings c later text old new ga gb (none c later refl) opened
 
 -- ---- the store is not opened
@@ -270,20 +308,25 @@ module _ (settings : Run) (left ga gb : Option (List ℕ)) (result : Result ℕ 
   none_given NoStore why refused read = (one_cut none_out why refused, no_read why read)
   none_given (Damaged file at) why refused read = (one_cut (damaged_out file at) why refused, no_read why read)
   none_given (Found c later) why refused read =
-      completes_none settings.drain (start_over settings c later) left left ga ga why refused read (front_none ga (at_text (start_over settings c later).state.batches))
+      completes_none settings.drain (start_over settings c later) left left ga ga why refused read
+      (front_none ga (at_text (start_over settings c later).state.batches))
 
-  cut_over : (found : Reopened) (why : Stop) → why ≢ stop.Refused → why ≢ stop.NoRead → (result ≡ Err why) × (gb ≡ ga) → CompletesOver settings found left left ga gb result
+  cut_over : (found : Reopened) (why : Stop) → why ≢ stop.Refused → why ≢ stop.NoRead → (result ≡ Err why) × (gb ≡ ga)
+      → CompletesOver settings found left left ga gb result
   cut_over found why refused read h =
-      subst (λ (r : Result ℕ Stop). CompletesOver settings found left left ga gb r) (sym h.0) (subst (λ (g : Option (List ℕ)). CompletesOver settings found left left ga g (Err why)) (sym h.1) (none_given found why refused read))
+      subst (λ (r : Result ℕ Stop). CompletesOver settings found left left ga gb r) (sym h.0)
+      (subst (λ (g : Option (List ℕ)). CompletesOver settings found left left ga g (Err why)) (sym h.1) (none_given found why refused read))
 
-  pub completes_refused : (found : Reopened) (why : NotOpened) → IsRefusalOf found why → RefusesStore why ga gb result → result ≢ Err stop.NoRead → CompletesOver settings found left left ga gb result
+  pub completes_refused : (found : Reopened) (why : NotOpened) → IsRefusalOf found why → RefusesStore why ga gb result → result ≢ Err stop.NoRead
+      → CompletesOver settings found left left ga gb result
   completes_refused found refusal.NoStore is h read = subst (λ (f : Reopened). CompletesOver settings f left left ga gb result) (sym is) (h, read)
   completes_refused found (refusal.Damaged file at) is h read = subst (λ (f : Reopened). CompletesOver settings f left left ga gb result) (sym is) (h, read)
   completes_refused found refusal.NoDisk is h read = cut_over found stop.NoDisk (λ e. absurd cc) (λ e. absurd cc) h
   completes_refused found refusal.NoMemory is h read = cut_over found stop.NoMemory (λ e. absurd cc) (λ e. absurd cc) h
 
   -- nothing was given of a store that was found
-  pub none_of_found : (found : Reopened) (why : NotOpened) → IsRefusalOf found why → RefusesStore why ga gb result → (c : Checkpoint) (later : List Batch) → found ≡ Found c later → Appends ga gb []
+  pub none_of_found : (found : Reopened) (why : NotOpened) → IsRefusalOf found why → RefusesStore why ga gb result → (c : Checkpoint) (later : List Batch)
+      → found ≡ Found c later → Appends ga gb []
   none_of_found found refusal.NoStore is h c later e = absurd (let both : NoStore ≡ Found c later = sym is ∙ e in cc)
   none_of_found found (refusal.Damaged file at) is h c later e = absurd (let both : Damaged file at ≡ Found c later = sym is ∙ e in cc)
   none_of_found found refusal.NoDisk is h c later e = subst (λ (g : Option (List ℕ)). Appends ga g []) (sym h.1) (Appends-nil ga)
@@ -292,27 +335,32 @@ module _ (settings : Run) (left ga gb : Option (List ℕ)) (result : Result ℕ 
 -- ---- the first state
 
 -- before the script every batch that the option divides is behind it
-pub holds_first : (disk : History) (live : Live) (c : Checkpoint) (later : List Batch) → stored_state live ≡ state_of live → Holds disk (plan_of live) (stored_state live) live.store c later
+pub holds_first : (disk : History) (live : Live) (c : Checkpoint) (later : List Batch) → stored_state live ≡ state_of live
+    → Holds disk (plan_of live) (stored_state live) live.store c later
     → HoldsLive (state_of live).batches disk live
 holds_first disk live c later same h = record {
   c = c;
   later = later;
   holds = h;
-  laid = λ number some above within divides. let n : (stored_state live).batches ≡ (state_of live).batches = ap (λ (s : State). s.batches) same in absurd (omega (arith, above, within, n));
+  laid = λ number some above within divides. let n : (stored_state live).batches ≡ (state_of live).batches = ap (λ (s : State). s.batches) same in
+      absurd (omega (arith, above, within, n));
 }
 
 -- ---- what the steps of `run` come to
 
 -- the script that goes on behind the count is the one before it
-pub script_told : (live : Live) (script told_on : Running) (ga gm : Option (List ℕ)) → script.doing ≡ over live → script.store ≡ live.store → script.checkpoint ≡ live.checkpoint
+pub script_told : (live : Live) (script told_on : Running) (ga gm : Option (List ℕ)) → script.doing ≡ over live → script.store ≡ live.store
+    → script.checkpoint ≡ live.checkpoint
     → Serves (Goes (at_text script.doing.state.batches) script) ga gm (Ok told_on) → told_on ≡ running_over live
 script_told live script told_on ga gm d s c serves = serves.0 ∙ script_is live script d s c
 
-at_given : (live : Live) (script told_on : Running) (ga gm : Option (List ℕ)) → script.doing ≡ over live → Serves (Goes (at_text script.doing.state.batches) script) ga gm (Ok told_on)
+at_given : (live : Live) (script told_on : Running) (ga gm : Option (List ℕ)) → script.doing ≡ over live
+    → Serves (Goes (at_text script.doing.state.batches) script) ga gm (Ok told_on)
     → Appends ga gm (at_text (over live).state.batches)
 at_given live script told_on ga gm d serves = subst (λ (e : Doing). Appends ga gm (at_text e.state.batches)) d serves.1
 
-at_cut : (live : Live) (script : Running) (ga gm : Option (List ℕ)) (why : Stop) → script.doing ≡ over live → Serves (Goes (at_text script.doing.state.batches) script) ga gm (Err why)
+at_cut : (live : Live) (script : Running) (ga gm : Option (List ℕ)) (why : Stop) → script.doing ≡ over live
+    → Serves (Goes (at_text script.doing.state.batches) script) ga gm (Err why)
     → Serves (Goes (at_text (over live).state.batches) (over live)) ga gm (Err why)
 at_cut live script ga gm stop.Refused d serves = absurd serves
 at_cut live script ga gm stop.NoMemory d serves = subst (λ (e : Doing). AppendsFront ga gm (at_text e.state.batches)) d serves
@@ -328,10 +376,13 @@ cut_is_none drain d left rest ga gm stop.NoWrite serves = completes_none drain d
 cut_is_none drain d left rest ga gm stop.NoDisk serves = completes_none drain d left rest ga gm stop.NoDisk (λ e. absurd cc) (λ e. absurd cc) serves
 cut_is_none drain d left rest ga gm stop.NoRead serves = absurd serves
 
-pub completes_memory : (drain : Bool) (d : Doing) (left rest ga : Option (List ℕ)) → Completes (told_from d) (out_from drain d) left rest ga ga (Err stop.NoMemory)
-completes_memory drain d left rest ga = completes_none drain d left rest ga ga stop.NoMemory (λ e. absurd cc) (λ e. absurd cc) (front_none ga (at_text d.state.batches))
+pub completes_memory : (drain : Bool) (d : Doing) (left rest ga : Option (List ℕ))
+    → Completes (told_from d) (out_from drain d) left rest ga ga (Err stop.NoMemory)
+completes_memory drain d left rest ga = completes_none drain d left rest ga ga stop.NoMemory (λ e. absurd cc) (λ e. absurd cc)
+    (front_none ga (at_text d.state.batches))
 
-pub completes_at : (drain : Bool) (live : Live) (script told_on : Running) (left rest ga gm gc : Option (List ℕ)) (result : Result ℕ Stop) → script.doing ≡ over live → script.store ≡ live.store
+pub completes_at : (drain : Bool) (live : Live) (script told_on : Running) (left rest ga gm gc : Option (List ℕ)) (result : Result ℕ Stop)
+    → script.doing ≡ over live → script.store ≡ live.store
     → script.checkpoint ≡ live.checkpoint → Serves (Goes (at_text script.doing.state.batches) script) ga gm (Ok told_on)
     → Completes (told on_line no_line told_on.doing) (whole on_line (on_end drain) no_line told_on.doing) left rest gm gc result
     → Completes (told_from (over live)) (out_from drain (over live)) left rest ga gc result
@@ -340,8 +391,10 @@ completes_at drain live script told_on left rest ga gm gc result d s c serves h 
     completes_behind drain (over live) left rest ga gm gc result (at_given live script told_on ga gm d serves)
     (subst (λ (x : Running). Completes (told on_line no_line x.doing) (whole on_line (on_end drain) no_line x.doing) left rest gm gc result) is h)
 
-pub completes_cut_at : (drain : Bool) (live : Live) (script : Running) (left rest ga gm : Option (List ℕ)) (why : Stop) → script.doing ≡ over live → script.store ≡ live.store
-    → script.checkpoint ≡ live.checkpoint → Serves (Goes (at_text script.doing.state.batches) script) ga gm (Err why) → Completes (told_from (over live)) (out_from drain (over live)) left rest ga gm (Err why)
+pub completes_cut_at : (drain : Bool) (live : Live) (script : Running) (left rest ga gm : Option (List ℕ)) (why : Stop) → script.doing ≡ over live
+    → script.store ≡ live.store
+    → script.checkpoint ≡ live.checkpoint → Serves (Goes (at_text script.doing.state.batches) script) ga gm (Err why)
+    → Completes (told_from (over live)) (out_from drain (over live)) left rest ga gm (Err why)
 completes_cut_at drain live script left rest ga gm why d s c serves = cut_is_none drain (over live) left rest ga gm why (at_cut live script ga gm why d serves)
 
 module _ (drain : Bool) (first : ℕ) (live : Live) (a : History) where
@@ -357,10 +410,12 @@ module _ (drain : Bool) (first : ℕ) (live : Live) (a : History) where
 
     module _ (told_on : Running) (left : Option (List ℕ)) (z : History) where
       abbrev Behind : Running → Option (List ℕ) → Type 0
-      Behind x gc = HoldsScript first a x → IfSome left (λ text. Keeps (PassesTurns (text_turns drain x.doing text) x.doing (held_of x)) (plan_in x.doing.place.head) a z gm gc)
+      Behind x gc = HoldsScript first a x
+          → IfSome left (λ text. Keeps (PassesTurns (text_turns drain x.doing text) x.doing (held_of x)) (plan_in x.doing.place.head) a z gm gc)
 
       abbrev LaidBehind : Running → Type 0
-      LaidBehind x = HoldsScript first a x → IfSome left (λ text. LeavesLaid first x.checkpoint z (plan_in x.doing.place.head) (held_behind (text_turns drain x.doing text) x.doing (held_of x)))
+      LaidBehind x = HoldsScript first a x
+          → IfSome left (λ text. LeavesLaid first x.checkpoint z (plan_in x.doing.place.head) (held_behind (text_turns drain x.doing text) x.doing (held_of x)))
 
       pub keeps_at : (gc : Option (List ℕ)) → script.doing ≡ over live → script.store ≡ live.store → script.checkpoint ≡ live.checkpoint
           → Serves (Goes (at_text script.doing.state.batches) script) ga gm (Ok told_on) → Behind told_on gc
@@ -371,7 +426,8 @@ module _ (drain : Bool) (first : ℕ) (live : Live) (a : History) where
 
       pub laid_at : script.doing ≡ over live → script.store ≡ live.store → script.checkpoint ≡ live.checkpoint
           → Serves (Goes (at_text script.doing.state.batches) script) ga gm (Ok told_on) → LaidBehind told_on
-          → IfSome left (λ text. LeavesLaid first live.checkpoint z (plan_of live) (held_behind (turns_over drain (over live) text) (over live) (stored_state live)))
+          → IfSome left (λ text. LeavesLaid first live.checkpoint z (plan_of live)
+          (held_behind (turns_over drain (over live) text) (over live) (stored_state live)))
       laid_at d s c serves h =
           let is = script_told live script told_on ga gm d s c serves in
           laid_over drain first live a ga gm holds left z (subst (λ (x : Running). LaidBehind x) is h holds)

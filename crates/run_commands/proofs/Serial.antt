@@ -69,7 +69,8 @@ pub each_is_serial : (settings : Once) (text : List ℕ) → EachIsSerial settin
 each_is_serial settings text =
     let s = scan no_line text in
     let begun : Counted (Goes [] (start_of settings)) = omega arith in
-    serially (told_of settings text) (fault_counted (with_lines on_line (Goes [] (start_of settings)) s.lines) s.fault (lines_counted (Goes [] (start_of settings)) s.lines begun))
+    serially (told_of settings text) (fault_counted (with_lines on_line (Goes [] (start_of settings)) s.lines) s.fault
+    (lines_counted (Goes [] (start_of settings)) s.lines begun))
 
 pub one_output : (first second : Once) (text : List ℕ) → IsAlike first second → AreOne first second text
 one_output first second text alike =
@@ -79,14 +80,17 @@ one_output first second text alike =
 -- ---- over a store
 
 -- the requests that a store carries over have their numbers in order
-numbered_in : (slot : ℕ) (c d : Checkpoint) (later : List Batch) (head : Head) (body : List ℕ) (log : Log) → d.head ≡ head → IsBodyFor head body (values_in d) → LogReads slot d log (Found c later)
+numbered_in : (slot : ℕ) (c d : Checkpoint) (later : List Batch) (head : Head) (body : List ℕ) (log : Log) → d.head ≡ head → IsBodyFor head body (values_in d)
+    → LogReads slot d log (Found c later)
     → IsNumbered (state_at c)
 numbered_in slot c d later head body (Breaks at) same says h = absurd cc
 numbered_in slot c d later head body (Ends payloads end) same says h =
-    let own : IsNumbered (state_at d) = subst (λ (n : ℕ). RiseWithin (λ request. request.q) 0 d.held n) (ap (λ (x : Head). x.requests) (sym same)) says.carried.numbered in
+    let own : IsNumbered (state_at d) = subst (λ (n : ℕ). RiseWithin (λ request. request.q) 0 d.held n)
+    (ap (λ (x : Head). x.requests) (sym same)) says.carried.numbered in
     subst (λ (x : Checkpoint). IsNumbered (state_at x)) (sym h.0) own
 
-numbered_taken : (slot : ℕ) (c : Checkpoint) (later : List Batch) (head : Head) (body : List ℕ) (log : Log) (reading : Reading) → BodyReads head body reading → TakenReads slot reading log (Found c later)
+numbered_taken : (slot : ℕ) (c : Checkpoint) (later : List Batch) (head : Head) (body : List ℕ) (log : Log) (reading : Reading) → BodyReads head body reading
+    → TakenReads slot reading log (Found c later)
     → IsNumbered (state_at c)
 numbered_taken slot c later head body log images.Nothing reads h = absurd reads
 numbered_taken slot c later head body log (images.Broken at) reads h = absurd cc
@@ -99,7 +103,8 @@ numbered_opened c later (Taken slot head body log) h = numbered_taken slot c lat
 
 run_numbered : (plan : Plan) (state : State) (later : List Batch) → IsNumbered state → IsNumbered (run (run_of plan) state (map handed_batch later))
 run_numbered plan state [] h = h
-run_numbered plan state (batch ∷ later) h = run_numbered plan (step (run_of plan) state (handed_batch batch)) later (keeps_numbers (run_of plan) state (handed_batch batch) h)
+run_numbered plan state (batch ∷ later) h = run_numbered plan (step (run_of plan) state (handed_batch batch)) later
+    (keeps_numbers (run_of plan) state (handed_batch batch) h)
 
 pub each_run_is_serial : EachRunIsSerial
 each_run_is_serial settings files c later text reopens =
@@ -107,7 +112,8 @@ each_run_is_serial settings files c later text reopens =
     let s = scan no_line text in
     let begun : Counted (Goes [] d) = run_numbered c.plan (state_at c) later (numbered_opened c later (opened_of files) reopens) in
     serially (told_from d text)
-    (behind_counted (at_text d.state.batches) (told on_line no_line d text) (fault_counted (with_lines on_line (Goes [] d) s.lines) s.fault (lines_counted (Goes [] d) s.lines begun)))
+    (behind_counted (at_text d.state.batches) (told on_line no_line d text)
+    (fault_counted (with_lines on_line (Goes [] d) s.lines) s.fault (lines_counted (Goes [] d) s.lines begun)))
 
 pub each_replay_is_serial : EachReplayIsSerial
 each_replay_is_serial files c later reopens =

@@ -42,7 +42,8 @@ either : {A : Type 0} (P : A → Type 0) (b : Bool) (o p : Option A) → (b ≡ 
 either P true o p h k = h refl
 either P false o p h k = k refl
 
-then : {A B : Type 0} (P : A → Type 0) (Q : B → Type 0) (f : A → Option B) (o : Option A) → IfSome o P → ((x : A) → P x → IfSome (f x) Q) → IfSome (option_and_then f o) Q
+then : {A B : Type 0} (P : A → Type 0) (Q : B → Type 0) (f : A → Option B) (o : Option A) → IfSome o P → ((x : A) → P x → IfSome (f x) Q)
+    → IfSome (option_and_then f o) Q
 then P Q f None h k = tt
 then P Q f (Some x) h k = k x h
 
@@ -89,10 +90,12 @@ module _ {X : Type 0} (read : List ℕ → Option X) (token : X → List ℕ) (s
   all_after_lighter : (done : List X) (ts : List (List ℕ)) → IfSome (all_after read done ts) (λ xs. weight token xs ≤ weight token done + weight (λ t. t) ts)
   all_after_lighter done [] = omega arith
   all_after_lighter done (t ∷ ts) =
-      then (λ x. length (token x) ≤ length t) (λ xs. weight token xs ≤ weight token done + weight (λ t. t) (t ∷ ts)) (λ x. all_after read (done ++ x ∷ []) ts) (read t) (short t)
+      then (λ x. length (token x) ≤ length t) (λ xs. weight token xs ≤ weight token done + weight (λ t. t) (t ∷ ts)) (λ x. all_after read (done ++ x ∷ []) ts)
+      (read t) (short t)
       (λ x few. lighter x few (all_after read (done ++ x ∷ []) ts) (all_after_lighter (done ++ x ∷ []) ts))
     where
-      lighter : (x : X) → length (token x) ≤ length t → (o : Option (List X)) → IfSome o (λ xs. weight token xs ≤ weight token (done ++ x ∷ []) + weight (λ t. t) ts)
+      lighter : (x : X) → length (token x) ≤ length t → (o : Option (List X))
+          → IfSome o (λ xs. weight token xs ≤ weight token (done ++ x ∷ []) + weight (λ t. t) ts)
           → IfSome o (λ xs. weight token xs ≤ weight token done + weight (λ t. t) (t ∷ ts))
       lighter x few None h = tt
       lighter x few (Some xs) h = let e = weight_behind token (x ∷ []) done in omega arith
@@ -103,10 +106,12 @@ module _ {X : Type 0} (read : List ℕ → Option X) (token : X → List ℕ) (s
       subst (λ n. IfSome (all_of read ts) (λ xs. weight token xs ≤ n)) whole (all_after_lighter [] ts)
 
   -- the pieces of a token
-  pub pieces_short : (c : ℕ) (bytes : List ℕ) → IfSome (all_of read (slice_split (λ b. b == c) bytes)) (λ xs. length (join_with_byte c (map token xs)) ≤ length bytes)
+  pub pieces_short : (c : ℕ) (bytes : List ℕ) → IfSome (all_of read (slice_split (λ b. b == c) bytes))
+      (λ xs. length (join_with_byte c (map token xs)) ≤ length bytes)
   pieces_short c bytes = by (all_of read (slice_split (λ b. b == c) bytes)) (all_lighter (slice_split (λ b. b == c) bytes))
     where
-      by : (o : Option (List X)) → IfSome o (λ xs. weight token xs ≤ weight (λ t. t) (slice_split (λ b. b == c) bytes)) → IfSome o (λ xs. length (join_with_byte c (map token xs)) ≤ length bytes)
+      by : (o : Option (List X)) → IfSome o (λ xs. weight token xs ≤ weight (λ t. t) (slice_split (λ b. b == c) bytes))
+          → IfSome o (λ xs. length (join_with_byte c (map token xs)) ≤ length bytes)
       by None h = tt
       by (Some xs) h =
           let whole = weight_split c bytes in
@@ -124,9 +129,11 @@ one_digit_more front digit power n small below =
 
 digits_below : (front : ℕ) (ds : List ℕ) → IfSome (digits_after front ds) (λ n. n < suc front * 10 ^ length ds)
 digits_below front [] = omega arith
-digits_below front (d ∷ ds) = kept (λ n. n < suc front * 10 ^ length (d ∷ ds)) (is_ascii_digit d) (digits_after (10 * front + (d - 48)) ds) (λ digit. by digit (digits_after (10 * front + (d - 48)) ds) (digits_below (10 * front + (d - 48)) ds))
+digits_below front (d ∷ ds) = kept (λ n. n < suc front * 10 ^ length (d ∷ ds)) (is_ascii_digit d) (digits_after (10 * front + (d - 48)) ds)
+    (λ digit. by digit (digits_after (10 * front + (d - 48)) ds) (digits_below (10 * front + (d - 48)) ds))
   where
-    by : is_ascii_digit d ≡ true → (o : Option ℕ) → IfSome o (λ n. n < suc (10 * front + (d - 48)) * 10 ^ length ds) → IfSome o (λ n. n < suc front * 10 ^ length (d ∷ ds))
+    by : is_ascii_digit d ≡ true → (o : Option ℕ) → IfSome o (λ n. n < suc (10 * front + (d - 48)) * 10 ^ length ds)
+        → IfSome o (λ n. n < suc front * 10 ^ length (d ∷ ds))
     by digit None h = tt
     by digit (Some n) h =
         let small : d - 48 ≤ 9 = grind (arith, common_steps, digit) in
@@ -147,9 +154,11 @@ natural_short (d ∷ ds) = kept (IsWrittenIn (d ∷ ds)) (is_short d ds) (digits
 number_short : (t : List ℕ) → IfSome (number_of t) (λ z. length (signed_decimal z) ≤ length t)
 number_short [] = tt
 number_short (b ∷ bs) =
-    either (λ z. length (signed_decimal z) ≤ length (b ∷ bs)) (b == 45) (option_and_then below_zero (natural_of bs)) (option_and_then not_below_zero (natural_of (b ∷ bs)))
+    either (λ z. length (signed_decimal z) ≤ length (b ∷ bs)) (b == 45) (option_and_then below_zero (natural_of bs))
+    (option_and_then not_below_zero (natural_of (b ∷ bs)))
     (λ sign. then (IsWrittenIn bs) (λ z. length (signed_decimal z) ≤ length (b ∷ bs)) below_zero (natural_of bs) (natural_short bs) below)
-    (λ sign. then (IsWrittenIn (b ∷ bs)) (λ z. length (signed_decimal z) ≤ length (b ∷ bs)) not_below_zero (natural_of (b ∷ bs)) (natural_short (b ∷ bs)) not_below)
+    (λ sign. then (IsWrittenIn (b ∷ bs)) (λ z. length (signed_decimal z) ≤ length (b ∷ bs)) not_below_zero (natural_of (b ∷ bs))
+    (natural_short (b ∷ bs)) not_below)
   where
     below : (n : ℕ) → IsWrittenIn bs n → IfSome (below_zero n) (λ z. length (signed_decimal z) ≤ length (b ∷ bs))
     below zero h = tt
@@ -169,7 +178,8 @@ number_short (b ∷ bs) =
 -- ---- texts and lists
 
 before_last_short : (b : ℕ) (bytes : List ℕ) → IfSome (before_last b bytes) (λ t. length t + 1 ≤ length bytes)
-before_last_short b bytes = kept (λ t. length t + 1 ≤ length bytes) (nat_le 1 (length bytes) && get_or bytes (length bytes - 1) 0 == b) (Some (take (length bytes - 1) bytes))
+before_last_short b bytes = kept (λ t. length t + 1 ≤ length bytes) (nat_le 1 (length bytes) && get_or bytes (length bytes - 1) 0 == b)
+    (Some (take (length bytes - 1) bytes))
     (λ ends.
     let some : 1 ≤ length bytes = grind (arith, common_steps, ends) in
     let front : length (take (length bytes - 1) bytes) ≡ length bytes - 1 = length-take-le (length bytes - 1) bytes (omega arith) in
@@ -180,19 +190,22 @@ text_short bs = then (λ t. length t + 1 ≤ length bs) (λ t. length t + 1 ≤ 
     (λ t few. kept (λ u. length u + 1 ≤ length bs) (nat_le (length t) LONGEST_TEXT && list_all may_hold t) (Some t) (λ fits. few))
 
 tuple_short : (t : List ℕ) → IfSome (tuple_of t) (λ zs. length (tuple_token zs) ≤ length t)
-tuple_short t = then (λ zs. length (tuple_token zs) ≤ length t) (λ zs. length (tuple_token zs) ≤ length t) fit_tuple (all_of number_of (slice_split (λ b. b == 44) t))
+tuple_short t = then (λ zs. length (tuple_token zs) ≤ length t) (λ zs. length (tuple_token zs) ≤ length t) fit_tuple
+    (all_of number_of (slice_split (λ b. b == 44) t))
     (pieces_short number_of signed_decimal number_short 44 t)
     (λ zs few. kept (λ us. length (tuple_token us) ≤ length t) (nat_le SHORTEST_TUPLE (length zs) && nat_le (length zs) LONGEST_TUPLE) (Some zs) (λ fits. few))
 
 tuples_short : (t : List ℕ) → IfSome (tuples_of t) (λ ts. length (join_with_byte 59 (map tuple_token ts)) ≤ length t)
 tuples_short [] = omega arith
-tuples_short (b ∷ bs) = then (λ ts. length (join_with_byte 59 (map tuple_token ts)) ≤ length (b ∷ bs)) (λ ts. length (join_with_byte 59 (map tuple_token ts)) ≤ length (b ∷ bs)) fit_list
+tuples_short (b ∷ bs) = then (λ ts. length (join_with_byte 59 (map tuple_token ts)) ≤ length (b ∷ bs))
+    (λ ts. length (join_with_byte 59 (map tuple_token ts)) ≤ length (b ∷ bs)) fit_list
     (all_of tuple_of (slice_split (λ c. c == 59) (b ∷ bs)))
     (pieces_short tuple_of tuple_token tuple_short 59 (b ∷ bs))
     (λ ts few. kept (λ us. length (join_with_byte 59 (map tuple_token us)) ≤ length (b ∷ bs)) (same_lengths ts) (Some ts) (λ fits. few))
 
 list_short : (bs : List ℕ) → IfSome (list_behind bs) (λ ts. length (join_with_byte 59 (map tuple_token ts)) + 1 ≤ length bs)
-list_short bs = then (λ t. length t + 1 ≤ length bs) (λ ts. length (join_with_byte 59 (map tuple_token ts)) + 1 ≤ length bs) tuples_of (before_last 93 bs) (before_last_short 93 bs)
+list_short bs = then (λ t. length t + 1 ≤ length bs) (λ ts. length (join_with_byte 59 (map tuple_token ts)) + 1 ≤ length bs) tuples_of (before_last 93 bs)
+    (before_last_short 93 bs)
     (λ t few. by t few (tuples_of t) (tuples_short t))
   where
     by : (t : List ℕ) → length t + 1 ≤ length bs → (o : Option (List (List ℤ))) → IfSome o (λ ts. length (join_with_byte 59 (map tuple_token ts)) ≤ length t)
@@ -203,13 +216,16 @@ list_short bs = then (λ t. length t + 1 ≤ length bs) (λ ts. length (join_wit
 arg_short : (t : List ℕ) → IfSome (arg_of t) (λ a. length (arg_token a) ≤ length t)
 arg_short [] = tt
 arg_short (b ∷ bs) =
-    either (λ a. length (arg_token a) ≤ length (b ∷ bs)) (b == 34) (option_map arg.Text (text_behind bs)) (cond (b == 91) (option_map arg.List (list_behind bs)) (option_map arg.Int (number_of (b ∷ bs))))
+    either (λ a. length (arg_token a) ≤ length (b ∷ bs)) (b == 34) (option_map arg.Text (text_behind bs))
+    (cond (b == 91) (option_map arg.List (list_behind bs)) (option_map arg.Int (number_of (b ∷ bs))))
     (λ quote. mapped (λ t. length t + 1 ≤ length bs) (λ a. length (arg_token a) ≤ length (b ∷ bs)) arg.Text (text_behind bs) (text_short bs)
     (λ t few. let e = length-append t (34 ∷ []) in omega arith))
     (λ other. either (λ a. length (arg_token a) ≤ length (b ∷ bs)) (b == 91) (option_map arg.List (list_behind bs)) (option_map arg.Int (number_of (b ∷ bs)))
-    (λ bracket. mapped (λ ts. length (join_with_byte 59 (map tuple_token ts)) + 1 ≤ length bs) (λ a. length (arg_token a) ≤ length (b ∷ bs)) arg.List (list_behind bs) (list_short bs)
+    (λ bracket. mapped (λ ts. length (join_with_byte 59 (map tuple_token ts)) + 1 ≤ length bs) (λ a. length (arg_token a) ≤ length (b ∷ bs)) arg.List
+    (list_behind bs) (list_short bs)
     (λ ts few. let e = length-append (join_with_byte 59 (map tuple_token ts)) (93 ∷ []) in omega arith))
-    (λ digit. mapped (λ z. length (signed_decimal z) ≤ length (b ∷ bs)) (λ a. length (arg_token a) ≤ length (b ∷ bs)) arg.Int (number_of (b ∷ bs)) (number_short (b ∷ bs)) (λ z few. few)))
+    (λ digit. mapped (λ z. length (signed_decimal z) ≤ length (b ∷ bs)) (λ a. length (arg_token a) ≤ length (b ∷ bs)) arg.Int (number_of (b ∷ bs))
+    (number_short (b ∷ bs)) (λ z few. few)))
 
 -- ---- the tokens of a line
 
@@ -218,7 +234,8 @@ with_token_weighs [] more = omega arith
 with_token_weighs (b ∷ bs) more = omega arith
 
 -- the first token ends here, or goes on
-cut_weighs : (space : Bool) (begun : List ℕ) (rest more : List (List ℕ)) (n : ℕ) → weight (λ t. t) rest ≤ suc n → weight (λ t. t) more ≤ length begun + 1 + suc n
+cut_weighs : (space : Bool) (begun : List ℕ) (rest more : List (List ℕ)) (n : ℕ) → weight (λ t. t) rest ≤ suc n
+    → weight (λ t. t) more ≤ length begun + 1 + suc n
     → weight (λ t. t) (cond space (with_token begun rest) more) ≤ length begun + suc (suc n)
 cut_weighs true begun rest more n here on = let first = with_token_weighs begun rest in omega arith
 cut_weighs false begun rest more n here on = omega arith
@@ -229,7 +246,8 @@ tokens_weigh begun in_text (b ∷ bs) =
     let here = tokens_weigh [] false bs in
     let on = tokens_weigh (begun ++ b ∷ []) (cond (b == 34) (not in_text) in_text) bs in
     let e = length-append begun (b ∷ []) in
-    cut_weighs (b == 32 && not in_text) begun (tokens_from [] false bs) (tokens_from (begun ++ b ∷ []) (cond (b == 34) (not in_text) in_text) bs) (length bs) (omega arith) (omega arith)
+    cut_weighs (b == 32 && not in_text) begun (tokens_from [] false bs) (tokens_from (begun ++ b ∷ []) (cond (b == 34) (not in_text) in_text) bs) (length bs)
+    (omega arith) (omega arith)
 
 -- ---- what a line says
 
@@ -250,7 +268,8 @@ any (Some x) = tt
 
 tx_within : (kind : List ℕ) (n : ℕ) (rest : List (List ℕ)) → length kind ≡ 2 → weight (λ t. t) (kind ∷ rest) ≤ suc n → IfSome (tx_of rest) (IsCallWithin n)
 tx_within kind n [] two whole = tt
-tx_within kind n (proc ∷ ts) two whole = kept (IsCallWithin n) (is_word proc) (with_tx proc (all_of arg_of ts)) (λ word. by (all_of arg_of ts) (all_lighter arg_of arg_token arg_short ts))
+tx_within kind n (proc ∷ ts) two whole = kept (IsCallWithin n) (is_word proc) (with_tx proc (all_of arg_of ts))
+    (λ word. by (all_of arg_of ts) (all_lighter arg_of arg_token arg_short ts))
   where
     by : (o : Option (List Arg)) → IfSome o (λ args. weight arg_token args ≤ weight (λ t. t) ts) → IfSome (with_tx proc o) (IsCallWithin n)
     by None h = tt
@@ -259,14 +278,17 @@ tx_within kind n (proc ∷ ts) two whole = kept (IsCallWithin n) (is_word proc) 
 row_with : (n : ℕ) (table : List ℕ) (parts : List Part) (o : Option (List Value)) → IfSome (with_row table parts o) (IsCallWithin n)
 row_with n table parts None = tt
 row_with n table parts (Some values) =
-    kept (IsCallWithin n) (nat_le FEWEST_PARTS (length parts) && nat_le (length parts) MOST_PARTS && nat_le (length values) MOST_COLUMNS) (Some (item.Row table parts values)) (λ fits. tt)
+    kept (IsCallWithin n) (nat_le FEWEST_PARTS (length parts) && nat_le (length parts) MOST_PARTS && nat_le (length values) MOST_COLUMNS)
+    (Some (item.Row table parts values)) (λ fits. tt)
 
 row_behind : (n : ℕ) (table : List ℕ) (parts : List Part) (ts : List (List ℕ)) → IfSome (row_after table parts ts) (IsCallWithin n)
 row_behind n table parts [] = tt
 row_behind n table parts (t ∷ ts) =
-    either (IsCallWithin n) (bytes_eq t (codes "=")) (with_row table parts (all_of value_of ts)) (option_and_then (λ part. row_after table (parts ++ part ∷ []) ts) (part_of t))
+    either (IsCallWithin n) (bytes_eq t (codes "=")) (with_row table parts (all_of value_of ts))
+    (option_and_then (λ part. row_after table (parts ++ part ∷ []) ts) (part_of t))
     (λ sign. row_with n table parts (all_of value_of ts))
-    (λ other. then (λ part. Unit {0}) (IsCallWithin n) (λ part. row_after table (parts ++ part ∷ []) ts) (part_of t) (any (part_of t)) (λ part is. row_behind n table (parts ++ part ∷ []) ts))
+    (λ other. then (λ part. Unit {0}) (IsCallWithin n) (λ part. row_after table (parts ++ part ∷ []) ts) (part_of t) (any (part_of t))
+    (λ part is. row_behind n table (parts ++ part ∷ []) ts))
 
 row_within : (n : ℕ) (ts : List (List ℕ)) → IfSome (row_of ts) (IsCallWithin n)
 row_within n [] = tt
@@ -283,10 +305,12 @@ end_within n ts = by (option_and_then number_of (only ts))
 settings_within : (n : ℕ) (ts : List (List ℕ)) → IfSome (settings_of ts) (IsCallWithin n)
 settings_within n [] = tt
 settings_within n (name ∷ ts) = kept (IsCallWithin n) (is_word name) (option_map (item.Settings name) (option_and_then number_of (only ts)))
-    (λ word. mapped (λ z. Unit {0}) (IsCallWithin n) (item.Settings name) (option_and_then number_of (only ts)) (any (option_and_then number_of (only ts))) (λ z is. tt))
+    (λ word. mapped (λ z. Unit {0}) (IsCallWithin n) (item.Settings name) (option_and_then number_of (only ts)) (any (option_and_then number_of (only ts)))
+    (λ z is. tt))
 
 catalog_within : (n : ℕ) (ts : List (List ℕ)) → IfSome (catalog_of ts) (IsCallWithin n)
-catalog_within n ts = mapped (λ name. Unit {0}) (IsCallWithin n) item.Catalog (option_and_then word_of (only ts)) (any (option_and_then word_of (only ts))) (λ name is. tt)
+catalog_within n ts = mapped (λ name. Unit {0}) (IsCallWithin n) item.Catalog (option_and_then word_of (only ts)) (any (option_and_then word_of (only ts)))
+    (λ name is. tt)
 
 report_within : (n : ℕ) (ts : List (List ℕ)) → IfSome (report_of ts) (IsCallWithin n)
 report_within n [] = tt
@@ -328,14 +352,17 @@ call_within line proc args says = subst (λ (r : Result Item RefusalKind). IfOk 
 
 -- ---- its name in the catalogue
 
-named_from : (procs : List Proc) (name : List ℕ) (i : ℕ) → IfSome (position_from (λ p. bytes_eq p.name name) i procs) (λ n. (i ≤ n) × (length (proc_name procs (n - i)) ≡ length name))
+named_from : (procs : List Proc) (name : List ℕ) (i : ℕ) → IfSome (position_from (λ p. bytes_eq p.name name) i procs)
+    (λ n. (i ≤ n) × (length (proc_name procs (n - i)) ≡ length name))
 named_from [] name i = tt
 named_from (p ∷ procs) name i =
-    either (λ n. (i ≤ n) × (length (proc_name (p ∷ procs) (n - i)) ≡ length name)) (bytes_eq p.name name) (Some i) (position_from (λ p. bytes_eq p.name name) (i + 1) procs)
+    either (λ n. (i ≤ n) × (length (proc_name (p ∷ procs) (n - i)) ≡ length name)) (bytes_eq p.name name) (Some i)
+    (position_from (λ p. bytes_eq p.name name) (i + 1) procs)
     (λ is. (omega arith, let none : i - i ≡ zero = omega arith in rw none (same_length p.name name is)))
     (λ other. by (position_from (λ p. bytes_eq p.name name) (i + 1) procs) (named_from procs name (i + 1)))
   where
-    by : (o : Option ℕ) → IfSome o (λ n. (i + 1 ≤ n) × (length (proc_name procs (n - (i + 1))) ≡ length name)) → IfSome o (λ n. (i ≤ n) × (length (proc_name (p ∷ procs) (n - i)) ≡ length name))
+    by : (o : Option ℕ) → IfSome o (λ n. (i + 1 ≤ n) × (length (proc_name procs (n - (i + 1))) ≡ length name))
+        → IfSome o (λ n. (i ≤ n) × (length (proc_name (p ∷ procs) (n - i)) ≡ length name))
     by None h = tt
     by (Some n) h =
         let more : i + 1 ≤ n = h.0 in
@@ -343,10 +370,12 @@ named_from (p ∷ procs) name i =
         (omega arith, rw one h.1)
 
 named : (plan : Plan) (name : List ℕ) → IfSome (proc_named plan name) (λ n. length (proc_name plan.procs n) ≡ length name)
-named plan name = subst (λ (o : Option ℕ). IfSome o (λ n. length (proc_name plan.procs n) ≡ length name)) (sym (position_from-zero (λ p. bytes_eq p.name name) plan.procs))
+named plan name = subst (λ (o : Option ℕ). IfSome o (λ n. length (proc_name plan.procs n) ≡ length name))
+    (sym (position_from-zero (λ p. bytes_eq p.name name) plan.procs))
     (by (position_from (λ p. bytes_eq p.name name) 0 plan.procs) (named_from plan.procs name 0))
   where
-    by : (o : Option ℕ) → IfSome o (λ n. (0 ≤ n) × (length (proc_name plan.procs (n - 0)) ≡ length name)) → IfSome o (λ n. length (proc_name plan.procs n) ≡ length name)
+    by : (o : Option ℕ) → IfSome o (λ n. (0 ≤ n) × (length (proc_name plan.procs (n - 0)) ≡ length name))
+        → IfSome o (λ n. length (proc_name plan.procs n) ≡ length name)
     by None h = tt
     by (Some n) h = let same : n - 0 ≡ n = omega arith in subst (λ (m : ℕ). length (proc_name plan.procs m) ≡ length name) same h.1
 
@@ -355,13 +384,15 @@ pub placed_within : (plan : Plan) (name : List ℕ) (args : List Arg) (n : ℕ) 
     → IfOk (placed_call plan name args) (λ call. length (call_line plan.procs call) ≤ n)
 placed_within plan name args n whole = by (proc_named plan name) (named plan name)
   where
-    by : (o : Option ℕ) → IfSome o (λ proc. length (proc_name plan.procs proc) ≡ length name) → IfOk (call_of plan args o) (λ call. length (call_line plan.procs call) ≤ n)
+    by : (o : Option ℕ) → IfSome o (λ proc. length (proc_name plan.procs proc) ≡ length name)
+        → IfOk (call_of plan args o) (λ call. length (call_line plan.procs call) ≤ n)
     by None h = tt
-    by (Some proc) h = elim (takes plan (record { proc = proc; args = args })) as (λ b. IfOk (cond b (Ok (record { proc = proc; args = args })) (Err Argument)) (λ call. length (call_line plan.procs call) ≤ n)) [
-      | false ↦ tt
-      | true ↦
-          let front = length-append (codes "tx " ++ proc_name plan.procs proc) (spaced arg_token args) in
-          let name = length-append (codes "tx ") (proc_name plan.procs proc) in
-          let behind = weight_spaced arg_token args in
-          omega arith
-    ]
+    by (Some proc) h = elim (takes plan (record { proc = proc; args = args })) as (λ b. IfOk (cond b (Ok (record { proc = proc; args = args })) (Err Argument))
+        (λ call. length (call_line plan.procs call) ≤ n)) [
+          | false ↦ tt
+          | true ↦
+              let front = length-append (codes "tx " ++ proc_name plan.procs proc) (spaced arg_token args) in
+              let name = length-append (codes "tx ") (proc_name plan.procs proc) in
+              let behind = weight_spaced arg_token args in
+              omega arith
+        ]

@@ -34,7 +34,8 @@ blank_under plan (base.Rows tables config) e =
     subst (λ (db : Database). IsConsistent plan.tables db) (sym e) (λ key row found. absurd (let none = get-empty {X = Cells} key_cmp key in cc))
 blank_under plan (base.Runs live) e = absurd e
 
-by_test : (schema : List Table) (db : Database) (key q : Key) (row cells : Cells) (same : Bool) → (same ≡ true → q ≡ key) → IsConsistent schema db → Fits schema key row
+by_test : (schema : List Table) (db : Database) (key q : Key) (row cells : Cells) (same : Bool) → (same ≡ true → q ≡ key) → IsConsistent schema db
+    → Fits schema key row
     → cond same (Some row) (fin.get db q) ≡ Some cells → Fits schema q cells
 by_test schema db key q row cells true is whole fits e =
     let here : Fits schema q row = subst (λ (k : Key). Fits schema k row) (sym (is refl)) fits in
@@ -42,9 +43,11 @@ by_test schema db key q row cells true is whole fits e =
     subst (λ (r : Cells). Fits schema q r) same_row here
 by_test schema db key q row cells false is whole fits e = whole q cells e
 
-pub consistent_with : (schema : List Table) (db : Database) (key : Key) (row : Cells) → IsConsistent schema db → Fits schema key row → IsConsistent schema (fin.insert db key row)
+pub consistent_with : (schema : List Table) (db : Database) (key : Key) (row : Cells) → IsConsistent schema db → Fits schema key row
+    → IsConsistent schema (fin.insert db key row)
 consistent_with schema db key row whole fits = λ q cells found.
-    by_test schema db key q row cells (eq_by_cmp key_cmp q key) (λ e. same_key key_cmp-IsAntisymmetric q key e) whole fits (sym (get-insert key_cmp_total db key row q) ∙ found)
+    by_test schema db key q row cells (eq_by_cmp key_cmp q key) (λ e. same_key key_cmp-IsAntisymmetric q key e) whole fits
+    (sym (get-insert key_cmp_total db key row q) ∙ found)
 
 -- ---- the head goes on
 
@@ -74,7 +77,8 @@ module _ (p q : Place) (work : Work) where
     engines = h.engines;
   }
 
-  stands_on : q.mode ≡ p.mode → HeadStays p.head q.head → (p.rows_ended ≡ true → q.rows_ended ≡ true) → q.open_calls ≡ p.open_calls → Stands p work → Stands q work
+  stands_on : q.mode ≡ p.mode → HeadStays p.head q.head → (p.rows_ended ≡ true → q.rows_ended ≡ true) → q.open_calls ≡ p.open_calls → Stands p work
+      → Stands q work
   stands_on mode stays rows calls s = record { holds = holds_on mode stays rows s.holds; counted = calls ∙ s.counted; few = s.few }
 
 before_batches : (rows : Bool) (b : Base) → rows ≡ false → HasEnded rows b → IsHead b

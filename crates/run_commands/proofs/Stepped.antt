@@ -53,7 +53,8 @@ abbrev count_in : Course Doing → ℕ
 count_in (Goes bytes d) = d.state.batches
 count_in (Stops bytes) = 0
 
-pub quiet_count : (d : Doing) (asks : Deed) → runs_batch asks ≡ false → (bytes : List ℕ) (next : Doing) → done d asks ≡ Goes bytes next → next.state.batches ≡ d.state.batches
+pub quiet_count : (d : Doing) (asks : Deed) → runs_batch asks ≡ false → (bytes : List ℕ) (next : Doing) → done d asks ≡ Goes bytes next
+    → next.state.batches ≡ d.state.batches
 quiet_count d deed.Run q bytes next e = absurd cc
 quiet_count d deed.Nothing q bytes next e = sym (ap count_in e)
 quiet_count d deed.Tell q bytes next e = sym (ap count_in e)
@@ -69,7 +70,8 @@ when_true false x y e = absurd cc
 pub same_count : (n m : ℕ) → n ≡ m → (n == m) ≡ true
 same_count n m e = grind (arith, e)
 
-pub quiet_keeps : (plan : Plan) (line : List ℕ) (before d : Doing) (held : State) (asks : Deed) → runs_batch asks ≡ false → before.state ≡ d.state → on_line before line ≡ done d asks
+pub quiet_keeps : (plan : Plan) (line : List ℕ) (before d : Doing) (held : State) (asks : Deed) → runs_batch asks ≡ false → before.state ≡ d.state
+    → on_line before line ≡ done d asks
     → (disk : History) (ga gb : Option (List ℕ)) (result : Result Doing Stop) → Serves (done d asks) ga gb result → LeavesState disk plan held
     → Keeps (PassesTurns (Line line ∷ []) before held) plan disk disk ga gb
 quiet_keeps plan line before d held asks quiet same is disk ga gb result serves leaves =
@@ -80,17 +82,21 @@ quiet_keeps plan line before d held asks quiet same is disk ga gb result serves 
 
 -- ---- what stays open
 
-one_line_more : (plan : Plan) (calls : List Call) (call : Call) (store : Option Kept) → IfSome store (λ _. HasLines plan calls) → IfSome store (λ _. length (line_of_call plan call) ≤ LONGEST_LINE)
+one_line_more : (plan : Plan) (calls : List Call) (call : Call) (store : Option Kept) → IfSome store (λ _. HasLines plan calls)
+    → IfSome store (λ _. length (line_of_call plan call) ≤ LONGEST_LINE)
     → IfSome store (λ _. HasLines plan (calls ++ call ∷ []))
 one_line_more plan calls call None lines short = tt
 one_line_more plan calls call (Some store) lines short =
     let P : Call → Type 0 = λ c. length (line_of_call plan c) ≤ LONGEST_LINE in
     All-append P calls (call ∷ []) lines (All-cons P call [] short (All-nil P))
 
-module _ (disk : History) (d : Doing) (store : Option Kept) (checkpoint : ℕ) (o : IsOpen disk (record { doing = d; store = store; checkpoint = checkpoint })) (ga gb : Option (List ℕ)) where
-  open_as : (e : Doing) (next : Running) → next.doing ≡ e → next.store ≡ store → IsOpen disk (record { doing = e; store = store; checkpoint = next.checkpoint }) → IsOpen disk next
+module _ (disk : History) (d : Doing) (store : Option Kept) (checkpoint : ℕ) (o : IsOpen disk (record { doing = d; store = store; checkpoint = checkpoint }))
+    (ga gb : Option (List ℕ)) where
+  open_as : (e : Doing) (next : Running) → next.doing ≡ e → next.store ≡ store
+      → IsOpen disk (record { doing = e; store = store; checkpoint = next.checkpoint }) → IsOpen disk next
   open_as e next same kept h =
-      let path : next ≡ record { doing = e; store = store; checkpoint = next.checkpoint } = λ i. record { doing = same i; store = kept i; checkpoint = next.checkpoint } in
+      let path : next ≡ record { doing = e; store = store; checkpoint = next.checkpoint } =
+      λ i. record { doing = same i; store = kept i; checkpoint = next.checkpoint } in
       subst (λ (s : Running). IsOpen disk s) (sym path) h
 
   pub quiet_open : (asks : Deed) → runs_batch asks ≡ false → IfSome store (λ _. IsShort (plan_in d.place.head) asks) → (next : Running) → next.store ≡ store
@@ -102,9 +108,11 @@ module _ (disk : History) (d : Doing) (store : Option Kept) (checkpoint : ℕ) (
   quiet_open (deed.Call call) q short next kept h =
       open_as _ next h.0 kept (record { logging = o.logging; lines = one_line_more (plan_in d.place.head) d.calls call store o.lines short })
   quiet_open (deed.Set rule percent) q short next kept h = open_as _ next h.0 kept (record { logging = o.logging; lines = o.lines })
-  quiet_open (deed.Keep number) q short next kept h = open_as _ next h.0 kept (record { logging = o.logging; lines = no_lines (plan_in d.place.head) [] store refl })
+  quiet_open (deed.Keep number) q short next kept h = open_as _ next h.0 kept
+      (record { logging = o.logging; lines = no_lines (plan_in d.place.head) [] store refl })
 
-  pub quiet_opens : (asks : Deed) → runs_batch asks ≡ false → IfSome store (λ _. IsShort (plan_in d.place.head) asks) → (result : Result Running Stop) → IfOk result (λ next. next.store ≡ store)
+  pub quiet_opens : (asks : Deed) → runs_batch asks ≡ false → IfSome store (λ _. IsShort (plan_in d.place.head) asks) → (result : Result Running Stop)
+      → IfOk result (λ next. next.store ≡ store)
       → Serves (done d asks) ga gb (doing_result result) → IfOk result (IsOpen disk)
   quiet_opens asks q short (Ok next) kept h = quiet_open asks q short next kept h
   quiet_opens asks q short (Err why) kept h = tt
@@ -122,7 +130,8 @@ pub causes_more : {R : Type 0} (sink disk : Type 0) (result : Result R Stop) →
 causes_more sink disk (Ok next) h = tt
 causes_more sink disk (Err s) h = cause_more s sink disk h
 
-pub store_on : (store : Option Kept) (result : Result Running Stop) → IfOk result (λ next. next.store ≡ store) → store ≡ None → IfOk result (λ next. next.store ≡ None)
+pub store_on : (store : Option Kept) (result : Result Running Stop) → IfOk result (λ next. next.store ≡ store) → store ≡ None
+    → IfOk result (λ next. next.store ≡ None)
 store_on store (Ok next) h e = h ∙ e
 store_on store (Err why) h e = tt
 

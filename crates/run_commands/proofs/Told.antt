@@ -66,7 +66,8 @@ disk_by : (store : Option Kept) (disk : Type 0) → disk → (store ≡ None →
 disk_by None disk h other = absurd (other refl)
 disk_by (Some store) disk h other = h
 
-pub cut_cause : (store : Option Kept) (why : Delivery) (s : Stop) (sink disk : Type 0) → IsDeliveryCause why sink disk → (store ≡ None → why ≢ delivery.NoDisk) → IsStopFor why s
+pub cut_cause : (store : Option Kept) (why : Delivery) (s : Stop) (sink disk : Type 0) → IsDeliveryCause why sink disk → (store ≡ None → why ≢ delivery.NoDisk)
+    → IsStopFor why s
     → IsCause s sink (IsSomeAnd store (λ _. disk))
 cut_cause store delivery.Told s sink disk h other k = absurd k
 cut_cause store delivery.NoMemory s sink disk h other k = subst (λ (x : Stop). IsCause x sink (IsSomeAnd store (λ _. disk))) (sym k) tt

@@ -30,7 +30,8 @@ due_at : (checkpoint number bytes : ℕ) → 0 < checkpoint → number % checkpo
 due_at checkpoint number bytes some divides none = grind (arith, some, divides, none)
 
 -- so where none was due, the checkpoint from before has all of them
-still_laid : (first checkpoint bytes : ℕ) (before after : State) (c : Checkpoint) → after.batches ≡ before.batches + 1 → is_due checkpoint after.batches bytes ≡ false
+still_laid : (first checkpoint bytes : ℕ) (before after : State) (c : Checkpoint) → after.batches ≡ before.batches + 1
+    → is_due checkpoint after.batches bytes ≡ false
     → IsLaid first checkpoint before c → IsLaid first checkpoint after c
 still_laid first checkpoint bytes before after c counted none laid number some past within divides = elim (cases_eq number after.batches) [
   | inl last ↦ absurd (due_at checkpoint after.batches bytes some (subst (λ (n : ℕ). n % checkpoint ≡ 0) last divides) none)
@@ -39,18 +40,21 @@ still_laid first checkpoint bytes before after c counted none laid number some p
 
 -- ---- what is held
 
-held_state : (disk : History) (plan : Plan) (state : State) (store : Option Kept) (c : Checkpoint) (later : List Batch) → Holds disk plan state store c later → state_behind c later ≡ state
+held_state : (disk : History) (plan : Plan) (state : State) (store : Option Kept) (c : Checkpoint) (later : List Batch) → Holds disk plan state store c later
+    → state_behind c later ≡ state
 held_state disk plan state None c later h = absurd h
 held_state disk plan state (Some store) c later h = h.state_is
 
 -- only with a store something is held
-held_some : (disk : History) (plan : Plan) (state : State) (store : Option Kept) (c : Checkpoint) (later : List Batch) → Holds disk plan state store c later → (on : Kept → Kept)
+held_some : (disk : History) (plan : Plan) (state : State) (store : Option Kept) (c : Checkpoint) (later : List Batch) → Holds disk plan state store c later
+    → (on : Kept → Kept)
     → option_map on store ≢ None
 held_some disk plan state None c later h on = absurd h
 held_some disk plan state (Some store) c later h on = λ e. absurd cc
 
 module _ (first checkpoint : ℕ) (plan : Plan) (before after : State) (counted : after.batches ≡ before.batches + 1) (new : History) (store : Option Kept) where
-  turned_where : (log : Option Kept) (due : Bool) (c : Checkpoint) (later : List Batch) → log ≢ None → due ≡ due_by checkpoint after.batches log → IsLaid first checkpoint before c
+  turned_where : (log : Option Kept) (due : Bool) (c : Checkpoint) (later : List Batch) → log ≢ None → due ≡ due_by checkpoint after.batches log
+      → IsLaid first checkpoint before c
       → HoldsTurned due new plan after store c later → HoldsState first checkpoint new plan after store
   turned_where log true c later some is laid h = record {
     c = h.0;
@@ -73,21 +77,25 @@ told_batches None state = refl
 told_batches (Some store) state = refl
 
 -- what is held behind a batch, by what was held before it
-pub turned : (first : ℕ) (live : Live) (calls : List Call) (old new : History) (store : Option Kept) → HoldsState first live.checkpoint old (plan_of live) (stored_state live) live.store
+pub turned : (first : ℕ) (live : Live) (calls : List Call) (old new : History) (store : Option Kept)
+    → HoldsState first live.checkpoint old (plan_of live) (stored_state live) live.store
     → ((c : Checkpoint) (later : List Batch) → Holds old (plan_of live) (stored_state live) live.store c later
     → HoldsTurned (next_due live calls) new (plan_of live) (next_state live calls) store c (added later live.config.rule live.config.fallback calls))
     → HoldsState first live.checkpoint new (plan_of live) (next_state live calls) store
 turned first live calls old new store h turns =
     let counted : (next_state live calls).batches ≡ (stored_state live).batches + 1 = ap (λ (n : ℕ). n + 1) (sym (told_batches live.store (state_of live))) in
-    turned_where first live.checkpoint (plan_of live) (stored_state live) (next_state live calls) counted new store (logged live calls).store (next_due live calls) h.c
+    turned_where first live.checkpoint (plan_of live) (stored_state live) (next_state live calls) counted new store (logged live calls).store
+    (next_due live calls) h.c
     (added h.later live.config.rule live.config.fallback calls)
-    (held_some old (plan_of live) (stored_state live) live.store h.c h.later h.holds (with_logged (plan_of live) (batch_of (next_handed live calls)))) refl h.laid (turns h.c h.later h.holds)
+    (held_some old (plan_of live) (stored_state live) live.store h.c h.later h.holds (with_logged (plan_of live) (batch_of (next_handed live calls)))) refl
+    h.laid (turns h.c h.later h.holds)
 
 -- ---- the database that goes on
 
 -- the settings that a store tells behind a batch are those of the batch
 told_behind : (plan : Plan) (state : State) (handed : Handed) (due : Bool) (was : Option Kept)
-    → told_by (turned_by due (step (run_of plan) state handed) (option_map (with_logged plan (batch_of handed)) was)) (step (run_of plan) state handed) ≡ step (run_of plan) state handed
+    → told_by (turned_by due (step (run_of plan) state handed) (option_map (with_logged plan (batch_of handed)) was)) (step (run_of plan) state handed) ≡ step
+    (run_of plan) state handed
 told_behind plan state handed due None = refl
 told_behind plan state handed true (Some store) = refl
 told_behind plan state handed false (Some store) = refl
@@ -100,7 +108,8 @@ told_next live next calls is kept =
     ∙ told_behind (plan_of live) (state_of live) (next_handed live calls) (next_due live calls) live.store
 
 pub turned_next : (first : ℕ) (live next : Live) (calls : List Call) (new : History) → IsNext live calls next → next.store ≡ next_store live calls
-    → HoldsState first live.checkpoint new (plan_of live) (next_state live calls) next.store → HoldsState first next.checkpoint new (plan_of next) (stored_state next) next.store
+    → HoldsState first live.checkpoint new (plan_of live) (next_state live calls) next.store
+    → HoldsState first next.checkpoint new (plan_of next) (stored_state next) next.store
 turned_next first live next calls new is kept h =
     subst (λ (n : ℕ). HoldsState first n new (plan_of next) (stored_state next) next.store) (sym is.checkpoint)
     (subst (λ (p : Plan). HoldsState first live.checkpoint new p (stored_state next) next.store) (sym is.plan)

@@ -49,7 +49,8 @@ module _ {R : Type 0} where
   stops_behind before bytes (Stops more) e = (more, refl)
 
   -- what a course was served by tells where it stands
-  pub goes_to : (c : Course R) (next : R) (old new : Option (List ℕ)) → Serves c old new (Ok next) → (bytes : List ℕ) × (c ≡ Goes bytes next) × Appends old new bytes
+  pub goes_to : (c : Course R) (next : R) (old new : Option (List ℕ)) → Serves c old new (Ok next)
+      → (bytes : List ℕ) × (c ≡ Goes bytes next) × Appends old new bytes
   goes_to (Goes bytes s) next old new h = (bytes, ap (λ (r : R). Goes bytes r) (sym h.0), h.1)
   goes_to (Stops bytes) next old new h = absurd h
 
@@ -80,8 +81,10 @@ module _ {R X : Type 0} (on : R → X → Course R) (held_by : State → R → R
   -- ---- what is held behind them
 
   held_goes_by : (steps more : List X) (r : R) (held : State) (c : Course R) (bytes : List ℕ) (next : R) → onward (over on steps) c ≡ Goes bytes next
-      → ((s : R) (kept : State) (b : List ℕ) → over on steps s ≡ Goes b next → held_over on held_by (steps ++ more) s kept ≡ held_over on held_by more next (held_over on held_by steps s kept))
-      → held_by_step on held_by r held (held_over on held_by (steps ++ more)) c ≡ held_over on held_by more next (held_by_step on held_by r held (held_over on held_by steps) c)
+      → ((s : R) (kept : State) (b : List ℕ) → over on steps s ≡ Goes b next
+      → held_over on held_by (steps ++ more) s kept ≡ held_over on held_by more next (held_over on held_by steps s kept))
+      → held_by_step on held_by r held (held_over on held_by (steps ++ more)) c ≡ held_over on held_by more next
+      (held_by_step on held_by r held (held_over on held_by steps) c)
   held_goes_by steps more r held (Stops first) bytes next e rest = not_both first bytes next e
   held_goes_by steps more r held (Goes first s) bytes next e rest =
       let g = goes_behind first bytes next (over on steps s) e in rest s (held_by held r s) g.0 g.1
@@ -175,7 +178,8 @@ module _ (first : ℕ) where
   }
 
   -- a turn that is refused
-  pub refused_kept : (turn : Turn) (script : Running) (bytes : List ℕ) (a : History) (ga gb : Option (List ℕ)) (why : Stop) → on_turn script.doing turn ≡ Stops bytes
+  pub refused_kept : (turn : Turn) (script : Running) (bytes : List ℕ) (a : History) (ga gb : Option (List ℕ)) (why : Stop)
+      → on_turn script.doing turn ≡ Stops bytes
       → Serves {R = Doing} (Stops bytes) ga gb (Err why) → HoldsScript first a script → KeepsTurns first (turn ∷ []) script a a ga gb (Err why)
   refused_kept turn script bytes a ga gb why is serves h =
       let plan = plan_in script.doing.place.head in
@@ -203,8 +207,10 @@ module _ (first : ℕ) where
       stays = tt;
       held = tt;
       refused = λ e.
-          let stopped = stops_to (over on_turn steps script.doing) ga gb (subst (λ (s : Stop). ServesCut (over on_turn steps script.doing) ga gb s) (ap stop_in e) serves) in
-          subst (λ (s : State). LeavesLaid first script.checkpoint b Plan_in s) (sym (held_stops on_turn held_then steps more script.doing (held_of script) stopped.0 stopped.1)) (k.refused e);
+          let stopped = stops_to (over on_turn steps script.doing) ga gb
+          (subst (λ (s : Stop). ServesCut (over on_turn steps script.doing) ga gb s) (ap stop_in e) serves) in
+          subst (λ (s : State). LeavesLaid first script.checkpoint b Plan_in s)
+          (sym (held_stops on_turn held_then steps more script.doing (held_of script) stopped.0 stopped.1)) (k.refused e);
     }
 
     module _ (next : Running) (c : History) (gc : Option (List ℕ)) (serves : Serves (over on_turn steps script.doing) ga gb (Ok next.doing))
@@ -217,7 +223,8 @@ module _ (first : ℕ) where
           held_goes on_turn held_then steps more script.doing (held_of script) went.0 next.doing went.1
           ∙ ap (λ (s : State). held_behind more next.doing s) (sym k.held)
 
-      keeps_both : Keeps (PassesTurns more next.doing (held_of next)) (plan_in next.doing.place.head) b c gb gc → Keeps (PassesTurns (steps ++ more) script.doing (held_of script)) Plan_in a c ga gc
+      keeps_both : Keeps (PassesTurns more next.doing (held_of next)) (plan_in next.doing.place.head) b c gb gc
+          → Keeps (PassesTurns (steps ++ more) script.doing (held_of script)) Plan_in a c ga gc
       keeps_both l =
           keeps_append on_turn held_then Plan_in steps more script.doing (held_of script) next.doing went.0 a b c ga gb gc went.1 went.2 k.keeps
           (subst (λ (s : State). Keeps (PassesTurns more next.doing s) Plan_in b c gb gc) k.held
@@ -250,9 +257,11 @@ module _ (first : ℕ) where
 -- to keep the rest of these turns from here is to keep all of them from there
 abbrev pub LeadsTurns : ℕ → List Turn → Running → History → Option (List ℕ) → List Turn → Running → History → Option (List ℕ) → Type 0
 LeadsTurns first rest script now given steps start old given_old =
-    (new : History) (given_new : Option (List ℕ)) (result : Result Running Stop) → KeepsTurns first rest script now new given given_new result → KeepsTurns first steps start old new given_old given_new result
+    (new : History) (given_new : Option (List ℕ)) (result : Result Running Stop) → KeepsTurns first rest script now new given given_new result
+    → KeepsTurns first steps start old new given_old given_new result
 
-one_over : (line : List ℕ) (d : Doing) (ga gb : Option (List ℕ)) (result : Result Doing Stop) → Serves (on_line d line) ga gb result → Serves (over on_turn (Line line ∷ []) d) ga gb result
+one_over : (line : List ℕ) (d : Doing) (ga gb : Option (List ℕ)) (result : Result Doing Stop) → Serves (on_line d line) ga gb result
+    → Serves (over on_turn (Line line ∷ []) d) ga gb result
 one_over line d ga gb result h = subst (λ (c : Course Doing). Serves c ga gb result) (sym (onward_none on_turn (on_line d line))) h
 
 module _ (first : ℕ) (line : List ℕ) (lines left : List (List ℕ)) (is : left ≡ line ∷ lines) (script : Running) (a b : History) (ga gb : Option (List ℕ)) where
@@ -260,7 +269,8 @@ module _ (first : ℕ) (line : List ℕ) (lines left : List (List ℕ)) (is : le
       → LeadsTurns first (map Line lines) next b gb (map Line left) script a ga
   lead_line next serves k = λ new given result rest.
       subst (λ (l : List (List ℕ)). KeepsTurns first (map Line l) script a new ga given result) (sym is)
-      (kept_then first (Line line ∷ []) (map Line lines) script a b ga gb next new given (one_over line script.doing ga gb (Ok next.doing) serves) k result rest)
+      (kept_then first (Line line ∷ []) (map Line lines) script a b ga gb next new given (one_over line script.doing ga gb (Ok next.doing) serves) k result
+      rest)
 
   pub cut_line : (why : Stop) → ServesCut (on_line script.doing line) ga gb why → KeepsTurns first (Line line ∷ []) script a b ga gb (Err why)
       → KeepsTurns first (map Line left) script a b ga gb (Err why)
@@ -271,45 +281,53 @@ module _ (first : ℕ) (line : List ℕ) (lines left : List (List ℕ)) (is : le
 module _ (first : ℕ) where
   pub lines_end : (script : Running) (left : List (List ℕ)) (a : History) (g : Option (List ℕ)) → left ≡ [] → HoldsScript first a script
       → KeepsTurns first (map Line left) script a a g g (Ok script)
-  lines_end script left a g none h = subst (λ (l : List (List ℕ)). KeepsTurns first (map Line l) script a a g g (Ok script)) (sym none) (still_kept first script a g h)
+  lines_end script left a g none h = subst (λ (l : List (List ℕ)). KeepsTurns first (map Line l) script a a g g (Ok script)) (sym none)
+      (still_kept first script a g h)
 
   -- the same turns
   pub same_turns : (steps other : List Turn) (script : Running) (a b : History) (ga gb : Option (List ℕ)) (result : Result Running Stop) → steps ≡ other
       → KeepsTurns first other script a b ga gb result → KeepsTurns first steps script a b ga gb result
   same_turns steps other script a b ga gb result is k = subst (λ (l : List Turn). KeepsTurns first l script a b ga gb result) (sym is) k
 
-  turn_refused : (turn : Turn) (script : Running) (bytes : List ℕ) (a : History) (ga gb : Option (List ℕ)) (result : Result Running Stop) → on_turn script.doing turn ≡ Stops bytes
+  turn_refused : (turn : Turn) (script : Running) (bytes : List ℕ) (a : History) (ga gb : Option (List ℕ)) (result : Result Running Stop)
+      → on_turn script.doing turn ≡ Stops bytes
       → Serves (Stops bytes) ga gb (doing_result result) → HoldsScript first a script → KeepsTurns first (turn ∷ []) script a a ga gb result
   turn_refused turn script bytes a ga gb (Ok next) is serves h = absurd serves
   turn_refused turn script bytes a ga gb (Err why) is serves h = refused_kept first turn script bytes a ga gb why is serves h
 
   -- a line that is refused
-  pub line_refused : (line : List ℕ) (script : Running) (bytes : List ℕ) (a : History) (ga gb : Option (List ℕ)) (result : Result Running Stop) → on_line script.doing line ≡ Stops bytes
+  pub line_refused : (line : List ℕ) (script : Running) (bytes : List ℕ) (a : History) (ga gb : Option (List ℕ)) (result : Result Running Stop)
+      → on_line script.doing line ≡ Stops bytes
       → Serves (Stops bytes) ga gb (doing_result result) → HoldsScript first a script → KeepsTurns first (Line line ∷ []) script a a ga gb result
   line_refused line script bytes a ga gb result is serves h = turn_refused (Line line) script bytes a ga gb result is serves h
 
   module _ (lines : List (List ℕ)) (refusal : Refusal) (script : Running) (a b : History) (ga gb : Option (List ℕ)) where
-    as_over : (result : Result Doing Stop) → Serves (with_lines on_line (Goes [] script.doing) lines) ga gb result → Serves (over on_turn (map Line lines) script.doing) ga gb result
+    as_over : (result : Result Doing Stop) → Serves (with_lines on_line (Goes [] script.doing) lines) ga gb result
+        → Serves (over on_turn (map Line lines) script.doing) ga gb result
     as_over result h = subst (λ (c : Course Doing). Serves c ga gb result) (lines_over lines script.doing) h
 
     -- lines, and then one that passes a bound
-    pub fault_kept : (next : Running) (gc : Option (List ℕ)) (result : Result Running Stop) → Serves (with_lines on_line (Goes [] script.doing) lines) ga gb (Ok next.doing)
+    pub fault_kept : (next : Running) (gc : Option (List ℕ)) (result : Result Running Stop)
+        → Serves (with_lines on_line (Goes [] script.doing) lines) ga gb (Ok next.doing)
         → Serves (Stops (refusal_text refusal)) gb gc (doing_result result) → KeepsTurns first (map Line lines) script a b ga gb (Ok next)
         → KeepsTurns first (map Line lines ++ past (Some refusal)) script a b ga gc result
     fault_kept next gc result serves refused k =
         kept_then first (map Line lines) (past (Some refusal)) script a b ga gb next b gc (as_over (Ok next.doing) serves) k result
         (turn_refused (Past refusal) next (refusal_text refusal) b gb gc result refl refused k.stays.holds)
 
-    pub fault_cut : (why : Stop) → ServesCut (with_lines on_line (Goes [] script.doing) lines) ga gb why → KeepsTurns first (map Line lines) script a b ga gb (Err why)
+    pub fault_cut : (why : Stop) → ServesCut (with_lines on_line (Goes [] script.doing) lines) ga gb why
+        → KeepsTurns first (map Line lines) script a b ga gb (Err why)
         → KeepsTurns first (map Line lines ++ past (Some refusal)) script a b ga gb (Err why)
     fault_cut why serves k = kept_front first (map Line lines) (past (Some refusal)) script a b ga gb why (as_over (Err why) serves) k
 
-  pub stays_on : (b c : History) (script next : Running) (result : Result Running Stop) → Stays first b script next → IfOk result (Stays first c next) → IfOk result (Stays first c script)
+  pub stays_on : (b c : History) (script next : Running) (result : Result Running Stop) → Stays first b script next → IfOk result (Stays first c next)
+      → IfOk result (Stays first c script)
   stays_on b c script next (Ok last) s t = stays_then first b c script next last s t
   stays_on b c script next (Err why) s t = tt
 
 -- the next of lines that are all short is short
-pub short_next : (lines : List (List ℕ)) (i : ℕ) (line : List ℕ) (rest : List (List ℕ)) → drop i lines ≡ line ∷ rest → All (λ l. length l ≤ LONGEST_LINE) lines → length line ≤ LONGEST_LINE
+pub short_next : (lines : List (List ℕ)) (i : ℕ) (line : List ℕ) (rest : List (List ℕ)) → drop i lines ≡ line ∷ rest → All (λ l. length l ≤ LONGEST_LINE) lines
+    → length line ≤ LONGEST_LINE
 short_next lines i line rest is short =
     let P : List ℕ → Type 0 = λ l. length l ≤ LONGEST_LINE in
     All-head P line rest (subst (λ (l : List (List ℕ)). All P l) is (All-drop P i lines short))

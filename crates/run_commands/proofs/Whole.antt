@@ -66,35 +66,45 @@ module _ (drain : Bool) (first : ℕ) (start : Running) (a b : History) (ga gb :
     over_is : over on_turn (Steps text) start.doing ≡ Goes went_on.0 next.doing
     over_is = sym (whole_over start.doing text) ∙ went_on.1
 
-    text_keeps : (HoldsScript first b next → Keeps (PassesTurns (ending_of drain next.doing) next.doing (held_of next)) (plan_in next.doing.place.head) b c gb gc)
+    text_keeps : (HoldsScript first b next → Keeps (PassesTurns (ending_of drain next.doing) next.doing (held_of next))
+        (plan_in next.doing.place.head) b c gb gc)
         → Keeps (PassesTurns (text_turns drain start.doing text) start.doing (held_of start)) Plan0 a c ga gc
     text_keeps ends =
-        let rest = subst (λ (p : Plan). Keeps (PassesTurns (ending_of drain next.doing) next.doing (held_of next)) p b c gb gc) k.stays.plan (ends k.stays.holds) in
+        let rest = subst (λ (p : Plan). Keeps (PassesTurns (ending_of drain next.doing) next.doing (held_of next)) p b c gb gc) k.stays.plan
+        (ends k.stays.holds) in
         let behind_it = subst (λ (s : State). Keeps (PassesTurns (ending_of drain next.doing) next.doing s) Plan0 b c gb gc) k.held rest in
         subst (λ (t : List Turn). Keeps (PassesTurns t start.doing (held_of start)) Plan0 a c ga gc) (sym turns_are)
-        (keeps_append on_turn held_then Plan0 (Steps text) (ending_of drain next.doing) start.doing (held_of start) next.doing went_on.0 a b c ga gb gc over_is went_on.2 k.keeps behind_it)
+        (keeps_append on_turn held_then Plan0 (Steps text) (ending_of drain next.doing) start.doing (held_of start) next.doing went_on.0 a b c ga gb gc over_is
+        went_on.2 k.keeps behind_it)
 
-    text_laid : (HoldsScript first b next → LeavesLaid first next.checkpoint c (plan_in next.doing.place.head) (held_behind (ending_of drain next.doing) next.doing (held_of next)))
+    text_laid : (HoldsScript first b next → LeavesLaid first next.checkpoint c (plan_in next.doing.place.head)
+        (held_behind (ending_of drain next.doing) next.doing (held_of next)))
         → LeavesLaid first start.checkpoint c Plan0 (held_behind (text_turns drain start.doing text) start.doing (held_of start))
     text_laid ends =
         let told_so = ends k.stays.holds in
-        let under = subst (λ (p : Plan). LeavesLaid first next.checkpoint c p (held_behind (ending_of drain next.doing) next.doing (held_of next))) k.stays.plan told_so in
-        let each_so = subst (λ (n : ℕ). LeavesLaid first n c Plan0 (held_behind (ending_of drain next.doing) next.doing (held_of next))) k.stays.checkpoint under in
-        let behind_it = subst (λ (s : State). LeavesLaid first start.checkpoint c Plan0 (held_behind (ending_of drain next.doing) next.doing s)) k.held each_so in
+        let under = subst (λ (p : Plan). LeavesLaid first next.checkpoint c p (held_behind (ending_of drain next.doing) next.doing (held_of next)))
+        k.stays.plan told_so in
+        let each_so = subst (λ (n : ℕ). LeavesLaid first n c Plan0 (held_behind (ending_of drain next.doing) next.doing (held_of next))) k.stays.checkpoint
+        under in
+        let behind_it = subst (λ (s : State). LeavesLaid first start.checkpoint c Plan0 (held_behind (ending_of drain next.doing) next.doing s)) k.held
+        each_so in
         let same = held_goes on_turn held_then (Steps text) (ending_of drain next.doing) start.doing (held_of start) went_on.0 next.doing over_is in
         subst (λ (t : List Turn). LeavesLaid first start.checkpoint c Plan0 (held_behind t start.doing (held_of start))) (sym turns_are)
         (subst (λ (s : State). LeavesLaid first start.checkpoint c Plan0 s) (sym same) behind_it)
 
-  pub keeps_on_end : (left : Option (List ℕ)) (next : Running) (c : History) (gc : Option (List ℕ)) → IfSome left (λ text. Reaches (Told text) ga gb (Ok next.doing))
+  pub keeps_on_end : (left : Option (List ℕ)) (next : Running) (c : History) (gc : Option (List ℕ))
+      → IfSome left (λ text. Reaches (Told text) ga gb (Ok next.doing))
       → IfSome left (λ text. KeepsTurns first (Steps text) start a b ga gb (Ok next))
       → (HoldsScript first b next → Keeps (PassesTurns (ending_of drain next.doing) next.doing (held_of next)) (plan_in next.doing.place.head) b c gb gc)
       → IfSome left (λ text. Keeps (PassesTurns (text_turns drain start.doing text) start.doing (held_of start)) Plan0 a c ga gc)
   keeps_on_end None next c gc reaches k ends = tt
   keeps_on_end (Some text) next c gc reaches k ends = text_keeps next c gc text reaches k ends
 
-  pub laid_on_end : (left : Option (List ℕ)) (next : Running) (c : History) (gc : Option (List ℕ)) → IfSome left (λ text. Reaches (Told text) ga gb (Ok next.doing))
+  pub laid_on_end : (left : Option (List ℕ)) (next : Running) (c : History) (gc : Option (List ℕ))
+      → IfSome left (λ text. Reaches (Told text) ga gb (Ok next.doing))
       → IfSome left (λ text. KeepsTurns first (Steps text) start a b ga gb (Ok next))
-      → (HoldsScript first b next → LeavesLaid first next.checkpoint c (plan_in next.doing.place.head) (held_behind (ending_of drain next.doing) next.doing (held_of next)))
+      → (HoldsScript first b next → LeavesLaid first next.checkpoint c (plan_in next.doing.place.head)
+      (held_behind (ending_of drain next.doing) next.doing (held_of next)))
       → IfSome left (λ text. LeavesLaid first start.checkpoint c Plan0 (held_behind (text_turns drain start.doing text) start.doing (held_of start)))
   laid_on_end None next c gc reaches k ends = tt
   laid_on_end (Some text) next c gc reaches k ends = text_laid next c gc text reaches k ends
@@ -103,13 +113,15 @@ module _ (drain : Bool) (first : ℕ) (start : Running) (a b : History) (ga gb :
   pub keeps_on_cut : (left : Option (List ℕ)) (why : Stop) → IfSome left (λ text. KeepsTurns first (Steps text) start a b ga gb (Err why))
       → IfSome left (λ text. Keeps (PassesTurns (text_turns drain start.doing text) start.doing (held_of start)) Plan0 a b ga gb)
   keeps_on_cut None why k = tt
-  keeps_on_cut (Some text) why k = keeps_front on_turn held_then Plan0 (Steps text) (ending_behind drain (Told text)) start.doing (held_of start) a b ga gb k.keeps
+  keeps_on_cut (Some text) why k = keeps_front on_turn held_then Plan0 (Steps text) (ending_behind drain (Told text)) start.doing
+      (held_of start) a b ga gb k.keeps
 
   laid_cut : (why : Stop) (text : List ℕ) → why ≡ stop.Refused → Reaches (Told text) ga gb (Err why) → KeepsTurns first (Steps text) start a b ga gb (Err why)
       → LeavesLaid first start.checkpoint b Plan0 (held_behind (text_turns drain start.doing text) start.doing (held_of start))
   laid_cut why text is reaches k =
       let stopped = was_stopped (Told text) ga gb (subst (λ (s : Stop). Reaches (Told text) ga gb (Err s)) is reaches) in
-      let same = held_stops on_turn held_then (Steps text) (ending_behind drain (Told text)) start.doing (held_of start) stopped.0 (sym (whole_over start.doing text) ∙ stopped.1) in
+      let same = held_stops on_turn held_then (Steps text) (ending_behind drain (Told text)) start.doing (held_of start) stopped.0
+      (sym (whole_over start.doing text) ∙ stopped.1) in
       subst (λ (s : State). LeavesLaid first start.checkpoint b Plan0 s) (sym same) (k.refused (ap (λ (s : Stop). Err s) is))
 
   pub laid_on_cut : (left : Option (List ℕ)) (why : Stop) → why ≡ stop.Refused → IfSome left (λ text. Reaches (Told text) ga gb (Err why))

@@ -11,7 +11,8 @@ use Rattle.script_course.specs.declared.stops.Stop.{Stop}
 use Rattle.script_course.specs.declared.stops.Stop.TheVariants as stop
 use Rattle.script_course.proofs.Turns.{front_longer, front_behind}
 
-finishes_behind : (bytes : List ℕ) (out : Out) (old mid new : Option (List ℕ)) (result : Result ℕ Stop) → Appends old mid bytes → Finishes out mid new result → Finishes (out_behind bytes out) old new result
+finishes_behind : (bytes : List ℕ) (out : Out) (old mid new : Option (List ℕ)) (result : Result ℕ Stop) → Appends old mid bytes → Finishes out mid new result
+    → Finishes (out_behind bytes out) old new result
 finishes_behind bytes out old mid new (Ok status) first h = (h.0, Appends-trans old mid new bytes out.bytes first h.1)
 finishes_behind bytes out old mid new (Err stop.Refused) first h = (h.0, Appends-trans old mid new bytes out.bytes first h.1)
 finishes_behind bytes out old mid new (Err stop.NoMemory) first h = front_behind old mid new bytes out.bytes first h
@@ -20,7 +21,8 @@ finishes_behind bytes out old mid new (Err stop.NoDisk) first h = front_behind o
 finishes_behind bytes out old mid new (Err stop.NoRead) first h = front_behind old mid new bytes out.bytes first h
 
 module _ {R : Type 0} (on_end : R → Out) where
-  ended_on : (c : Course R) (r : R) (old mid new : Option (List ℕ)) (result : Result ℕ Stop) → IsGoing r c old mid → Finishes (on_end r) mid new result → Finishes (ended on_end c) old new result
+  ended_on : (c : Course R) (r : R) (old mid new : Option (List ℕ)) (result : Result ℕ Stop) → IsGoing r c old mid → Finishes (on_end r) mid new result
+      → Finishes (ended on_end c) old new result
   ended_on (Stops bytes) r old mid new result h last = absurd h
   ended_on (Goes bytes s) r old mid new result (e, first) last = finishes_behind bytes (on_end s) old mid new result first (rw (ap on_end (sym e)) last)
 
@@ -39,16 +41,19 @@ module _ {R : Type 0} (on_end : R → Out) where
   ended_cut c old new stop.NoDisk h = front_ended c old new h
   ended_cut c old new stop.NoRead h = front_ended c old new h
 
-  all_on : (whole : List ℕ → Course R) (left old mid new : Option (List ℕ)) (r : R) (result : Result ℕ Stop) → IfSome left (λ text. Reaches (whole text) old mid (Ok r)) → Finishes (on_end r) mid new result
+  all_on : (whole : List ℕ → Course R) (left old mid new : Option (List ℕ)) (r : R) (result : Result ℕ Stop)
+      → IfSome left (λ text. Reaches (whole text) old mid (Ok r)) → Finishes (on_end r) mid new result
       → IfSome left (λ text. Finishes (ended on_end (whole text)) old new result)
   all_on whole None old mid new r result h last = tt
   all_on whole (Some text) old mid new r result h last = ended_on (whole text) r old mid new result h last
 
-  all_cut : (whole : List ℕ → Course R) (left old new : Option (List ℕ)) (why : Stop) → IfSome left (λ text. ReachesCut (whole text) old new why) → IfSome left (λ text. FinishesCut (ended on_end (whole text)) old new why)
+  all_cut : (whole : List ℕ → Course R) (left old new : Option (List ℕ)) (why : Stop) → IfSome left (λ text. ReachesCut (whole text) old new why)
+      → IfSome left (λ text. FinishesCut (ended on_end (whole text)) old new why)
   all_cut whole None old new why h = tt
   all_cut whole (Some text) old new why h = ended_cut (whole text) old new why h
 
-tells_nothing : {R : Type 0} (told : List ℕ → Course R) (left rest old new : Option (List ℕ)) (result : Result ℕ Stop) → result ≢ Err stop.NoRead → Tells told left rest old new result
+tells_nothing : {R : Type 0} (told : List ℕ → Course R) (left rest old new : Option (List ℕ)) (result : Result ℕ Stop) → result ≢ Err stop.NoRead
+    → Tells told left rest old new result
 tells_nothing told left rest old new (Ok status) read = tt
 tells_nothing told left rest old new (Err stop.Refused) read = tt
 tells_nothing told left rest old new (Err stop.NoMemory) read = tt
@@ -58,8 +63,10 @@ tells_nothing told left rest old new (Err stop.NoRead) read = absurd (read refl)
 
 module _ {R : Type 0} where
   pub completes_on : (on_end : R → Out) (told whole : List ℕ → Course R) (left rest old mid new : Option (List ℕ)) (r : R) (result : Result ℕ Stop)
-      → Comes told whole left rest old mid (Ok r) → result ≢ Err stop.NoRead → Finishes (on_end r) mid new result → Completes told (λ text. ended on_end (whole text)) left rest old new result
-  completes_on on_end told whole left rest old mid new r result h read last = (all_on on_end whole left old mid new r result h.0 last, tells_nothing told left rest old new result read)
+      → Comes told whole left rest old mid (Ok r) → result ≢ Err stop.NoRead → Finishes (on_end r) mid new result
+      → Completes told (λ text. ended on_end (whole text)) left rest old new result
+  completes_on on_end told whole left rest old mid new r result h read last =
+      (all_on on_end whole left old mid new r result h.0 last, tells_nothing told left rest old new result read)
 
   pub completes_cut : (on_end : R → Out) (told whole : List ℕ → Course R) (left rest old new : Option (List ℕ)) (why : Stop)
       → Comes {R = R} told whole left rest old new (Err why) → Completes told (λ text. ended on_end (whole text)) left rest old new (Err why)

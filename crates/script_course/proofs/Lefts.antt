@@ -14,7 +14,8 @@ any_err (Err why) P all = all why
 
 -- nothing was printed
 pub stays : {R D : Type 0} (held : R → Option (List ℕ) → D → Type 0) (left : R → Stop → Option (List ℕ) → D → Type 0)
-    → ((r : R) (why : Stop) (refusal : Refusal) (old new : Option (List ℕ)) (disk : D) → held r old disk → AppendsFront old new (refusal_text refusal) → left r why new disk)
+    → ((r : R) (why : Stop) (refusal : Refusal) (old new : Option (List ℕ)) (disk : D) → held r old disk → AppendsFront old new (refusal_text refusal)
+    → left r why new disk)
     → (r : R) (why : Stop) (now : Option (List ℕ)) (disk : D) → held r now disk → left r why now disk
 stays held left leaves r why now disk h =
     let refusal : Refusal = record { line = 0; kind = Long } in

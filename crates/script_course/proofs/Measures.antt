@@ -17,7 +17,8 @@ counts done feed n false true feeds next other h k e = none_some _ e
 counts done feed n false false true next other h k e = h e
 counts done feed n false false false next other h k e = k e
 
-pub scan-taken : (done : List (List ℕ)) (feed : Feed) (bs : List ℕ) → (scan_after done feed bs).fault ≡ None → (scan_after done feed bs).feed.taken ≡ feed.taken + length bs
+pub scan-taken : (done : List (List ℕ)) (feed : Feed) (bs : List ℕ) → (scan_after done feed bs).fault ≡ None
+    → (scan_after done feed bs).feed.taken ≡ feed.taken + length bs
 scan-taken done feed [] e = omega arith
 scan-taken done feed (x ∷ bs) e =
     let one = counts done feed (length bs) (is_past_line feed x) (is_past_limit feed) (x == 10)
@@ -36,11 +37,13 @@ keeps done feed false false false next other h k = k
 pub scan-limit : (done : List (List ℕ)) (feed : Feed) (bs : List ℕ) → (scan_after done feed bs).feed.limit ≡ feed.limit
 scan-limit done feed [] = refl
 scan-limit done feed (x ∷ bs) =
-    keeps done feed (is_past_line feed x) (is_past_limit feed) (x == 10) (scan_after (done ++ unreturned feed.begun ∷ []) (with_feed feed) bs) (scan_after done (with_byte feed x) bs)
+    keeps done feed (is_past_line feed x) (is_past_limit feed) (x == 10) (scan_after (done ++ unreturned feed.begun ∷ []) (with_feed feed) bs)
+    (scan_after done (with_byte feed x) bs)
     (scan-limit (done ++ unreturned feed.begun ∷ []) (with_feed feed) bs) (scan-limit done (with_byte feed x) bs)
 
 -- and no more bytes are taken than may be
-fits : (done : List (List ℕ)) (feed : Feed) (long size feeds : Bool) (next other : Scan) → (size ≡ false → next.fault ≡ None → next.feed.taken ≤ feed.limit) → (size ≡ false → other.fault ≡ None → other.feed.taken ≤ feed.limit)
+fits : (done : List (List ℕ)) (feed : Feed) (long size feeds : Bool) (next other : Scan) → (size ≡ false → next.fault ≡ None → next.feed.taken ≤ feed.limit)
+    → (size ≡ false → other.fault ≡ None → other.feed.taken ≤ feed.limit)
     → (cond long (stopped done feed Long) (cond size (stopped done feed Size) (cond feeds next other))).fault ≡ None
     → (cond long (stopped done feed Long) (cond size (stopped done feed Size) (cond feeds next other))).feed.taken ≤ feed.limit
 fits done feed true size feeds next other h k e = none_some _ e
@@ -48,10 +51,12 @@ fits done feed false true feeds next other h k e = none_some _ e
 fits done feed false false true next other h k e = h refl e
 fits done feed false false false next other h k e = k refl e
 
-pub scan-within : (done : List (List ℕ)) (feed : Feed) (bs : List ℕ) → feed.taken ≤ feed.limit → (scan_after done feed bs).fault ≡ None → (scan_after done feed bs).feed.taken ≤ feed.limit
+pub scan-within : (done : List (List ℕ)) (feed : Feed) (bs : List ℕ) → feed.taken ≤ feed.limit → (scan_after done feed bs).fault ≡ None
+    → (scan_after done feed bs).feed.taken ≤ feed.limit
 scan-within done feed [] within e = within
 scan-within done feed (x ∷ bs) within e =
-    fits done feed (is_past_line feed x) (is_past_limit feed) (x == 10) (scan_after (done ++ unreturned feed.begun ∷ []) (with_feed feed) bs) (scan_after done (with_byte feed x) bs)
+    fits done feed (is_past_line feed x) (is_past_limit feed) (x == 10) (scan_after (done ++ unreturned feed.begun ∷ []) (with_feed feed) bs)
+    (scan_after done (with_byte feed x) bs)
     (λ small. scan-within (done ++ unreturned feed.begun ∷ []) (with_feed feed) bs (omega (arith, leb-false feed.limit feed.taken small)))
     (λ small. scan-within done (with_byte feed x) bs (omega (arith, leb-false feed.limit feed.taken small))) e
 

@@ -18,8 +18,11 @@ use Rattle.script_course.specs.declared.stops.Stop.TheVariants as stop
 
 -- a prefix of a list is a prefix of a longer one
 take_longer : (n : ℕ) (xs ys : List ℕ) → (m : ℕ) × (take m (xs ++ ys) ≡ take n xs)
-take_longer n xs ys =
-    (length (take n xs), ap (λ l. take (length (take n xs)) (l ++ ys)) (sym (take-append-drop n xs)) ∙ ap (take (length (take n xs))) (append_assoc (take n xs) (drop n xs) ys) ∙ take-append_seam (take n xs) (drop n xs ++ ys))
+take_longer n xs ys = (
+  length (take n xs),
+  ap (λ l. take (length (take n xs)) (l ++ ys)) (sym (take-append-drop n xs))
+      ∙ ap (take (length (take n xs))) (append_assoc (take n xs) (drop n xs) ys) ∙ take-append_seam (take n xs) (drop n xs ++ ys),
+)
 
 -- and behind others
 take_behind : (n : ℕ) (xs ys : List ℕ) → take (length xs + n) (xs ++ ys) ≡ xs ++ take n ys
@@ -48,7 +51,8 @@ module _ {R : Type 0} where
   behind_nothing (Goes bytes r) = refl
   behind_nothing (Stops bytes) = refl
 
-  cut_behind : (a : List ℕ) (c : Course R) (old mid new : Option (List ℕ)) (why : Stop) → Appends old mid a → ServesCut c mid new why → ServesCut (behind a c) old new why
+  cut_behind : (a : List ℕ) (c : Course R) (old mid new : Option (List ℕ)) (why : Stop) → Appends old mid a → ServesCut c mid new why
+      → ServesCut (behind a c) old new why
   cut_behind a (Goes bytes r) old mid new stop.Refused first h = absurd h
   cut_behind a (Goes bytes r) old mid new stop.NoMemory first h = front_behind old mid new a bytes first h
   cut_behind a (Goes bytes r) old mid new stop.NoWrite first h = front_behind old mid new a bytes first h
@@ -60,13 +64,15 @@ module _ {R : Type 0} where
   cut_behind a (Stops bytes) old mid new stop.NoDisk first h = front_behind old mid new a bytes first h
   cut_behind a (Stops bytes) old mid new stop.NoRead first h = absurd h
 
-  pub serves_behind : (a : List ℕ) (c : Course R) (old mid new : Option (List ℕ)) (result : Result R Stop) → Appends old mid a → Serves c mid new result → Serves (behind a c) old new result
+  pub serves_behind : (a : List ℕ) (c : Course R) (old mid new : Option (List ℕ)) (result : Result R Stop) → Appends old mid a → Serves c mid new result
+      → Serves (behind a c) old new result
   serves_behind a (Goes bytes r) old mid new (Ok s) first h = (h.0, Appends-trans old mid new a bytes first h.1)
   serves_behind a (Stops bytes) old mid new (Ok s) first h = absurd h
   serves_behind a c old mid new (Err why) first h = cut_behind a c old mid new why first h
 
   -- a longer course is served by what cut the shorter one off
-  pub cut_longer : (c longer : Course R) (more : List ℕ) (old new : Option (List ℕ)) (why : Stop) → printed longer ≡ printed c ++ more → (IsStopped c old new → IsStopped longer old new) → ServesCut c old new why → ServesCut longer old new why
+  pub cut_longer : (c longer : Course R) (more : List ℕ) (old new : Option (List ℕ)) (why : Stop) → printed longer ≡ printed c ++ more
+      → (IsStopped c old new → IsStopped longer old new) → ServesCut c old new why → ServesCut longer old new why
   cut_longer c longer more old new stop.Refused all same h = same h
   cut_longer c longer more old new stop.NoMemory all same h = rw all (front_longer old new (printed c) more h)
   cut_longer c longer more old new stop.NoWrite all same h = rw all (front_longer old new (printed c) more h)
@@ -110,7 +116,8 @@ module _ {R : Type 0} (on_line : R → List ℕ → Course R) where
   goes_by (Goes bytes s) r lines now mid (e, first) = λ new result h.
       let ServesIt : Course R → Type 0 = λ d. Serves d now new result in
       let same : behind bytes (with_lines on_line (Goes [] r) lines) ≡ with_lines on_line (Goes bytes s) lines =
-      sym (with_lines-behind bytes (Goes [] r) lines) ∙ ap (λ d. with_lines on_line d lines) (ap (λ l. Goes l r) (append-nil bytes) ∙ ap (λ q. Goes bytes q) e) in
+      sym (with_lines-behind bytes (Goes [] r) lines) ∙ ap (λ d. with_lines on_line d lines) (ap (λ l. Goes l r) (append-nil bytes)
+      ∙ ap (λ q. Goes bytes q) e) in
       subst ServesIt same (serves_behind bytes (with_lines on_line (Goes [] r) lines) now mid new result first h)
 
   pub goes_on : (r next : R) (line : List ℕ) (lines : List (List ℕ)) (now mid : Option (List ℕ)) → Serves (on_line r line) now mid (Ok next)
@@ -121,15 +128,18 @@ module _ {R : Type 0} (on_line : R → List ℕ → Course R) where
   stays_stopped (Goes bytes r) lines old new h = absurd h
   stays_stopped (Stops bytes) lines old new h = rw (stopped_lines bytes lines) h
 
-  stops_by : (c : Course R) (lines : List (List ℕ)) (now new : Option (List ℕ)) (why : Stop) → ServesCut c now new why → ServesCut (with_lines on_line c lines) now new why
-  stops_by c lines now new why h = let more = printed_lines c lines in cut_longer c (with_lines on_line c lines) more.0 now new why more.1 (stays_stopped c lines now new) h
+  stops_by : (c : Course R) (lines : List (List ℕ)) (now new : Option (List ℕ)) (why : Stop) → ServesCut c now new why
+      → ServesCut (with_lines on_line c lines) now new why
+  stops_by c lines now new why h = let more = printed_lines c lines in
+      cut_longer c (with_lines on_line c lines) more.0 now new why more.1 (stays_stopped c lines now new) h
 
   pub stops_at : (r : R) (line : List ℕ) (lines : List (List ℕ)) (now new : Option (List ℕ)) (why : Stop) → ServesCut (on_line r line) now new why
       → ServesCut (with_lines on_line (Goes [] r) (line ∷ lines)) now new why
   stops_at r line lines now new why h = stops_by (behind [] (on_line r line)) lines now new why (rw (behind_nothing (on_line r line)) h)
 
 -- the next line, and those behind it
-pub next_of : (lines : List (List ℕ)) (i : ℕ) (item line : List ℕ) → i < length lines → item ≡ get_or lines i item → line ≡ item → drop i lines ≡ line ∷ drop (i + 1) lines
+pub next_of : (lines : List (List ℕ)) (i : ℕ) (item line : List ℕ) → i < length lines → item ≡ get_or lines i item → line ≡ item
+    → drop i lines ≡ line ∷ drop (i + 1) lines
 next_of lines i item line within is same =
     drop-cons lines i item within ∙ ap (λ x. x ∷ drop (suc i) lines) (sym is ∙ sym same) ∙ ap (λ n. line ∷ drop n lines) (sym (add-one i))
 
@@ -151,5 +161,7 @@ module _ {R : Type 0} where
   stays_refused (Goes bytes r) refusal old new h = absurd h
   stays_refused (Stops bytes) refusal old new h = h
 
-  pub refused_cut : (c : Course R) (refusal : Refusal) (old new : Option (List ℕ)) (why : Stop) → ServesCut c old new why → ServesCut (with_fault c (Some refusal)) old new why
-  refused_cut c refusal old new why h = let more = printed_fault c (Some refusal) in cut_longer c (with_fault c (Some refusal)) more.0 old new why more.1 (stays_refused c refusal old new) h
+  pub refused_cut : (c : Course R) (refusal : Refusal) (old new : Option (List ℕ)) (why : Stop) → ServesCut c old new why
+      → ServesCut (with_fault c (Some refusal)) old new why
+  refused_cut c refusal old new why h = let more = printed_fault c (Some refusal) in
+      cut_longer c (with_fault c (Some refusal)) more.0 old new why more.1 (stays_refused c refusal old new) h

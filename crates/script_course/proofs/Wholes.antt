@@ -52,15 +52,18 @@ module _ {R : Type 0} where
 
   -- ---- a whole text, behind what was given before
 
-  cut_front : (a : List ℕ) (c : Course R) (old mid new : Option (List ℕ)) → Appends old mid a → AppendsFront mid new (printed c) → AppendsFront old new (printed (behind a c))
+  cut_front : (a : List ℕ) (c : Course R) (old mid new : Option (List ℕ)) → Appends old mid a → AppendsFront mid new (printed c)
+      → AppendsFront old new (printed (behind a c))
   cut_front a (Goes bytes r) old mid new first h = front_behind old mid new a bytes first h
   cut_front a (Stops bytes) old mid new first h = front_behind old mid new a bytes first h
 
-  refused_behind : (a : List ℕ) (c : Course R) (old mid new : Option (List ℕ)) → Appends old mid a → ReachesCut c mid new stop.Refused → ReachesCut (behind a c) old new stop.Refused
+  refused_behind : (a : List ℕ) (c : Course R) (old mid new : Option (List ℕ)) → Appends old mid a → ReachesCut c mid new stop.Refused
+      → ReachesCut (behind a c) old new stop.Refused
   refused_behind a (Goes bytes r) old mid new first h = absurd h
   refused_behind a (Stops bytes) old mid new first h = Appends-trans old mid new a bytes first h
 
-  pub reaches_behind : (a : List ℕ) (c : Course R) (old mid new : Option (List ℕ)) (result : Result R Stop) → Appends old mid a → Reaches c mid new result → Reaches (behind a c) old new result
+  pub reaches_behind : (a : List ℕ) (c : Course R) (old mid new : Option (List ℕ)) (result : Result R Stop) → Appends old mid a → Reaches c mid new result
+      → Reaches (behind a c) old new result
   reaches_behind a (Goes bytes r) old mid new (Ok s) first h = (h.0, Appends-trans old mid new a bytes first h.1)
   reaches_behind a (Stops bytes) old mid new (Ok s) first h = absurd h
   reaches_behind a c old mid new (Err stop.Refused) first h = refused_behind a c old mid new first h
@@ -78,7 +81,8 @@ module _ {R : Type 0} where
   reaches_as c old new (Err stop.NoDisk) h = h
   reaches_as c old new (Err stop.NoRead) h = absurd h
 
-  tells_none : (told : List ℕ → Course R) (left rest old new : Option (List ℕ)) (c : Course R) (why : Stop) → ServesCut c old new why → ToldWhere told left rest old new why
+  tells_none : (told : List ℕ → Course R) (left rest old new : Option (List ℕ)) (c : Course R) (why : Stop) → ServesCut c old new why
+      → ToldWhere told left rest old new why
   tells_none told left rest old new c stop.Refused h = tt
   tells_none told left rest old new c stop.NoMemory h = tt
   tells_none told left rest old new c stop.NoWrite h = tt
@@ -115,7 +119,8 @@ module _ {R : Type 0} (on_line : R → List ℕ → Course R) where
       ∙ scan-behind bytes (Goes [] next) t
 
   -- where it stopped
-  stopped_by : (feed : Feed) (r : R) (piece text bytes : List ℕ) (fault : Option Refusal) → (scan feed piece).fault ≡ fault → told on_line feed r piece ≡ Stops bytes
+  stopped_by : (feed : Feed) (r : R) (piece text bytes : List ℕ) (fault : Option Refusal) → (scan feed piece).fault ≡ fault
+      → told on_line feed r piece ≡ Stops bytes
       → told on_line feed r (piece ++ text) ≡ Stops bytes
   stopped_by feed r piece text bytes None none stops =
       let t = scan (scan feed piece).feed text in
@@ -135,8 +140,11 @@ module _ {R : Type 0} (on_line : R → List ℕ → Course R) where
       let one = printed_lines on_line c t.lines in
       let two = printed_fault (with_lines on_line c t.lines) t.fault in
       (one.0 ++ two.0, ap printed (told_on feed r piece text none) ∙ two.1 ∙ ap (λ l. l ++ two.0) one.1 ∙ append_assoc (printed c) one.0 two.0)
-  grows_by feed r piece text (Some refusal) some =
-      ([], ap (λ s. printed (with_scan on_line (Goes [] r) s)) (scan-faulted [] feed piece text (λ none. let e : Some refusal ≡ None = sym some ∙ none in absurd cc)) ∙ sym (append-nil _))
+  grows_by feed r piece text (Some refusal) some = (
+    [],
+    ap (λ s. printed (with_scan on_line (Goes [] r) s))
+        (scan-faulted [] feed piece text (λ none. let e : Some refusal ≡ None = sym some ∙ none in absurd cc)) ∙ sym (append-nil _),
+  )
 
   last-behind : (a : List ℕ) (c : Course R) (last : Option (List ℕ)) → with_last on_line (behind a c) last ≡ behind a (with_last on_line c last)
   last-behind a c None = refl
@@ -159,12 +167,14 @@ module _ {R : Type 0} (on_line : R → List ℕ → Course R) where
       ∙ ap (λ d. with_last on_line d last) (told_going feed r next piece text bytes none goes)
       ∙ last-behind bytes (told on_line f next text) last
 
-  whole_stopped : (feed : Feed) (r : R) (piece text bytes : List ℕ) → told on_line feed r piece ≡ Stops bytes → told_whole on_line feed r (piece ++ text) ≡ Stops bytes
+  whole_stopped : (feed : Feed) (r : R) (piece text bytes : List ℕ) → told on_line feed r piece ≡ Stops bytes
+      → told_whole on_line feed r (piece ++ text) ≡ Stops bytes
   whole_stopped feed r piece text bytes stops =
       let last = last_line (scan feed (piece ++ text)).feed in
       ap (λ d. with_last on_line d last) (stopped_by feed r piece text bytes (scan feed piece).fault refl stops) ∙ last_stopped bytes last
 
-  whole_grows : (feed : Feed) (r : R) (piece text : List ℕ) → (more : List ℕ) × (printed (told_whole on_line feed r (piece ++ text)) ≡ printed (told on_line feed r piece) ++ more)
+  whole_grows : (feed : Feed) (r : R) (piece text : List ℕ)
+      → (more : List ℕ) × (printed (told_whole on_line feed r (piece ++ text)) ≡ printed (told on_line feed r piece) ++ more)
   whole_grows feed r piece text =
       let all = told on_line feed r (piece ++ text) in
       let one = grows_by feed r piece text (scan feed piece).fault refl in
@@ -173,23 +183,31 @@ module _ {R : Type 0} (on_line : R → List ℕ → Course R) where
 
   -- ---- what the loop needs of it: it goes on, it was cut off, it came to the end, the source failed
 
-  tells_on : (feed : Feed) (r next : R) (piece bytes : List ℕ) (left mid rest old now new : Option (List ℕ)) (result : Result R Stop) → (scan feed piece).fault ≡ None → told on_line feed r piece ≡ Goes bytes next
-      → Consumes left mid piece → Appends old now bytes → Tells (told on_line (scan feed piece).feed next) mid rest now new result → Tells (told on_line feed r) left rest old new result
+  tells_on : (feed : Feed) (r next : R) (piece bytes : List ℕ) (left mid rest old now new : Option (List ℕ)) (result : Result R Stop)
+      → (scan feed piece).fault ≡ None → told on_line feed r piece ≡ Goes bytes next
+      → Consumes left mid piece → Appends old now bytes → Tells (told on_line (scan feed piece).feed next) mid rest now new result
+      → Tells (told on_line feed r) left rest old new result
   tells_on feed r next piece bytes left mid rest old now new (Ok c) none goes taken first h = tt
   tells_on feed r next piece bytes left mid rest old now new (Err stop.Refused) none goes taken first h = tt
   tells_on feed r next piece bytes left mid rest old now new (Err stop.NoMemory) none goes taken first h = tt
   tells_on feed r next piece bytes left mid rest old now new (Err stop.NoWrite) none goes taken first h = tt
   tells_on feed r next piece bytes left mid rest old now new (Err stop.NoDisk) none goes taken first h = tt
-  tells_on feed r next piece bytes left mid rest old now new (Err stop.NoRead) none goes taken first (text, more, h) =
-      (piece ++ text, Consumes-trans left mid rest piece text taken more, rw (told_going feed r next piece text bytes none goes) (so_far bytes (told on_line (scan feed piece).feed next text) old now new first h))
+  tells_on feed r next piece bytes left mid rest old now new (Err stop.NoRead) none goes taken first (text, more, h) = (
+    piece ++ text,
+    Consumes-trans left mid rest piece text taken more,
+    rw (told_going feed r next piece text bytes none goes)
+        (so_far bytes (told on_line (scan feed piece).feed next text) old now new first h),
+  )
 
-  reaches_on : (feed : Feed) (r next : R) (piece bytes : List ℕ) (left mid old now new : Option (List ℕ)) (result : Result R Stop) → (scan feed piece).fault ≡ None → told on_line feed r piece ≡ Goes bytes next
+  reaches_on : (feed : Feed) (r next : R) (piece bytes : List ℕ) (left mid old now new : Option (List ℕ)) (result : Result R Stop)
+      → (scan feed piece).fault ≡ None → told on_line feed r piece ≡ Goes bytes next
       → Consumes left mid piece → Appends old now bytes → IfSome mid (λ text. Reaches (told_whole on_line (scan feed piece).feed next text) now new result)
       → IfSome left (λ text. Reaches (told_whole on_line feed r text) old new result)
   reaches_on feed r next piece bytes None mid old now new result none goes taken first h = tt
   reaches_on feed r next piece bytes (Some all) None old now new result none goes taken first h = absurd taken
   reaches_on feed r next piece bytes (Some all) (Some text) old now new result none goes taken first h =
-      rw (taken, whole_going feed r next piece text bytes none goes) (reaches_behind bytes (told_whole on_line (scan feed piece).feed next text) old now new result first h)
+      rw (taken, whole_going feed r next piece text bytes none goes)
+      (reaches_behind bytes (told_whole on_line (scan feed piece).feed next text) old now new result first h)
 
   pub comes_on : (feed after : Feed) (r next : R) (piece : List ℕ) (left mid old now : Option (List ℕ)) → Consumes left mid piece
       → Serves (with_scan on_line (Goes [] r) (scan feed piece)) old now (Ok next) → (scan feed piece).fault ≡ None → (scan feed piece).feed ≡ after
@@ -199,10 +217,14 @@ module _ {R : Type 0} (on_line : R → List ℕ → Course R) where
       let FromHere : Feed → Type 0 = λ f. Comes (told on_line f next) (told_whole on_line f next) mid rest now new result in
       let here = subst FromHere (sym same) h in
       elim (goes_to next (told on_line feed r piece) old now served) [
-        | going bytes goes first ↦ (reaches_on feed r next piece bytes left mid old now new result none goes taken first here.0, tells_on feed r next piece bytes left mid rest old now new result none goes taken first here.1)
+        | going bytes goes first ↦ (
+          reaches_on feed r next piece bytes left mid old now new result none goes taken first here.0,
+          tells_on feed r next piece bytes left mid rest old now new result none goes taken first here.1,
+        )
       ]
 
-  refused_of : (feed : Feed) (r : R) (piece : List ℕ) (left rest old new : Option (List ℕ)) → Consumes left rest piece → ServesCut (told on_line feed r piece) old new stop.Refused
+  refused_of : (feed : Feed) (r : R) (piece : List ℕ) (left rest old new : Option (List ℕ)) → Consumes left rest piece
+      → ServesCut (told on_line feed r piece) old new stop.Refused
       → IfSome left (λ text. ReachesCut (told_whole on_line feed r text) old new stop.Refused)
   refused_of feed r piece None rest old new taken served = tt
   refused_of feed r piece (Some all) None old new taken served = absurd taken
@@ -211,14 +233,16 @@ module _ {R : Type 0} (on_line : R → List ℕ → Course R) where
         | stopping bytes stops first ↦ rw (taken, whole_stopped feed r piece text bytes stops) first
       ]
 
-  front_of : (feed : Feed) (r : R) (piece : List ℕ) (left rest old new : Option (List ℕ)) → Consumes left rest piece → AppendsFront old new (printed (told on_line feed r piece))
+  front_of : (feed : Feed) (r : R) (piece : List ℕ) (left rest old new : Option (List ℕ)) → Consumes left rest piece
+      → AppendsFront old new (printed (told on_line feed r piece))
       → IfSome left (λ text. AppendsFront old new (printed (told_whole on_line feed r text)))
   front_of feed r piece None rest old new taken served = tt
   front_of feed r piece (Some all) None old new taken served = absurd taken
   front_of feed r piece (Some all) (Some text) old new taken served =
       let more = whole_grows feed r piece text in rw (taken, more.1) (front_longer old new (printed (told on_line feed r piece)) more.0 served)
 
-  pub comes_cut : (feed : Feed) (r : R) (piece : List ℕ) (left rest old new : Option (List ℕ)) (why : Stop) → Consumes left rest piece → ServesCut (with_scan on_line (Goes [] r) (scan feed piece)) old new why
+  pub comes_cut : (feed : Feed) (r : R) (piece : List ℕ) (left rest old new : Option (List ℕ)) (why : Stop) → Consumes left rest piece
+      → ServesCut (with_scan on_line (Goes [] r) (scan feed piece)) old new why
       → Comes (told on_line feed r) (told_whole on_line feed r) left rest old new (Err why)
   comes_cut feed r piece left rest old new stop.Refused taken served = (refused_of feed r piece left rest old new taken served, tt)
   comes_cut feed r piece left rest old new stop.NoMemory taken served = (front_of feed r piece left rest old new taken served, tt)
@@ -226,16 +250,19 @@ module _ {R : Type 0} (on_line : R → List ℕ → Course R) where
   comes_cut feed r piece left rest old new stop.NoDisk taken served = (front_of feed r piece left rest old new taken served, tt)
   comes_cut feed r piece left rest old new stop.NoRead taken served = absurd served
 
-  at_end : (feed : Feed) (r : R) (left old new : Option (List ℕ)) (result : Result R Stop) → IsAtEnd left → Serves (with_last on_line (Goes [] r) (last_line feed)) old new result
+  at_end : (feed : Feed) (r : R) (left old new : Option (List ℕ)) (result : Result R Stop) → IsAtEnd left
+      → Serves (with_last on_line (Goes [] r) (last_line feed)) old new result
       → IfSome left (λ text. Reaches (told_whole on_line feed r text) old new result)
   at_end feed r None old new result end h = tt
   at_end feed r (Some text) old new result end h = rw end (reaches_as (with_last on_line (Goes [] r) (last_line feed)) old new result h)
 
-  tells_end : (told : List ℕ → Course R) (c : Course R) (left rest old new : Option (List ℕ)) (result : Result R Stop) → Serves c old new result → Tells told left rest old new result
+  tells_end : (told : List ℕ → Course R) (c : Course R) (left rest old new : Option (List ℕ)) (result : Result R Stop) → Serves c old new result
+      → Tells told left rest old new result
   tells_end told c left rest old new (Ok r) h = tt
   tells_end told c left rest old new (Err why) h = tells_none told left rest old new c why h
 
-  pub comes_end : (feed : Feed) (r : R) (left rest old new : Option (List ℕ)) (result : Result R Stop) → IsAtEnd left → Serves (with_last on_line (Goes [] r) (last_line feed)) old new result
+  pub comes_end : (feed : Feed) (r : R) (left rest old new : Option (List ℕ)) (result : Result R Stop) → IsAtEnd left
+      → Serves (with_last on_line (Goes [] r) (last_line feed)) old new result
       → Comes (told on_line feed r) (told_whole on_line feed r) left rest old new result
   comes_end feed r left rest old new result end h =
       (at_end feed r left old new result end h, tells_end (told on_line feed r) (with_last on_line (Goes [] r) (last_line feed)) left rest old new result h)
@@ -249,11 +276,13 @@ module _ {R : Type 0} (on_line : R → List ℕ → Course R) where
   kept_taken (Some text) None kept = absurd kept
   kept_taken (Some text) (Some more) kept = sym kept
 
-  pub comes_fault : (feed : Feed) (r : R) (left rest now : Option (List ℕ)) → Keeps left rest → Comes (told on_line feed r) (told_whole on_line feed r) left rest now now (Err stop.NoRead)
+  pub comes_fault : (feed : Feed) (r : R) (left rest now : Option (List ℕ)) → Keeps left rest
+      → Comes (told on_line feed r) (told_whole on_line feed r) left rest now now (Err stop.NoRead)
   comes_fault feed r left rest now kept = (none_of (told_whole on_line feed r) left now, ([], kept_taken left rest kept, Appends-nil now))
 
   -- the last line
-  pub last_is : (r : R) (line : List ℕ) (last : Option (List ℕ)) (old new : Option (List ℕ)) (result : Result R Stop) → last ≡ Some line → Serves (on_line r line) old new result
+  pub last_is : (r : R) (line : List ℕ) (last : Option (List ℕ)) (old new : Option (List ℕ)) (result : Result R Stop) → last ≡ Some line
+      → Serves (on_line r line) old new result
       → Serves (with_last on_line (Goes [] r) last) old new result
   last_is r line last old new result is h = rw (is, behind_nothing (on_line r line)) h
 

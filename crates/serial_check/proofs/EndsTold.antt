@@ -21,9 +21,11 @@ abbrev Lacks : ℕ → List Request → Type 0
 Lacks q [] = Unit {0}
 Lacks q (r ∷ rs) = ((r.q == q) ≡ false) × Lacks q rs
 
-longer : (named : List Request) (r : Request) (q : ℕ) → list_any (λ n. n == q) (numbers named) ≡ true → list_any (λ n. n == q) (numbers (named ++ r ∷ [])) ≡ true
+longer : (named : List Request) (r : Request) (q : ℕ) → list_any (λ n. n == q) (numbers named) ≡ true
+    → list_any (λ n. n == q) (numbers (named ++ r ∷ [])) ≡ true
 longer [] r q h = cc
-longer (x ∷ xs) r q h = elim (x.q == q) as (λ b. (b || list_any (λ n. n == q) (numbers xs)) ≡ true → (b || list_any (λ n. n == q) (numbers (xs ++ r ∷ []))) ≡ true) [ true ↦ λ k. refl | false ↦ λ k. longer xs r q k ] h
+longer (x ∷ xs) r q h = elim (x.q == q) as (λ b. (b || list_any (λ n. n == q) (numbers xs)) ≡ true
+    → (b || list_any (λ n. n == q) (numbers (xs ++ r ∷ []))) ≡ true) [ true ↦ λ k. refl | false ↦ λ k. longer xs r q k ] h
 
 -- what is apart from those named so far lacks the number of each
 lacks_named : (named more : List Request) (q : ℕ) → list_any (λ n. n == q) (numbers named) ≡ true → AreApart named more → Lacks q more
@@ -86,5 +88,6 @@ module _ (tree : Request → Tree Key Cells End) where
       → filter (λ r. not (is_some (end_in tree db order r.q))) list ≡ filter (λ r. not (is_named (numbers order) r)) list
   not_ended db order [] = refl
   not_ended db order (r ∷ rs) =
-      ap (λ b. cond (not b) (r ∷ filter (λ r. not (is_some (end_in tree db order r.q))) rs) (filter (λ r. not (is_some (end_in tree db order r.q))) rs)) (named_end db order r.q)
+      ap (λ b. cond (not b) (r ∷ filter (λ r. not (is_some (end_in tree db order r.q))) rs) (filter (λ r. not (is_some (end_in tree db order r.q))) rs))
+      (named_end db order r.q)
       ∙ ap (λ more. cond (not (is_named (numbers order) r)) (r ∷ more) more) (not_ended db order rs)

@@ -11,5 +11,6 @@ use Rattle.proc_lang.specs.declared.ends.End.{End}
 use Rattle.proc_lang.specs.Meaning.{is_done}
 use Rattle.aria_base.specs.declared.calls.Request.{Request}
 
-pub framed : (tree : Request → Tree Key Cells End) (request : Request) (db : Database) → map_after is_done (tree request) db ≡ overwritten db (rows_at is_done tree db request)
+pub framed : (tree : Request → Tree Key Cells End) (request : Request) (db : Database)
+    → map_after is_done (tree request) db ≡ overwritten db (rows_at is_done tree db request)
 framed tree request db = map_after-is key_cmp_total key_cmp-IsAntisymmetric is_done (tree request) db

@@ -131,19 +131,20 @@ module _ (plan : Plan) (report : List (List ℕ)) where
       subst (λ reading. AnswerStands standing calls at reading) last (record {
         lines = batch_line number ∷ (replied.lines ++ order_line order ∷ end_line number ∷ []);
         left = all ∙ ap (λ l. batch_line number ∷ l) (sym (append_assoc replied.lines (order_line order ∷ end_line number ∷ []) (drop three.value report)));
-        is_answer = subst (λ ran. IsAnswer plan standing calls (batch_line number ∷ (replied.lines ++ order_line order ∷ end_line number ∷ [])) (after standing calls ran)) runs (record {
-          order = order;
-          replies = replied.lines;
-          as_lines = refl;
-          found = subst (λ o. map (request_numbered list) (numbers o) ≡ map Some o) (sym names.together) names.found;
-          apart = apart;
-          ends = ends_told (run_of plan) [] standing.tables order apart;
-          told = subst (λ ends. AreReplies ends list replied.lines) (sym (ap (λ ran. ran.0) runs)) replied.are;
-          rows = refl;
-          rest = not_ended (run_of plan) standing.tables order list;
-          batches = refl;
-          requests = refl;
-        });
+        is_answer = subst (λ ran. IsAnswer plan standing calls (batch_line number ∷ (replied.lines ++ order_line order ∷ end_line number ∷ []))
+            (after standing calls ran)) runs (record {
+              order = order;
+              replies = replied.lines;
+              as_lines = refl;
+              found = subst (λ o. map (request_numbered list) (numbers o) ≡ map Some o) (sym names.together) names.found;
+              apart = apart;
+              ends = ends_told (run_of plan) [] standing.tables order apart;
+              told = subst (λ ends. AreReplies ends list replied.lines) (sym (ap (λ ran. ran.0) runs)) replied.are;
+              rows = refl;
+              rest = not_ended (run_of plan) standing.tables order list;
+              batches = refl;
+              requests = refl;
+            });
         unlisted = refl;
       })
 
@@ -152,7 +153,8 @@ module _ (plan : Plan) (report : List (List ℕ)) where
   pub listing_stands : (standing : Standing) (at next : ℕ) → listing plan report standing at ≡ Ok next
       → drop at report ≡ listing_lines plan standing ++ drop next report
   listing_stands standing at next h =
-      let one = both (expect report (state_line standing.batches) at) (λ at. expect_all report (row_lines plan standing.tables) at >>= expect report end_state_line) next h in
+      let one = both (expect report (state_line standing.batches) at)
+      (λ at. expect_all report (row_lines plan standing.tables) at >>= expect report end_state_line) next h in
       let two = both (expect_all report (row_lines plan standing.tables) one.value) (expect report end_state_line) next one.second in
       stood report (state_line standing.batches) at one.value one.first
       ∙ ap (λ l. state_line standing.batches ∷ l) (all_stood report (row_lines plan standing.tables) one.value two.value two.first

@@ -22,15 +22,18 @@ use Rattle.serving.specs.declared.lives.Live.{Live}
 few-wait : (tree : Request → Tree Key Cells End) (start : Database) (list : List Request) (found : Answer) (next : State)
     → IsSerialAnswer tree start list found next → length next.waiting ≤ length list
 few-wait tree start list found next h =
-    let both = length-filter_both (λ (request : Request). not (is_named found.order request)) (λ (request : Request). is_named found.order request) (λ request. grind arith) list in
+    let both = length-filter_both (λ (request : Request). not (is_named found.order request)) (λ (request : Request). is_named found.order request)
+    (λ request. grind arith) list in
     rw (ap length h.rest) (omega (arith, both))
 
 -- the bounds behind a batch
-pub runnable : (before after : Live) (calls : List Call) (found : Answer) → MayServe before calls → state_of after ≡ next_state before calls → after.config ≡ before.config
+pub runnable : (before after : Live) (calls : List Call) (found : Answer) → MayServe before calls → state_of after ≡ next_state before calls
+    → after.config ≡ before.config
     → IsSerialAnswer (run_of (plan_of before)) (state_of before).rows (list_of (state_of before) (next_handed before calls)) found (next_state before calls)
     → IsRunnable after
 runnable before after calls found may state config serial =
-    let few = few-wait (run_of (plan_of before)) (state_of before).rows (list_of (state_of before) (next_handed before calls)) found (next_state before calls) serial in
+    let few = few-wait (run_of (plan_of before)) (state_of before).rows (list_of (state_of before) (next_handed before calls)) found
+    (next_state before calls) serial in
     let size = length-list (state_of before) (next_handed before calls) in
     record {
       few = subst (λ (s : State). length s.waiting ≤ MOST_REQUESTS) (sym state) (omega (arith, few, size, may.room));
@@ -41,7 +44,8 @@ runnable before after calls found may state config serial =
     }
 
 -- without new calls, where something waits, fewer do behind the batch
-pub fewer : (tree : Request → Tree Key Cells End) (state : State) → 0 < length state.waiting → length (step tree state (no_calls state)).waiting < length state.waiting
+pub fewer : (tree : Request → Tree Key Cells End) (state : State) → 0 < length state.waiting
+    → length (step tree state (no_calls state)).waiting < length state.waiting
 fewer tree state some =
     let size = length-list state (no_calls state) in
     let on = progress tree state (no_calls state) (omega (arith, size, some)) in

@@ -21,14 +21,23 @@ pub plan_is : (engines : List Between) (first : Between) → slice_get engines 0
 plan_is [] first e = absurd cc
 plan_is (engine ∷ rest) first e = let same : engine ≡ first = cc in ap (λ (b : Between). b.plan) same
 
-pub state_is : (config : Config) (engines : List Between) (first : Between) → slice_get engines 0 ≡ Some first → first_state config engines ≡ state_in config first
+pub state_is : (config : Config) (engines : List Between) (first : Between) → slice_get engines 0 ≡ Some first
+    → first_state config engines ≡ state_in config first
 state_is config [] first e = absurd cc
 state_is config (engine ∷ rest) first e = let same : engine ≡ first = cc in ap (λ (b : Between). state_in config b) same
 
 -- each engine may run what the first one may
-may_run : (config : Config) (calls : List Call) (engine first : Between) → unmarked engine ≡ unmarked first → MayRun config calls first → MayRun config calls engine
+may_run : (config : Config) (calls : List Call) (engine first : Between) → unmarked engine ≡ unmarked first → MayRun config calls first
+    → MayRun config calls engine
 may_run config calls engine first same h =
-    let there : MayRun config calls (unmarked first) = record { fit = h.fit; room = h.room; batches = h.batches; requests = h.requests; percent = h.percent; workers = h.workers } in
+    let there : MayRun config calls (unmarked first) = record {
+      fit = h.fit;
+      room = h.room;
+      batches = h.batches;
+      requests = h.requests;
+      percent = h.percent;
+      workers = h.workers;
+    } in
     let here : MayRun config calls (unmarked engine) = subst (λ (b : Between). MayRun config calls b) (sym same) there in
     record { fit = here.fit; room = here.room; batches = here.batches; requests = here.requests; percent = here.percent; workers = here.workers }
 
@@ -45,7 +54,8 @@ first_may live calls first e h =
       workers = h.workers;
     }
 
-pub all_may : (live : Live) (calls : List Call) (first : Between) → slice_get live.replicas 0 ≡ Some first → All (λ engine. unmarked engine ≡ unmarked first) live.replicas
+pub all_may : (live : Live) (calls : List Call) (first : Between) → slice_get live.replicas 0 ≡ Some first
+    → All (λ engine. unmarked engine ≡ unmarked first) live.replicas
     → MayServe live calls → All (MayRun live.config calls) live.replicas
 all_may live calls first e alike h =
     All-weaker (λ (engine : Between). unmarked engine ≡ unmarked first) (MayRun live.config calls)
@@ -62,7 +72,8 @@ module _ (config : Config) (calls : List Call) where
   next_is (b ∷ before) [] first e z = elim z [ ]
   next_is (b ∷ before) (a ∷ after) first e z = (z.0.plan, z.0.state)
 
-  pub answer_is : (before : List Between) (first : Between) (found : Answer) → slice_get before 0 ≡ Some first → All (λ b. found ≡ answer_of config calls b) before
+  pub answer_is : (before : List Between) (first : Between) (found : Answer) → slice_get before 0 ≡ Some first
+      → All (λ b. found ≡ answer_of config calls b) before
       → found ≡ answer (run_of (plan_in before)) (first_state config before) handed
   answer_is [] first found e all = absurd cc
   answer_is (b ∷ before) first found e all = All-head (λ (b : Between). found ≡ answer_of config calls b) b before all
@@ -74,9 +85,11 @@ module _ (config : Config) (calls : List Call) where
   serial_is (b ∷ before) first found e all = All-head (IsSerialFor config calls found) b before all
 
   -- all engines after the batch, by the first one before it
-  stands_by : (first before after : Between) → IsAfter config calls before after → unmarked before ≡ unmarked first → StandsAfter first.plan config (state_in config first) handed after
+  stands_by : (first before after : Between) → IsAfter config calls before after → unmarked before ≡ unmarked first
+      → StandsAfter first.plan config (state_in config first) handed after
   stands_by first before after h same =
-      let there : StandsAfter (unmarked before).plan config (state_in config (unmarked before)) handed after = record { plan_kept = h.plan; state_after = h.state; marked = h.marked } in
+      let there : StandsAfter (unmarked before).plan config (state_in config (unmarked before)) handed after =
+      record { plan_kept = h.plan; state_after = h.state; marked = h.marked } in
       subst (λ (b : Between). StandsAfter b.plan config (state_in config b) handed after) same there
 
   pub all_stand : (before after : List Between) (first : Between) → slice_get before 0 ≡ Some first → All (λ engine. unmarked engine ≡ unmarked first) before
@@ -97,7 +110,8 @@ handed_is live calls = first_handed live.config calls live.replicas
 abbrev with_engines : Live → List Between → Live
 with_engines before engines = record { store = before.store; replicas = engines; config = before.config; each = before.each; checkpoint = before.checkpoint }
 
-pub next_after : (before : Live) (calls : List Call) (engines : List Between) (first : Between) (found : Answer) → MayServe before calls → slice_get before.replicas 0 ≡ Some first
+pub next_after : (before : Live) (calls : List Call) (engines : List Between) (first : Between) (found : Answer) → MayServe before calls
+    → slice_get before.replicas 0 ≡ Some first
     → All (λ engine. unmarked engine ≡ unmarked first) before.replicas → AllZip (IsAfter before.config calls) before.replicas engines
     → All (λ b. found ≡ answer_of before.config calls b) before.replicas → All (IsSerialFor before.config calls found) before.replicas
     → IsNext before calls (with_engines before engines)
@@ -114,6 +128,7 @@ next_after before calls engines first found may e alike z same serial =
       each = refl;
       checkpoint = refl;
       runnable = runnable before (with_engines before engines) calls found may on.1 refl told;
-      serial = subst (λ (a : Answer). IsSerialAnswer (run_of (plan_of before)) (state_of before).rows (list_of (state_of before) (next_handed before calls)) a (next_state before calls))
+      serial = subst (λ (a : Answer). IsSerialAnswer (run_of (plan_of before)) (state_of before).rows (list_of (state_of before) (next_handed before calls)) a
+          (next_state before calls))
           (answer_is before.config calls before.replicas first found e same) told;
     }

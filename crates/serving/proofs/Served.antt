@@ -92,30 +92,40 @@ module _ (live mid next : Live) (calls : List Call) (log : mid ≡ logged live c
   to_live : (P : Plan → State → Type 0) → P (plan_of next) (state_of next) → P (plan_of live) (next_state live calls)
   to_live P p = subst (λ (state : State). P (plan_of live) state) own.state (subst (λ (plan : Plan). P plan (state_of next)) own.plan p)
 
-  module _ (after : Live) (turn : after ≡ record next { store = turned_by (due_by next.checkpoint (state_of next).batches next.store) (state_of next) next.store }) where
+  module _ (after : Live) (turn : after ≡ record next {
+    store =
+        turned_by (due_by next.checkpoint (state_of next).batches next.store) (state_of next) next.store;
+  }) where
     pub next_after : IsNext live calls after
     next_after = subst (λ (l : Live). IsNext live calls l) (sym turn)
-        (next_with live calls next (turned_by (due_by next.checkpoint (state_of next).batches next.store) (state_of next) next.store) (next_logged live calls next own))
+        (next_with live calls next (turned_by (due_by next.checkpoint (state_of next).batches next.store) (state_of next) next.store)
+        (next_logged live calls next own))
 
     due_next : due_by next.checkpoint (state_of next).batches next.store ≡ next_due live calls
     due_next = λ i. due_by (own.checkpoint i) (own.state i).batches (store_next i)
 
     module _ (old log_disk new : History) (c : Checkpoint) (later : List Batch)
-        (logs : Holds old (plan_of live) (stored_state live) live.store c later → Holds log_disk (plan_of live) (next_state live calls) mid.store c (added later live.config.rule live.config.fallback calls))
+        (logs : Holds old (plan_of live) (stored_state live) live.store c later
+        → Holds log_disk (plan_of live) (next_state live calls) mid.store c (added later live.config.rule live.config.fallback calls))
         (h : Holds old (plan_of live) (stored_state live) live.store c later) where
       pub holds_after : (Holds log_disk (plan_of next) (state_of next) next.store c (added later live.config.rule live.config.fallback calls)
-          → HoldsTurned (due_by next.checkpoint (state_of next).batches next.store) new (plan_of next) (state_of next) after.store c (added later live.config.rule live.config.fallback calls))
+          → HoldsTurned (due_by next.checkpoint (state_of next).batches next.store) new (plan_of next) (state_of next) after.store c
+          (added later live.config.rule live.config.fallback calls))
           → HoldsTurned (next_due live calls) new (plan_of live) (next_state live calls) after.store c (added later live.config.rule live.config.fallback calls)
       holds_after turns =
-          subst (λ (due : Bool). HoldsTurned due new (plan_of live) (next_state live calls) after.store c (added later live.config.rule live.config.fallback calls)) due_next
-          (to_live (λ plan state. HoldsTurned (due_by next.checkpoint (state_of next).batches next.store) new plan state after.store c (added later live.config.rule live.config.fallback calls))
+          subst (λ (due : Bool). HoldsTurned due new (plan_of live) (next_state live calls) after.store c
+          (added later live.config.rule live.config.fallback calls)) due_next
+          (to_live (λ plan state. HoldsTurned (due_by next.checkpoint (state_of next).batches next.store) new plan state after.store c
+          (added later live.config.rule live.config.fallback calls))
           (turns (to_next (λ plan state store. Holds log_disk plan state store c (added later live.config.rule live.config.fallback calls)) (logs h))))
 
   -- ---- the images of both calls
 
   module _ (old log_disk new : History) (c : Checkpoint) (later : List Batch)
-      (logs : Holds old (plan_of live) (stored_state live) live.store c later → Holds log_disk (plan_of live) (next_state live calls) mid.store c (added later live.config.rule live.config.fallback calls))
-      (turns : Holds log_disk (plan_of next) (state_of next) next.store c (added later live.config.rule live.config.fallback calls) → LeavesAll log_disk new (ReopensTo (plan_of next) (state_of next)))
+      (logs : Holds old (plan_of live) (stored_state live) live.store c later
+      → Holds log_disk (plan_of live) (next_state live calls) mid.store c (added later live.config.rule live.config.fallback calls))
+      (turns : Holds log_disk (plan_of next) (state_of next) next.store c (added later live.config.rule live.config.fallback calls)
+      → LeavesAll log_disk new (ReopensTo (plan_of next) (state_of next)))
       (h : Holds old (plan_of live) (stored_state live) live.store c later) where
     turned_leaves : LeavesAll log_disk new (ReopensTo (plan_of live) (next_state live calls))
     turned_leaves = to_live (λ plan state. LeavesAll log_disk new (ReopensTo plan state))
@@ -125,14 +135,16 @@ module _ (live mid next : Live) (calls : List Call) (log : mid ≡ logged live c
         → LeavesAll old new (ReopensToEither (plan_of live) (stored_state live) (next_state live calls))
     images_after before =
         leaves_then old log_disk new (ReopensToEither (plan_of live) (stored_state live) (next_state live calls)) before
-        (leaves_more log_disk new (ReopensTo (plan_of live) (next_state live calls)) (ReopensToEither (plan_of live) (stored_state live) (next_state live calls)) turned_leaves (λ images is_after. inr is_after))
+        (leaves_more log_disk new (ReopensTo (plan_of live) (next_state live calls))
+        (ReopensToEither (plan_of live) (stored_state live) (next_state live calls)) turned_leaves (λ images is_after. inr is_after))
 
     pub left_after : LeavesState new (plan_of live) (next_state live calls)
     left_after images left = turned_leaves.each new.now turned_leaves.later (omega arith) images left
 
 -- ---- the batch in the log
 
-module _ (live : Live) (calls : List Call) (may : MayServe live calls) (store : Kept) (is : live.store ≡ Some store) (catalog : Plan) (p : catalog ≡ plan_of live)
+module _ (live : Live) (calls : List Call) (may : MayServe live calls) (store : Kept) (is : live.store ≡ Some store) (catalog : Plan)
+    (p : catalog ≡ plan_of live)
     (old : History) (c : Checkpoint) (later : List Batch) (h : Holds old (plan_of live) (stored_state live) live.store c later) where
   here : IsHeld old (plan_of live) (told_by (Some store) (state_of live)) store c later
   here = subst (λ (s : Option Kept). Holds old (plan_of live) (told_by s (state_of live)) s c later) is h
@@ -162,7 +174,8 @@ open_store live store is disk h =
     goes.open_yet
 
 -- what is held is what a stop now leaves
-pub holds_leaves : (disk : History) (plan : Plan) (state : State) (store : Option Kept) (c : Checkpoint) (later : List Batch) → Holds disk plan state store c later → LeavesState disk plan state
+pub holds_leaves : (disk : History) (plan : Plan) (state : State) (store : Option Kept) (c : Checkpoint) (later : List Batch)
+    → Holds disk plan state store c later → LeavesState disk plan state
 holds_leaves disk plan state None c later h = absurd h
 holds_leaves disk plan state (Some store) c later h = held_leaves disk plan state store c later h
 
@@ -192,17 +205,20 @@ fresh_of format at off (inr two) = (two, grind (arith, nat_tests, (none_of (form
 
 -- ---- where no call is made, and where a checkpoint is laid
 
-pub still_leaves : (disk : History) (plan : Plan) (state : State) (store : Option Kept) (c : Checkpoint) (later : List Batch) → Holds disk plan state store c later
+pub still_leaves : (disk : History) (plan : Plan) (state : State) (store : Option Kept) (c : Checkpoint) (later : List Batch)
+    → Holds disk plan state store c later
     → LeavesAll disk disk (ReopensTo plan state)
 still_leaves disk plan state store c later h =
     leaves_still disk disk (ReopensTo plan state) (still_none disk) (holds_leaves disk plan state store c later h)
 
 module _ (live : Live) (store : Kept) (is : live.store ≡ Some store) where
   own_renew : (disk : History) → IfSome live.store (MayRenew disk (state_of live).batches) → MayRenew disk (state_of live).batches store
-  own_renew disk h = let own : IfSome (Some store) (MayRenew disk (state_of live).batches) = subst (λ (s : Option Kept). IfSome s (MayRenew disk (state_of live).batches)) is h in own
+  own_renew disk h = let own : IfSome (Some store) (MayRenew disk (state_of live).batches) =
+      subst (λ (s : Option Kept). IfSome s (MayRenew disk (state_of live).batches)) is h in own
 
   -- where no checkpoint is due before the first batch, the store takes batches as it is
-  pub fresh_goes_on : (disk : History) → is_stale store ≡ false → IfSome live.store (MayRenew disk (state_of live).batches) → GoesOn disk (state_of live).batches store
+  pub fresh_goes_on : (disk : History) → is_stale store ≡ false → IfSome live.store (MayRenew disk (state_of live).batches)
+      → GoesOn disk (state_of live).batches store
   fresh_goes_on disk off h =
       let own = own_renew disk h in
       let both = fresh_of store.files.head.format store.files.at off own.format in
@@ -237,7 +253,8 @@ module _ (live : Live) (first : Between) (e : slice_get live.replicas 0 ≡ Some
       → Holds old (plan_of live) (state_of live) live.store c later → LeavesAll old new (ReopensTo (plan_of live) (state_of live))
   turned_images old new c later all h =
       first_is live first e (λ plan state. LeavesAll old new (ReopensTo plan state))
-      (all (of_first live first e (λ plan state. IsHeld old plan state store c later) (subst (λ (s : Option Kept). Holds old (plan_of live) (state_of live) s c later) is h)))
+      (all (of_first live first e (λ plan state. IsHeld old plan state store c later)
+      (subst (λ (s : Option Kept). Holds old (plan_of live) (state_of live) s c later) is h)))
 
   count : (state_of live).batches ≡ first.batches
   count = ap (λ (s : State). s.batches) (state_is live.config live.replicas first e)
@@ -245,7 +262,8 @@ module _ (live : Live) (first : Between) (e : slice_get live.replicas 0 ≡ Some
   -- behind a batch the store may be rotated
   pub taken_turns : (disk : History) → IfSome live.store (HasTaken disk (state_of live).batches) → MayTurn disk first.batches store
   taken_turns disk h =
-      let own : IfSome (Some store) (HasTaken disk (state_of live).batches) = subst (λ (s : Option Kept). IfSome s (HasTaken disk (state_of live).batches)) is h in
+      let own : IfSome (Some store) (HasTaken disk (state_of live).batches) =
+      subst (λ (s : Option Kept). IfSome s (HasTaken disk (state_of live).batches)) is h in
       record { open_yet = own.open_yet; rests = own.rests; due = inl own.some; counted = sym count ∙ own.counted }
 
   -- and before the first one where it is due then

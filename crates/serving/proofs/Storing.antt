@@ -99,15 +99,26 @@ module _ (old : History) (plan : Plan) (state : State) (store : Kept) (handed : 
       roomy_added c.plan 0 (state_at c) later (batch_of handed) h.roomy
       (subst (λ (l : List Request). nat_lt MOST_REQUESTS (length l + length handed.calls) ≡ false) (sym waits) here)
 
-  pub log_held : Room → (new : History) (now : Kept) → Stands new now c (later ++ batch_of handed ∷ []) → IsHeld new plan After now c (later ++ batch_of handed ∷ [])
+  pub log_held : Room → (new : History) (now : Kept) → Stands new now c (later ++ batch_of handed ∷ [])
+      → IsHeld new plan After now c (later ++ batch_of handed ∷ [])
   log_held room new now stands = record { stands = stands; roomy = added_roomy room; plan_is = h.plan_is; state_is = added_state }
 
-  pub log_leaves : Room → (new : History) → LeavesAll old new (λ images. Reopens images (Found c later) ⊎ Reopens images (Found c (later ++ batch_of handed ∷ [])))
+  pub log_leaves : Room → (new : History) → LeavesAll old new
+      (λ images. Reopens images (Found c later) ⊎ Reopens images (Found c (later ++ batch_of handed ∷ [])))
       → LeavesAll old new (ReopensToEither plan (told_by (Some store) state) After)
   log_leaves room new all =
-      leaves_more old new (λ images. Reopens images (Found c later) ⊎ Reopens images (Found c (later ++ batch_of handed ∷ []))) (ReopensToEither plan (told_by (Some store) state) After) all (λ images either. elim either [
+      leaves_more old new (λ images. Reopens images (Found c later) ⊎ Reopens images (Found c (later ++ batch_of handed ∷ [])))
+      (ReopensToEither plan (told_by (Some store) state) After) all (λ images either. elim either [
         | inl was ↦ inl (held_reopens old plan (told_by (Some store) state) store c later h images was)
-        | inr is ↦ inr (record { c = c; later = later ++ batch_of handed ∷ []; reopens = is; roomy = added_roomy room; plan_is = h.plan_is; state_is = added_state })
+        | inr is ↦ inr (record {
+          c = c;
+          later = later ++ batch_of handed ∷ [];
+          reopens = is;
+          roomy = added_roomy room;
+          plan_is = h.plan_is;
+          state_is =
+              added_state;
+        })
       ])
 
 -- ---- the next checkpoint
@@ -138,7 +149,8 @@ module _ (was : Kept) (engine : Between) (config : Config) (plan : Plan) (rows :
       → LeavesAll old new (λ images. Reopens images (Found c later) ⊎ Reopens images (Found Next []))
       → LeavesAll old new (ReopensTo engine.plan (state_in config engine))
   rotate_leaves old new c later h all =
-      leaves_more old new (λ images. Reopens images (Found c later) ⊎ Reopens images (Found Next [])) (ReopensTo engine.plan (state_in config engine)) all (λ images either. elim either [
+      leaves_more old new (λ images. Reopens images (Found c later) ⊎ Reopens images (Found Next [])) (ReopensTo engine.plan (state_in config engine)) all
+      (λ images either. elim either [
         | inl was_there ↦ held_reopens old engine.plan (state_in config engine) was c later h images was_there
         | inr is ↦ record { c = Next; later = []; reopens = is; roomy = refl; plan_is = p; state_is = next_state_is }
       ])

@@ -33,7 +33,8 @@ body_not_carried head body v is never =
     (refl, λ w h. let same : w ≡ v = one_body body w v h.text is in never (subst (λ (u : Values). MayCarry head u.2) same h.carried))
 
 -- what is written stands for the values behind every head that may carry the requests
-pub body_stands : {B E : Type 0} (result : Result B E) (items : B → List ℕ) (v : Values) → IfOk result (λ body. All (λ request. request.q < 2 ^ 63) v.2 → IsBody (items body) v)
+pub body_stands : {B E : Type 0} (result : Result B E) (items : B → List ℕ) (v : Values)
+    → IfOk result (λ body. All (λ request. request.q < 2 ^ 63) v.2 → IsBody (items body) v)
     → IfOk result (λ body. (head : Head) → head.requests ≤ GREATEST_NUMBER → MayCarry head v.2 → IsBodyFor head (items body) v)
 body_stands (Ok body) items v h = λ head few carried. record { text = h (small_numbers head v.2 few carried); carried = carried }
 body_stands (Err e) items v h = tt

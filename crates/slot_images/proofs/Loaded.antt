@@ -18,14 +18,16 @@ use Rattle.slot_images.specs.Causes.{LoadCause}
 
 module _ (slot : ℕ) where
   -- a file reads as its slot does
-  file_reads : (told : Option File) (s : Slot) (reading : Reading) → SlotReads s reading → IfSome told (λ f. slot_of slot f.seen ≡ s) → IfSome told (λ f. FileReads slot f.seen reading)
+  file_reads : (told : Option File) (s : Slot) (reading : Reading) → SlotReads s reading → IfSome told (λ f. slot_of slot f.seen ≡ s)
+      → IfSome told (λ f. FileReads slot f.seen reading)
   file_reads None s reading r h = tt
   file_reads (Some f) s reading r h = subst (λ (t : Slot). SlotReads t reading) (sym h) r
 
   pub reads_nothing : (told : Option File) → IfSome told (λ f. slot_of slot f.seen ≡ Shut) → IfSome told (λ f. FileReads slot f.seen Nothing)
   reads_nothing told h = file_reads told Shut Nothing refl h
 
-  pub reads_body : (told : Option File) (head : Head) (body : List ℕ) (reading : Reading) → BodyReads head body reading → IfSome told (λ f. slot_of slot f.seen ≡ Shown head body)
+  pub reads_body : (told : Option File) (head : Head) (body : List ℕ) (reading : Reading) → BodyReads head body reading
+      → IfSome told (λ f. slot_of slot f.seen ≡ Shown head body)
       → IfSome told (λ f. FileReads slot f.seen reading)
   reads_body told head body reading r h = file_reads told (Shown head body) reading r h
 
@@ -50,10 +52,12 @@ in_order slot head c sound is fits =
     }
 
 -- a file that reads as a checkpoint shows its head, and a body that is the text of its values
-pub says_shown : (slot : ℕ) (bytes : List ℕ) (c : Checkpoint) → FileReads slot bytes (Says c) → (body : List ℕ) × (slot_of slot bytes ≡ Shown c.head body) × IsBodyFor c.head body (values_in c)
+pub says_shown : (slot : ℕ) (bytes : List ℕ) (c : Checkpoint) → FileReads slot bytes (Says c) → (body : List ℕ) × (slot_of slot bytes ≡ Shown c.head body)
+    × IsBodyFor c.head body (values_in c)
 says_shown slot bytes c reads = by (slot_of slot bytes) refl reads
   where
-    by : (s : Slot) → slot_of slot bytes ≡ s → SlotReads s (Says c) → (body : List ℕ) × (slot_of slot bytes ≡ Shown c.head body) × IsBodyFor c.head body (values_in c)
+    by : (s : Slot) → slot_of slot bytes ≡ s → SlotReads s (Says c) → (body : List ℕ) × (slot_of slot bytes ≡ Shown c.head body)
+        × IsBodyFor c.head body (values_in c)
     by Shut e r = absurd (cc r)
     by (Shown head body) e r =
         (body, e ∙ ap (λ (h : Head). Shown h body) (sym r.0), subst (λ (h : Head). IsBodyFor h body (values_in c)) (sym r.0) r.1)

@@ -26,7 +26,8 @@ reads_once (Shown head body) one other r s = body_once head body one other r s
 reads_once (Bad at) one other r s = r ∙ sym s
 
 pub laid_reads : (slot : ℕ) (head : Head) (v : Values) (body bytes image : List ℕ) → IsSound slot head → IsBodyFor head body v → length body < 256 ^ 8
-    → 0 < length bytes → take (length (opened (laid head body bytes))) image ≡ opened (laid head body bytes) → FileReads slot image (Says (checkpoint_of head v))
+    → 0 < length bytes → take (length (opened (laid head body bytes))) image ≡ opened (laid head body bytes)
+    → FileReads slot image (Says (checkpoint_of head v))
 laid_reads slot head v body bytes image sound is small some front =
     let shown = laid_shows slot head body bytes image sound small some front in
     subst (λ (s : Slot). SlotReads s (Says (checkpoint_of head v))) (sym shown) (refl, is)

@@ -22,7 +22,8 @@ use Rattle.store_commands.specs.declared.drafts.Draft.{Draft}
 -- ---- under a catalogue
 
 empty_under : (plan : Plan) (rows : Database) → rows ≡ fin.empty → IsConsistent plan.tables rows
-empty_under plan rows e = subst (λ (db : Database). IsConsistent plan.tables db) (sym e) (λ key row found. absurd (let none = get-empty {X = Cells} key_cmp key in cc))
+empty_under plan rows e = subst (λ (db : Database). IsConsistent plan.tables db) (sym e)
+    (λ key row found. absurd (let none = get-empty {X = Cells} key_cmp key in cc))
 
 of_empty : (h : Head) (rows : Database) → rows ≡ fin.empty → AreUnder h rows
 of_empty head.Unnamed rows e = e
@@ -45,7 +46,8 @@ closed_under before after rows under stays = plan_under after rows (head_on befo
 
 -- ---- a line
 
-put_under : (h : Head) (rows : Database) (key : Key) (row : Cells) → AreUnder h rows → IsReadyWith h (λ plan. Fits plan.tables key row) → AreUnder h (fin.insert rows key row)
+put_under : (h : Head) (rows : Database) (key : Key) (row : Cells) → AreUnder h rows → IsReadyWith h (λ plan. Fits plan.tables key row)
+    → AreUnder h (fin.insert rows key row)
 put_under head.Unnamed rows key row under fits = absurd fits
 put_under (head.Text text) rows key row under fits = absurd fits
 put_under (head.Ready plan) rows key row under fits = consistent_with plan.tables rows key row under fits

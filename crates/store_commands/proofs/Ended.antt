@@ -70,28 +70,33 @@ module _ (settings : Init) (was is : History) (old new : Option (List ℕ)) (res
   ends_made free all = made_by settings.over refl free (all, λ other. absurd (other refl))
 
   -- there was one that may not be written over
-  pub ends_kept : settings.over ≡ false → IsTaken was true → Still was is → Finishes (choice true) old new result → Ends (store_out settings) was is old new result
+  pub ends_kept : settings.over ≡ false → IsTaken was true → Still was is → Finishes (choice true) old new result
+      → Ends (store_out settings) was is old new result
   ends_kept off taken still all = ends_by true taken (subst By (sym (kept settings.over off)) (all, λ other. still))
 
-  cut_by : (taken over : Bool) → (taken ≡ true → HasGate was) → (over ≡ false → HasGate was → Still was is) → ((refused : Bool) → Finishes (choice refused) old new result)
+  cut_by : (taken over : Bool) → (taken ≡ true → HasGate was) → (over ≡ false → HasGate was → Still was is)
+      → ((refused : Bool) → Finishes (choice refused) old new result)
       → By (taken && not over)
   cut_by true true open_gate unwritten all = (all false, λ other. absurd (other refl))
   cut_by true false open_gate unwritten all = (all true, λ other. unwritten refl (open_gate refl))
   cut_by false over open_gate unwritten all = (all false, λ other. absurd (other refl))
 
   -- it was cut off
-  pub ends_cut : (settings.over ≡ false → HasGate was → Still was is) → ((refused : Bool) → Finishes (choice refused) old new result) → Ends (store_out settings) was is old new result
+  pub ends_cut : (settings.over ≡ false → HasGate was → Still was is) → ((refused : Bool) → Finishes (choice refused) old new result)
+      → Ends (store_out settings) was is old new result
   ends_cut unwritten all = let l = looked was in ends_by l.0 l.1 (cut_by l.0 settings.over l.2 unwritten all)
 
 -- ---- the end of a head
 
 -- the end is refused, or it was cut off before the store was looked at
-pub ends_untouched : (out : Bool → Out) (was : History) (old new : Option (List ℕ)) (result : Result ℕ Stop) → ((taken : Bool) → Finishes (out taken) old new result) → Ends out was was old new result
+pub ends_untouched : (out : Bool → Out) (was : History) (old new : Option (List ℕ)) (result : Result ℕ Stop)
+    → ((taken : Bool) → Finishes (out taken) old new result) → Ends out was was old new result
 ends_untouched out was old new result all = let l = looked was in record { taken = l.0; looked = l.1; finishes = all l.0; unwritten = λ other. still_none was }
 
 -- ---- what is left of the disk
 
-pub leaves_made : {D : Type 0} (history : D → History) (was is : D) (old new : Option (List ℕ)) (result : Result ℕ Stop) → Finishes (choice false) old new result → result ≢ Err stop.NoRead
+pub leaves_made : {D : Type 0} (history : D → History) (was is : D) (old new : Option (List ℕ)) (result : Result ℕ Stop)
+    → Finishes (choice false) old new result → result ≢ Err stop.NoRead
     → Leaves history was is result
 leaves_made history was is old new (Ok ending) all read = λ e. let wrong : DONE ≡ STORE_REFUSED = all.0 ∙ e in absurd (cc wrong)
 leaves_made history was is old new (Err stop.Refused) all read = let wrong : DONE ≡ status_of stop.Refused = all.0 in absurd (cc wrong)
@@ -100,6 +105,7 @@ leaves_made history was is old new (Err stop.NoWrite) all read = tt
 leaves_made history was is old new (Err stop.NoDisk) all read = tt
 leaves_made history was is old new (Err stop.NoRead) all read = absurd (read refl)
 
-pub ready_given : (bytes : List ℕ) (old new : Option (List ℕ)) (result : Result ℕ Stop) → bytes ≡ ready_text → Finishes (record { bytes = bytes; status = DONE }) old new result
+pub ready_given : (bytes : List ℕ) (old new : Option (List ℕ)) (result : Result ℕ Stop) → bytes ≡ ready_text
+    → Finishes (record { bytes = bytes; status = DONE }) old new result
     → Finishes (choice false) old new result
 ready_given bytes old new result is all = subst (λ (l : List ℕ). Finishes (record { bytes = l; status = DONE }) old new result) is all

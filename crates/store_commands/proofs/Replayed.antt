@@ -65,7 +65,8 @@ finishes_cut out old new stop.NoDisk cut h = h
 -- ---- where one stands between two batches
 
 -- From the start on so many of all these batches were run and printed, and these are left.
-pub record IsOnWay (start : Live) (all : List Batch) (old : Option (List ℕ)) (live : Live) (place : ℕ) (now : Option (List ℕ)) (rest : List Batch) : Type 0 where
+pub record IsOnWay (start : Live) (all : List Batch) (old : Option (List ℕ)) (live : Live) (place : ℕ) (now : Option (List ℕ))
+    (rest : List Batch) : Type 0 where
   pub plan : plan_of live ≡ plan_of start
   pub each : live.each ≡ start.each
   pub runnable : IsRunnable live
@@ -73,7 +74,8 @@ pub record IsOnWay (start : Live) (all : List Batch) (old : Option (List ℕ)) (
   pub counted : (state_of live).batches ≡ (state_of start).batches + place
   pub leads : LeadsTo start all old (λ crowd. replayed (plan_of start) start.each crowd place (state_of live) rest) now
 
-pub begun : (start : Live) (all : List Batch) (old : Option (List ℕ)) → IsRunnable start → AreRunnable (plan_of start) (state_of start).batches (state_of start).requests all
+pub begun : (start : Live) (all : List Batch) (old : Option (List ℕ)) → IsRunnable start
+    → AreRunnable (plan_of start) (state_of start).batches (state_of start).requests all
     → IsOnWay start all old start 0 old all
 begun start all old runs fit = record {
   plan = refl;
@@ -104,15 +106,18 @@ module _ (start : Live) (all : List Batch) (old : Option (List ℕ)) (live : Liv
 
   pub crowd_here : is_crowded (state_of live) batch ≡ true → LeadsTo start all old (λ crowd. crowd place) now
   crowd_here here crowd new result h =
-      on.leads crowd new result (subst (λ (out : Out). Finishes out now new result) (sym (chosen (is_crowded (state_of live) batch) (crowd place) (out_behind Here (Behind crowd)) here)) h)
+      on.leads crowd new result (subst (λ (out : Out). Finishes out now new result)
+      (sym (chosen (is_crowded (state_of live) batch) (crowd place) (out_behind Here (Behind crowd)) here)) h)
 
   -- with room it is printed, and then the rest
   on_roomy : is_crowded (state_of live) batch ≡ false → LeadsTo start all old (λ crowd. out_behind Here (Behind crowd)) now
   on_roomy roomy crowd new result h =
-      on.leads crowd new result (subst (λ (out : Out). Finishes out now new result) (sym (other (is_crowded (state_of live) batch) (crowd place) (out_behind Here (Behind crowd)) roomy)) h)
+      on.leads crowd new result (subst (λ (out : Out). Finishes out now new result)
+      (sym (other (is_crowded (state_of live) batch) (crowd place) (out_behind Here (Behind crowd)) roomy)) h)
 
   here_is : batch_text (plan_of live) live.each (state_of live) (handed_in batch) ≡ Here
-  here_is = ap (λ (plan : Plan). batch_text plan live.each (state_of live) (handed_in batch)) on.plan ∙ ap (λ (each : Bool). batch_text (plan_of start) each (state_of live) (handed_in batch)) on.each
+  here_is = ap (λ (plan : Plan). batch_text plan live.each (state_of live) (handed_in batch)) on.plan
+      ∙ ap (λ (each : Bool). batch_text (plan_of start) each (state_of live) (handed_in batch)) on.each
 
   pub on_next : is_crowded (state_of live) batch ≡ false → (next : Live) (new : Option (List ℕ)) → IsStepped live batch next
       → Appends now new (batch_text (plan_of live) live.each (state_of live) (handed_in batch)) → IsOnWay start all old next (place + 1) new rest
@@ -136,16 +141,19 @@ module _ (start : Live) (all : List Batch) (old : Option (List ℕ)) (live : Liv
   on_stop roomy why new cut front = (
     cut,
     λ crowd. on_roomy roomy crowd new (Err why)
-        (finishes_cut (out_behind Here (Behind crowd)) now new why cut (front_longer now new Here (Behind crowd).bytes (subst (λ (l : List ℕ). AppendsFront now new l) here_is front))),
+        (finishes_cut (out_behind Here (Behind crowd)) now new why cut
+        (front_longer now new Here (Behind crowd).bytes (subst (λ (l : List ℕ). AppendsFront now new l) here_is front))),
   )
 
 -- ---- what is printed of a batch goes by its own settings
 
-text_by : (plan : Plan) (each : Bool) (a b : Config) (engines : List Between) (handed : Handed) → batch_text plan each (first_state a engines) handed ≡ batch_text plan each (first_state b engines) handed
+text_by : (plan : Plan) (each : Bool) (a b : Config) (engines : List Between) (handed : Handed)
+    → batch_text plan each (first_state a engines) handed ≡ batch_text plan each (first_state b engines) handed
 text_by plan each a b [] handed = refl
 text_by plan each a b (engine ∷ rest) handed = refl
 
-pub text_settled : (live : Live) (batch : Batch) → next_text (settled live batch) batch.calls ≡ batch_text (plan_of live) live.each (state_of live) (handed_in batch)
+pub text_settled : (live : Live) (batch : Batch) → next_text (settled live batch) batch.calls ≡ batch_text (plan_of live) live.each (state_of live)
+    (handed_in batch)
 text_settled live batch = text_by (plan_of live) live.each (settled live batch).config live.config live.replicas (handed_in batch)
 
 pub done : (start : Live) (all : List Batch) (old : Option (List ℕ)) (live : Live) (place : ℕ) (now : Option (List ℕ)) → IsOnWay start all old live place now []
@@ -177,14 +185,16 @@ module _ {R : Type 0} (bytes text : List ℕ) (next : R) (old new : Option (List
   served_front (Err stop.NoDisk) same h = subst (λ (l : List ℕ). AppendsFront old new l) same h
 
 -- the damage that a look at the log tells
-pub crowded_is : (told : Option File) (log place file at : ℕ) (bytes : List ℕ) → file ≡ log → IfSome told (λ f. at ≡ offset_in (log_of f.seen) place) → IsSomeAnd told (λ f. f.seen ≡ bytes)
+pub crowded_is : (told : Option File) (log place file at : ℕ) (bytes : List ℕ) → file ≡ log → IfSome told (λ f. at ≡ offset_in (log_of f.seen) place)
+    → IsSomeAnd told (λ f. f.seen ≡ bytes)
     → damaged_out file at ≡ crowded_out log bytes place
 crowded_is None log place file at bytes same look is = absurd is
 crowded_is (Some f) log place file at bytes same look is =
     ap (λ (n : ℕ). damaged_out n at) same ∙ ap (λ (n : ℕ). damaged_out log n) (look ∙ ap (λ (l : List ℕ). offset_in (log_of l) place) is)
 
 -- the database of a checkpoint is replayed as the checkpoint is
-pub replayed_from : (bytes : List ℕ) (later : List Batch) (plan p : Plan) (each e : Bool) (log l : ℕ) (state s : State) → plan ≡ p → each ≡ e → log ≡ l → state ≡ s
+pub replayed_from : (bytes : List ℕ) (later : List Batch) (plan p : Plan) (each e : Bool) (log l : ℕ) (state s : State) → plan ≡ p → each ≡ e → log ≡ l
+    → state ≡ s
     → replayed plan each (crowded_out log bytes) 0 state later ≡ replayed p e (crowded_out l bytes) 0 s later
 replayed_from bytes later plan p each e log l state s ps es ls ss =
     ap (λ (x : Plan). replayed x each (crowded_out log bytes) 0 state later) ps
@@ -195,7 +205,8 @@ replayed_from bytes later plan p each e log l state s ps es ls ss =
 -- ---- attaching
 
 -- what is printed where attaching was refused is the output of what the files read as
-pub out_is : (settings : Replay) (images : ℕ → List ℕ) (before disk : History) (refused : StoreRefused) (found : Reopened) → MayLeave disk disk.now images → AttachCause before disk refused
+pub out_is : (settings : Replay) (images : ℕ → List ℕ) (before disk : History) (refused : StoreRefused) (found : Reopened) → MayLeave disk disk.now images
+    → AttachCause before disk refused
     → Reopens images found → IsOutOf refused (out_of settings images found)
 out_is settings images before disk of_store.Memory found left cause reopens = tt
 out_is settings images before disk of_store.DiskFault found left cause reopens = tt
@@ -207,7 +218,8 @@ out_is settings images before disk of_store.Exists found left cause reopens = ab
 out_is settings images before disk (of_store.Closed faults) found left cause reopens = absurd cause
 
 -- what was found is replayed as what the files read as
-pub found_finishes : (settings : Replay) (images : ℕ → List ℕ) (disk : History) (c : Checkpoint) (later : List Batch) (found : Reopened) (old new : Option (List ℕ)) (result : Result ℕ Stop)
+pub found_finishes : (settings : Replay) (images : ℕ → List ℕ) (disk : History) (c : Checkpoint) (later : List Batch) (found : Reopened)
+    (old new : Option (List ℕ)) (result : Result ℕ Stop)
     → ReadsAs disk images → found ≡ Found c later
     → ((bytes : List ℕ) → IsSomeAnd (current disk (log_in c)) (λ f. f.seen ≡ bytes)
     → Finishes (replayed c.plan (is_each settings.listing) (crowded_out (log_in c) bytes) 0 (state_at c) later) old new result)
@@ -226,11 +238,13 @@ attach_cause old disk sink refused (Err stop.NoRead) cause h = absurd h
 
 -- ---- the database of a checkpoint
 
-pub fit_from : (plan p : Plan) (state s : State) (later : List Batch) → plan ≡ p → state ≡ s → AreRunnable p s.batches s.requests later → AreRunnable plan state.batches state.requests later
+pub fit_from : (plan p : Plan) (state s : State) (later : List Batch) → plan ≡ p → state ≡ s → AreRunnable p s.batches s.requests later
+    → AreRunnable plan state.batches state.requests later
 fit_from plan p state s later ps ss fit =
     subst (λ (x : State). AreRunnable plan x.batches x.requests later) (sym ss) (subst (λ (x : Plan). AreRunnable x s.batches s.requests later) (sym ps) fit)
 
-pub read_from : (disk : History) (log l : ℕ) (bytes : List ℕ) → log ≡ l → IsSomeAnd (current disk l) (λ f. f.seen ≡ bytes) → IsSomeAnd (current disk log) (λ f. f.seen ≡ bytes)
+pub read_from : (disk : History) (log l : ℕ) (bytes : List ℕ) → log ≡ l → IsSomeAnd (current disk l) (λ f. f.seen ≡ bytes)
+    → IsSomeAnd (current disk log) (λ f. f.seen ≡ bytes)
 read_from disk log l bytes same reads = subst (λ (n : ℕ). IsSomeAnd (current disk n) (λ f. f.seen ≡ bytes)) (sym same) reads
 
 -- a fault of the disk behind attaching is one behind the start

@@ -78,11 +78,13 @@ module _ (settings : Init) (was : History) (first : Draft) (is_start : first ≡
   said_of None last mid h = tt
   said_of (Some t) last mid h = said_on (read_of t) last mid h
 
-  made_by : (is : History) (found : Option (Plan × Database)) → IfSome left (λ t. said_by t ≡ found) → IsSomeAnd found (λ values. IsMadeOf settings values is) → IsMade settings left is
+  made_by : (is : History) (found : Option (Plan × Database)) → IfSome left (λ t. said_by t ≡ found) → IsSomeAnd found (λ values. IsMadeOf settings values is)
+      → IsMade settings left is
   made_by is None said holds = absurd holds
   made_by is (Some values) said holds = record { values = values; said = said; holds = holds }
 
-  pub is_made : (is : History) (mid : Option (List ℕ)) (last : Draft) → Read first mid (Ok last) → IsSomeAnd (values_by last (closing last.place)) (λ values. IsMadeOf settings values is) → IsMade settings left is
+  pub is_made : (is : History) (mid : Option (List ℕ)) (last : Draft) → Read first mid (Ok last)
+      → IsSomeAnd (values_by last (closing last.place)) (λ values. IsMadeOf settings values is) → IsMade settings left is
   is_made is mid last h holds =
       made_by is (values_by last (closing last.place)) (said_of left last mid (from_start mid (Ok last) h).0) holds
 

@@ -36,7 +36,8 @@ draft_stopped : (bytes : List ℕ) (o : Option (List ℕ)) (values : Plan × Dat
 draft_stopped bytes None values e = absurd cc
 draft_stopped bytes (Some line) values e = absurd cc
 
-said_by_right : (c : Course Draft) (f : Option Refusal) (o : Option (List ℕ)) (values : Plan × Database) → values_of (with_last drafts.on_line (with_fault c f) o) ≡ Some values → f ≡ None
+said_by_right : (c : Course Draft) (f : Option Refusal) (o : Option (List ℕ)) (values : Plan × Database)
+    → values_of (with_last drafts.on_line (with_fault c f) o) ≡ Some values → f ≡ None
 said_by_right c None o values e = refl
 said_by_right (Goes bytes d) (Some refusal) o values e = absurd (draft_stopped _ o values e)
 said_by_right (Stops bytes) (Some refusal) o values e = absurd (draft_stopped bytes o values e)
@@ -64,7 +65,8 @@ module _ (made : Init) (settings : Run) (mem : Once) (alike : AreAlike made sett
 
   right_both : (scan no_line (head ++ script)).fault ≡ None
   right_both =
-      joined MOST_BYTES LONGEST_LINE head script run.ends (said_right head values run.said) (right_text From0 over_store.end script over_store.printed over_store.goes) run.few
+      joined MOST_BYTES LONGEST_LINE head script run.ends (said_right head values run.said)
+      (right_text From0 over_store.end script over_store.printed over_store.goes) run.few
 
   begun : AreBegun made settings mem alike head script values run.ends run.said right_both
   begun = are_begun made settings mem alike head script values run.ends run.said right_both
@@ -78,7 +80,8 @@ module _ (made : Init) (settings : Run) (mem : Once) (alike : AreAlike made sett
   opens_by_run : (b : Bool) → opens begun.lines ≡ b → opens begun.lines ≡ true
   opens_by_run true is = is
   opens_by_run false is =
-      absurd (not_stopped (over on_turn (map Line begun.lines) From0) (over on_turn (map Line begun.lines) From0) over_store.printed over_store.end goes_over (head_stops values.0 From0 begun.lines 0 is) refl)
+      absurd (not_stopped (over on_turn (map Line begun.lines) From0) (over on_turn (map Line begun.lines) From0) over_store.printed over_store.end goes_over
+      (head_stops values.0 From0 begun.lines 0 is) refl)
 
   opening : opens begun.lines ≡ true
   opening = opens_by_run (opens begun.lines) refl
@@ -95,8 +98,10 @@ module _ (made : Init) (settings : Run) (mem : Once) (alike : AreAlike made sett
   ends_by : (c : Course Doing) → over on_turn (map Line begun.lines) At ≡ c → (ended (on_end mem.drain) c).status ≡ DONE
   ends_by (Goes printed last) is = goes_both printed last is
   ends_by (Stops bytes) is =
-      let stops = script_stops values.0 From0 begun.place.head (named_by begun.place.head values.0 run.named begun.gives) begun.gives begun.lines 0 begun.place opening (subst IsStopped (sym is) tt) in
-      absurd (not_stopped (over on_turn (map Line begun.lines) From0) (over on_turn (map Line begun.lines) From0) over_store.printed over_store.end goes_over stops refl)
+      let stops = script_stops values.0 From0 begun.place.head (named_by begun.place.head values.0 run.named begun.gives) begun.gives begun.lines 0 begun.place
+      opening (subst IsStopped (sym is) tt) in
+      absurd (not_stopped (over on_turn (map Line begun.lines) From0) (over on_turn (map Line begun.lines) From0) over_store.printed over_store.end goes_over
+      stops refl)
 
   is_right : AreRight mem head script values
   is_right = record {

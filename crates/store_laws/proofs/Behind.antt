@@ -74,7 +74,8 @@ module _ (plan : Plan) (lines : ℕ) (c : Counts) where
   skip_said (head.Text text) p l is = ap (λ (x : Result Item RefusalKind). in_text (without_head (behind_head (head.Text text) p)) c text x) is
   skip_said (head.Ready given) p l is = ap (λ (x : Result Item RefusalKind). and_then (at_item (behind_head (head.Ready given) p) c) x) is
 
-  pub once_skip : (h : Head) (p : Place) (line : List ℕ) → said line ≡ Ok item.Skip → asked (behind_head h p) c line ≡ Ok (behind_head h (next_line p), deed.Nothing)
+  pub once_skip : (h : Head) (p : Place) (line : List ℕ) → said line ≡ Ok item.Skip
+      → asked (behind_head h p) c line ≡ Ok (behind_head h (next_line p), deed.Nothing)
   once_skip h p line is = skip_said h (next_line p) (said line) is
 
   pub run_skip : (line : List ℕ) → said line ≡ Ok item.Skip → asked (before_batches plan lines) c line ≡ Ok (before_batches plan After, deed.Nothing)
@@ -101,7 +102,8 @@ module _ (plan : Plan) (lines : ℕ) (c : Counts) where
   abbrev Begins : Asked → Item → Type 0
   Begins given i = Runs plan After given (at_item (before_batches plan After) c i)
 
-  first_ready : (given : Plan) → given ≡ plan → (p : Place) (i : Item) → opens_by false (Ok i) ≡ true → Begins (at_item (behind_head (head.Ready given) p) c i) i
+  first_ready : (given : Plan) → given ≡ plan → (p : Place) (i : Item) → opens_by false (Ok i) ≡ true
+      → Begins (at_item (behind_head (head.Ready given) p) c i) i
   first_ready given is p i e =
       subst (λ (g : Plan). Begins (at_item (behind_head (head.Ready g) p) c i) i) (sym is) (opening_item plan After c (behind_head (head.Ready plan) p) i e)
 
@@ -109,11 +111,14 @@ module _ (plan : Plan) (lines : ℕ) (c : Counts) where
   abbrev ReadThen : Place → (Place → Asked) → Result Plan RefusalKind → Asked
   ReadThen p ask read = and_then ask (and_then (λ given. Ok (record p { head = head.Ready given })) read)
 
-  first_read : (p : Place) (text : List ℕ) → catalog_of text ≡ Ok plan → (i : Item) → opens_by false (Ok i) ≡ true → Begins (behind_text (without_head (behind_head (head.Text text) p)) c text i) i
+  first_read : (p : Place) (text : List ℕ) → catalog_of text ≡ Ok plan → (i : Item) → opens_by false (Ok i) ≡ true
+      → Begins (behind_text (without_head (behind_head (head.Text text) p)) c text i) i
   first_read p text is i e =
-      subst (λ (r : Result Plan RefusalKind). Begins (ReadThen (without_head (behind_head (head.Text text) p)) (λ at. at_item at c i) r) i) (sym is) (first_ready plan refl p i e)
+      subst (λ (r : Result Plan RefusalKind). Begins (ReadThen (without_head (behind_head (head.Text text) p)) (λ at. at_item at c i) r) i) (sym is)
+      (first_ready plan refl p i e)
 
-  first_text : (p : Place) (text : List ℕ) → catalog_of text ≡ Ok plan → (i : Item) → opens_by false (Ok i) ≡ true → Begins (in_text (without_head (behind_head (head.Text text) p)) c text (Ok i)) i
+  first_text : (p : Place) (text : List ℕ) → catalog_of text ≡ Ok plan → (i : Item) → opens_by false (Ok i) ≡ true
+      → Begins (in_text (without_head (behind_head (head.Text text) p)) c text (Ok i)) i
   first_text p text is item.Skip e = never e
   first_text p text is (item.Catalog name) e = never e
   first_text p text is (item.Piece piece) e = never e
@@ -124,7 +129,8 @@ module _ (plan : Plan) (lines : ℕ) (c : Counts) where
   first_text p text is (item.Settings name percent) e = first_read p text is (item.Settings name percent) e
 
   -- a line of no form, behind the text of a catalogue
-  refused_by : (byte : Bool) (p : Place) (read : Result Plan RefusalKind) (why : RefusalKind) → read ≡ Ok plan → Runs plan After (if byte then Err why else ReadThen p (λ at. Err why) read) (Err why)
+  refused_by : (byte : Bool) (p : Place) (read : Result Plan RefusalKind) (why : RefusalKind) → read ≡ Ok plan
+      → Runs plan After (if byte then Err why else ReadThen p (λ at. Err why) read) (Err why)
   refused_by true p read why is = refl
   refused_by false p read why is = subst (λ (r : Result Plan RefusalKind). Runs plan After (ReadThen p (λ at. Err why) r) (Err why)) (sym is) refl
 
@@ -141,7 +147,8 @@ module _ (plan : Plan) (lines : ℕ) (c : Counts) where
   first_said none (head.Ready given) p named gives (Err why) e = refl
 
   -- no line of batches may stand where there is no catalogue
-  none_asked : (p : Place) (l : Result Item RefusalKind) (r : Place × Deed) → opens_by false l ≡ true → by_head (behind_head head.Unnamed p) c head.Unnamed l ≡ Ok r → ⊥
+  none_asked : (p : Place) (l : Result Item RefusalKind) (r : Place × Deed) → opens_by false l ≡ true
+      → by_head (behind_head head.Unnamed p) c head.Unnamed l ≡ Ok r → ⊥
   none_asked p (Ok item.Skip) r e is = never e
   none_asked p (Ok (item.Catalog name)) r e is = never e
   none_asked p (Ok (item.Piece piece)) r e is = never e
@@ -157,12 +164,15 @@ module _ (plan : Plan) (lines : ℕ) (c : Counts) where
   first_asked none head.Unnamed p after line asks gives e is = absurd (none_asked (next_line p) (said line) (after, asks) e is)
   first_asked none (head.Text text) p after line asks gives e is =
       let h = head.Text text in
-      is_asked plan lines (before_batches plan lines) after c line asks (asked (behind_head h p) c line) is (first_said none h (next_line p) tt gives (said line) e)
+      is_asked plan lines (before_batches plan lines) after c line asks (asked (behind_head h p) c line) is
+      (first_said none h (next_line p) tt gives (said line) e)
   first_asked none (head.Ready given) p after line asks gives e is =
       let h = head.Ready given in
-      is_asked plan lines (before_batches plan lines) after c line asks (asked (behind_head h p) c line) is (first_said none h (next_line p) tt gives (said line) e)
+      is_asked plan lines (before_batches plan lines) after c line asks (asked (behind_head h p) c line) is
+      (first_said none h (next_line p) tt gives (said line) e)
 
-  pub first_refused : (none : Plan) (h : Head) (p : Place) (line : List ℕ) (why : RefusalKind) → IsNamed h → Gives none h plan → opens_by false (said line) ≡ true
+  pub first_refused : (none : Plan) (h : Head) (p : Place) (line : List ℕ) (why : RefusalKind) → IsNamed h → Gives none h plan
+      → opens_by false (said line) ≡ true
       → asked (behind_head h p) c line ≡ Err why → asked (before_batches plan lines) c line ≡ Err why
   first_refused none h p line why named gives e is =
       subst (λ (a : Asked). Runs plan After a (asked (before_batches plan lines) c line)) is (first_said none h (next_line p) named gives (said line) e)

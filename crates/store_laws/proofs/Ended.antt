@@ -54,9 +54,14 @@ module _ {R : Type 0} where
 
 module _ (plan : Plan) (each : Bool) (line other : ℕ) where
   -- one batch, and those behind it
-  drained_by : (n : ℕ) (state s : State) (none room : Bool) (bytes : List ℕ) → ((next : State) (more : List ℕ) → drained plan each line n next ≡ Goes more s → drained plan each other n next ≡ Goes more s)
-      → (if none then Goes [] state else goes_on (drained plan each line n) (if room then Goes (batch_text plan each state (no_calls state)) (step (run_of plan) state (no_calls state)) else Stops (refusal_text (record { line = line; kind = kind.Numbers })))) ≡ Goes bytes s
-      → (if none then Goes [] state else goes_on (drained plan each other n) (if room then Goes (batch_text plan each state (no_calls state)) (step (run_of plan) state (no_calls state)) else Stops (refusal_text (record { line = other; kind = kind.Numbers })))) ≡ Goes bytes s
+  drained_by : (n : ℕ) (state s : State) (none room : Bool) (bytes : List ℕ)
+      → ((next : State) (more : List ℕ) → drained plan each line n next ≡ Goes more s → drained plan each other n next ≡ Goes more s)
+      → (if none then Goes [] state else goes_on (drained plan each line n)
+      (if room then Goes (batch_text plan each state (no_calls state)) (step (run_of plan) state (no_calls state)) else Stops
+      (refusal_text (record { line = line; kind = kind.Numbers })))) ≡ Goes bytes s
+      → (if none then Goes [] state else goes_on (drained plan each other n)
+      (if room then Goes (batch_text plan each state (no_calls state)) (step (run_of plan) state (no_calls state)) else Stops
+      (refusal_text (record { line = other; kind = kind.Numbers })))) ≡ Goes bytes s
   drained_by n state s true room bytes rest is = is
   drained_by n state s false false bytes rest is = not_both (refusal_text (record { line = line; kind = kind.Numbers })) bytes s is
   drained_by n state s false true bytes rest is =
@@ -72,10 +77,12 @@ module _ (plan : Plan) (each : Bool) (line other : ℕ) where
 
   drains_same : (state : State) (c : Course State) → drains plan each line state ≡ c → (ended (listed plan each) c).status ≡ DONE
       → ended (listed plan each) (drains plan each other state) ≡ ended (listed plan each) (drains plan each line state)
-  drains_same state (Goes bytes s) is done = ap (λ (c : Course State). ended (listed plan each) c) (drained_same (length state.waiting) state s bytes is ∙ sym is)
+  drains_same state (Goes bytes s) is done = ap (λ (c : Course State). ended (listed plan each) c) (drained_same (length state.waiting) state s bytes is
+      ∙ sym is)
   drains_same state (Stops bytes) is done = absurd (cc done)
 
-  all_drained : (drain : Bool) (state : State) → (onces.drained drain plan each line state).status ≡ DONE → onces.drained drain plan each other state ≡ onces.drained drain plan each line state
+  all_drained : (drain : Bool) (state : State) → (onces.drained drain plan each line state).status ≡ DONE
+      → onces.drained drain plan each other state ≡ onces.drained drain plan each line state
   all_drained true state done = drains_same state (drains plan each line state) refl done
   all_drained false state done = refl
 
@@ -89,12 +96,14 @@ pub record EndsLike (last end : Doing) : Type 0 where
 
 -- where no line came but skipped ones
 module _ (plan : Plan) (drain : Bool) (d : Doing) (p : Place) where
-  once_ends : (h : Head) → Gives no_plan h plan → on_end drain (record d { place = behind_head h p }) ≡ onces.drained drain plan d.each (line_after p.lines) d.state
+  once_ends : (h : Head) → Gives no_plan h plan → on_end drain (record d { place = behind_head h p }) ≡ onces.drained drain plan d.each
+      (line_after p.lines) d.state
   once_ends head.Unnamed gives = ap (λ (q : Plan). onces.drained drain q d.each (line_after p.lines) d.state) (sym gives)
   once_ends (head.Ready given) gives = ap (λ (q : Plan). onces.drained drain q d.each (line_after p.lines) d.state) gives
   once_ends (head.Text text) gives =
       let at = behind_head (head.Text text) p in
-      ap (λ (r : Result Plan RefusalKind). closed_by drain (record d { place = at }) (and_then shut (and_then (λ q. Ok (record (without_head (next_line at)) { head = head.Ready q })) r))) gives
+      ap (λ (r : Result Plan RefusalKind). closed_by drain (record d { place = at })
+      (and_then shut (and_then (λ q. Ok (record (without_head (next_line at)) { head = head.Ready q })) r))) gives
 
   run_ends : (h : Head) (lines : ℕ) → Gives no_plan h plan → (on_end drain (record d { place = behind_head h p })).status ≡ DONE
       → on_end drain (record d { place = before_batches plan lines }) ≡ on_end drain (record d { place = behind_head h p })
@@ -106,7 +115,8 @@ module _ (plan : Plan) (drain : Bool) (d : Doing) (p : Place) where
       → on_end drain (record d { place = before_batches plan lines }) ≡ on_end drain (record d { place = behind_head h p })
   run_ended h lines gives done = sym (all_drained plan d.each (line_after lines) (line_after p.lines) drain d.state done) ∙ sym (once_ends h gives)
 
-pub ends_behind : (plan : Plan) (d : Doing) (p : Place) (h : Head) (lines : ℕ) → Gives no_plan h plan → EndsLike (record d { place = behind_head h p }) (record d { place = before_batches plan lines })
+pub ends_behind : (plan : Plan) (d : Doing) (p : Place) (h : Head) (lines : ℕ) → Gives no_plan h plan
+    → EndsLike (record d { place = behind_head h p }) (record d { place = before_batches plan lines })
 ends_behind plan d p h lines gives = record {
   state = refl;
   out = λ drain done. run_ends plan drain d p h lines gives done;
@@ -128,7 +138,8 @@ module _ (plan : Plan) (drain : Bool) (lines : ℕ) (last : Doing) (at : last.pl
   shut_like true done = all_drained plan last.each (line_after last.place.lines) (line_after lines) drain last.state done
   shut_like false done = absurd (cc done)
 
-  shut_back : (b : Bool) → (closed_by drain (runs_as lines last) (ShutRun b)).status ≡ DONE → closed_by drain (runs_as lines last) (ShutRun b) ≡ closed_by drain last (Shut b)
+  shut_back : (b : Bool) → (closed_by drain (runs_as lines last) (ShutRun b)).status ≡ DONE
+      → closed_by drain (runs_as lines last) (ShutRun b) ≡ closed_by drain last (Shut b)
   shut_back true done = sym (all_drained plan last.each (line_after lines) (line_after last.place.lines) drain last.state done)
   shut_back false done = absurd (cc done)
 

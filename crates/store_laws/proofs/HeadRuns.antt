@@ -49,7 +49,8 @@ module _ (rule : Rule) (percent : ℕ) (each : Bool) where
     each = each;
   }
 
-  done_both : (e : Draft) (after : Place) (asks : Deed) → IsOfHead asks → onces.done (record (Begun e) { place = as_once after }) asks ≡ Goes [] (Begun (done (record e { place = after }) asks))
+  done_both : (e : Draft) (after : Place) (asks : Deed) → IsOfHead asks
+      → onces.done (record (Begun e) { place = as_once after }) asks ≡ Goes [] (Begun (done (record e { place = after }) asks))
   done_both e after deed.Nothing h = refl
   done_both e after (deed.Put key row) h = refl
   done_both e after (deed.Call call) h = absurd h
@@ -72,7 +73,8 @@ module _ (rule : Rule) (percent : ℕ) (each : Bool) where
     pub goes : onces.on_line (Begun e) line ≡ Goes [] (Begun next)
     pub place_is : next.place ≡ in_head next.place
 
-  put_by : (e next : Draft) (line bytes : List ℕ) (a : Asked) → e.place ≡ in_head e.place → asked e.place no_counts line ≡ a → done_by e a ≡ Goes bytes next → IsPut e next line
+  put_by : (e next : Draft) (line bytes : List ℕ) (a : Asked) → e.place ≡ in_head e.place → asked e.place no_counts line ≡ a → done_by e a ≡ Goes bytes next
+      → IsPut e next line
   put_by e next line bytes (Err why) at is goes = not_both _ bytes next goes
   put_by e next line bytes (Ok r) at is goes =
       let h = head_asked e.place r.0 no_counts line r.1 at is in
@@ -103,14 +105,17 @@ module _ (rule : Rule) (percent : ℕ) (each : Bool) where
   }
 
   puts_by : (line : List ℕ) (lines : List (List ℕ)) (bytes printed : List ℕ) (e last : Draft) (c : Course Draft)
-      → ((before : List ℕ) (next : Draft) → next.place ≡ in_head next.place → with_lines on_line (Goes before next) lines ≡ Goes printed last → ArePut lines next last)
+      → ((before : List ℕ) (next : Draft) → next.place ≡ in_head next.place → with_lines on_line (Goes before next) lines ≡ Goes printed last
+      → ArePut lines next last)
       → e.place ≡ in_head e.place → on_line e line ≡ c → with_lines on_line (behind bytes c) lines ≡ Goes printed last → ArePut (line ∷ lines) e last
-  puts_by line lines bytes printed e last (Stops more) rest at is goes = not_both (bytes ++ more) printed last (sym (stopped_lines on_line (bytes ++ more) lines) ∙ goes)
+  puts_by line lines bytes printed e last (Stops more) rest at is goes =
+      not_both (bytes ++ more) printed last (sym (stopped_lines on_line (bytes ++ more) lines) ∙ goes)
   puts_by line lines bytes printed e last (Goes more next) rest at is goes =
       let first = put_line e next line more at is in
       put_then line lines e next last first (rest (bytes ++ more) next first.place_is goes)
 
-  pub puts : (lines : List (List ℕ)) (bytes printed : List ℕ) (e last : Draft) → e.place ≡ in_head e.place → with_lines on_line (Goes bytes e) lines ≡ Goes printed last → ArePut lines e last
+  pub puts : (lines : List (List ℕ)) (bytes printed : List ℕ) (e last : Draft) → e.place ≡ in_head e.place
+      → with_lines on_line (Goes bytes e) lines ≡ Goes printed last → ArePut lines e last
   puts [] bytes printed e last at goes =
       let same = same_draft bytes printed e last goes in
       record {
@@ -133,7 +138,8 @@ record IsShut (e : Draft) (q : Place) (values : Plan × Database) : Type 0 where
   pub rows_are : e.tables ≡ values.1
   pub none_open : q.open_calls ≡ 0
 
-shut_by : (e : Draft) (q : Place) (values : Plan × Database) (b : Bool) → (q.open_calls == 0) ≡ b → values_by e (if b then Ok q else Err kind.Unfinished) ≡ Some values → IsShut e q values
+shut_by : (e : Draft) (q : Place) (values : Plan × Database) (b : Bool) → (q.open_calls == 0) ≡ b
+    → values_by e (if b then Ok q else Err kind.Unfinished) ≡ Some values → IsShut e q values
 shut_by e q values false none is = absurd cc
 shut_by e q values true none is =
     let same = ap (λ (o : Option (Plan × Database)). values_or values o) is in
@@ -174,11 +180,13 @@ pub record IsRead (head : List ℕ) (values : Plan × Database) : Type 0 where
   pub goes : with_lines on_line (Goes [] start) (scan no_line head).lines ≡ Goes printed last
   pub closed : IsClosed last values
 
-read_by : (head : List ℕ) (values : Plan × Database) (c : Course Draft) → with_lines on_line (Goes [] start) (scan no_line head).lines ≡ c → values_of c ≡ Some values → IsRead head values
+read_by : (head : List ℕ) (values : Plan × Database) (c : Course Draft) → with_lines on_line (Goes [] start) (scan no_line head).lines ≡ c
+    → values_of c ≡ Some values → IsRead head values
 read_by head values (Stops bytes) goes is = absurd cc
 read_by head values (Goes bytes last) goes is = record { last = last; printed = bytes; goes = goes; closed = closes last values is }
 
-pub head_read : (head : List ℕ) (values : Plan × Database) → (scan no_line head).fault ≡ None → (scan no_line head).feed.begun ≡ [] → said_by head ≡ Some values → IsRead head values
+pub head_read : (head : List ℕ) (values : Plan × Database) → (scan no_line head).fault ≡ None → (scan no_line head).feed.begun ≡ []
+    → said_by head ≡ Some values → IsRead head values
 head_read head values right ends is =
     let s = scan no_line head in
     let c = with_lines on_line (Goes [] start) s.lines in

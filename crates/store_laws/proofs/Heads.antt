@@ -88,9 +88,11 @@ module _ (c : Counts) (p : Place) where
 
   takes_named : (name : List ℕ) (o : Option Plan) → Takes (Named I name o) (Named O name o)
   takes_named name o =
-      takes_if (not (true && is_unnamed p.head)) (Err kind.Site) (if bytes_eq name (codes "text") then Ok (record I { head = head.Text [] }, deed.Nothing) else found I o)
+      takes_if (not (true && is_unnamed p.head)) (Err kind.Site)
+      (if bytes_eq name (codes "text") then Ok (record I { head = head.Text [] }, deed.Nothing) else found I o)
       (Err kind.Site) (if bytes_eq name (codes "text") then Ok (record O { head = head.Text [] }, deed.Nothing) else found O o) tt
-      (takes_if (bytes_eq name (codes "text")) (Ok (record I { head = head.Text [] }, deed.Nothing)) (found I o) (Ok (record O { head = head.Text [] }, deed.Nothing)) (found O o)
+      (takes_if (bytes_eq name (codes "text")) (Ok (record I { head = head.Text [] }, deed.Nothing)) (found I o)
+      (Ok (record O { head = head.Text [] }, deed.Nothing)) (found O o)
       (quiet (record p { head = head.Text [] })) (takes_found o))
 
   takes_catalog : (name : List ℕ) → Takes (at_catalog I name) (at_catalog O name)
@@ -98,8 +100,10 @@ module _ (c : Counts) (p : Place) where
 
   takes_row : (table : List ℕ) (parts : List Part) (row : Cells) → Takes (at_row I table parts row) (at_row O table parts row)
   takes_row table parts row =
-      takes_under p.head (λ plan. if p.rows_ended then Err kind.Site else and_then (puts I) (placed_row plan table parts row)) (λ plan. if p.rows_ended then Err kind.Site else and_then (puts O) (placed_row plan table parts row))
-      (λ plan. takes_if p.rows_ended (Err kind.Site) (and_then (puts I) (placed_row plan table parts row)) (Err kind.Site) (and_then (puts O) (placed_row plan table parts row)) tt
+      takes_under p.head (λ plan. if p.rows_ended then Err kind.Site else and_then (puts I) (placed_row plan table parts row))
+      (λ plan. if p.rows_ended then Err kind.Site else and_then (puts O) (placed_row plan table parts row))
+      (λ plan. takes_if p.rows_ended (Err kind.Site) (and_then (puts I) (placed_row plan table parts row)) (Err kind.Site)
+      (and_then (puts O) (placed_row plan table parts row)) tt
       (takes_then (puts I) (puts O) (placed_row plan table parts row) (λ r. record { asked_once = refl; of_head = tt; place_is = refl })))
 
   -- no call, no end and no settings may stand in a head
@@ -131,8 +135,10 @@ module _ (c : Counts) (p : Place) where
 
   takes_piece : (text piece : List ℕ) → Takes (at_piece J text piece) (at_piece Q text piece)
   takes_piece text piece =
-      takes_if (nat_lt MOST_CATALOG (length text + length piece)) (Err (kind.Catalog fault.Long)) (Ok (record J { head = head.Text (text ++ piece) }, deed.Nothing))
-      (Err (kind.Catalog fault.Long)) (Ok (record Q { head = head.Text (text ++ piece) }, deed.Nothing)) tt (quiet (record p { head = head.Text (text ++ piece) }))
+      takes_if (nat_lt MOST_CATALOG (length text + length piece)) (Err (kind.Catalog fault.Long))
+      (Ok (record J { head = head.Text (text ++ piece) }, deed.Nothing))
+      (Err (kind.Catalog fault.Long)) (Ok (record Q { head = head.Text (text ++ piece) }, deed.Nothing)) tt
+      (quiet (record p { head = head.Text (text ++ piece) }))
 
   takes_within : (text : List ℕ) (i : Item) → Takes (within_text J text i) (within_text Q text i)
   takes_within text item.Skip = quiet (record p { head = head.Text text })
@@ -163,10 +169,12 @@ module _ (c : Counts) (p : Place) where
       (never (read_text J text) why (and_then (λ ready. Err why) (read_text Q text)))
 
   takes_text : (text : List ℕ) (line : Result Item RefusalKind) → Takes (in_text J c text line) (in_text Q c text line)
-  takes_text text (Ok i) = takes_if (goes_on i) (within_text J text i) (behind_text J c text i) (within_text Q text i) (behind_text Q c text i) (takes_within text i) (takes_behind text i)
+  takes_text text (Ok i) = takes_if (goes_on i) (within_text J text i) (behind_text J c text i) (within_text Q text i) (behind_text Q c text i)
+      (takes_within text i) (takes_behind text i)
   takes_text text (Err why) = takes_refused text why
 
-takes_head : (c : Counts) (p : Place) (h : Head) (line : Result Item RefusalKind) → Takes (by_head (in_head p) c h line) (by_head (as_once (in_head p)) c h line)
+takes_head : (c : Counts) (p : Place) (h : Head) (line : Result Item RefusalKind)
+    → Takes (by_head (in_head p) c h line) (by_head (as_once (in_head p)) c h line)
 takes_head c p (head.Text text) line = takes_text c p text line
 takes_head c p head.Unnamed line = takes_then (at_item (in_head p) c) (at_item (as_once (in_head p)) c) line (λ i. takes_item c p i)
 takes_head c p (head.Ready plan) line = takes_then (at_item (in_head p) c) (at_item (as_once (in_head p)) c) line (λ i. takes_item c p i)
@@ -180,7 +188,8 @@ pub record IsAsked (p : Place) (c : Counts) (line : List ℕ) (after : Place) (a
   pub of_head : IsOfHead asks
   pub place_is : after ≡ in_head after
 
-is_asked : (p after : Place) (c : Counts) (line : List ℕ) (asks : Deed) (given : Asked) → given ≡ Ok (after, asks) → Takes given (asked (as_once p) c line) → IsAsked p c line after asks
+is_asked : (p after : Place) (c : Counts) (line : List ℕ) (asks : Deed) (given : Asked) → given ≡ Ok (after, asks) → Takes given (asked (as_once p) c line)
+    → IsAsked p c line after asks
 is_asked p after c line asks given is t =
     let taken : Taken (after, asks) (asked (as_once p) c line) = subst (λ (a : Asked). Takes a (asked (as_once p) c line)) is t in
     record { asked_once = taken.asked_once; of_head = taken.of_head; place_is = taken.place_is }

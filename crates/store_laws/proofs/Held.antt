@@ -45,9 +45,16 @@ module _ (e : Doing) (held : State) (k : HoldsAs held e.state) where
   kept : (next : Doing) → next.state.batches ≡ e.state.batches → HoldsAs held next.state → IsHeld next
   kept next same h = subst (λ (s : State). HoldsAs s next.state) (sym (held_same held e next same)) h
 
-  with_rule : (next : Doing) → next.state.batches ≡ e.state.batches → next.state.rows ≡ e.state.rows → next.state.waiting ≡ e.state.waiting → next.state.requests ≡ e.state.requests → IsHeld next
+  with_rule : (next : Doing) → next.state.batches ≡ e.state.batches → next.state.rows ≡ e.state.rows → next.state.waiting ≡ e.state.waiting
+      → next.state.requests ≡ e.state.requests → IsHeld next
   with_rule next batches rows waiting requests =
-      kept next batches (record { rows = k.rows ∙ sym rows; waiting = k.waiting ∙ sym waiting; batches = k.batches ∙ sym batches; requests = k.requests ∙ sym requests })
+      kept next batches (record {
+        rows = k.rows ∙ sym rows;
+        waiting = k.waiting ∙ sym waiting;
+        batches = k.batches ∙ sym batches;
+        requests = k.requests
+            ∙ sym requests;
+      })
 
   ran : (next : Doing) → next.state.batches ≡ e.state.batches + 1 → IsHeld next
   ran next more = subst (λ (s : State). HoldsAs s next.state) (sym (held_after held e next more)) (holds_own next.state)
@@ -63,7 +70,8 @@ module _ (e : Doing) (held : State) (k : HoldsAs held e.state) where
   done_held after (deed.Keep number) rows f = (with_rule (without_calls (record e { place = after })) refl refl refl refl, f.allows.rows)
   done_held after deed.Run rows f = (ran (behind_batch (record e { place = after })) refl, f.allows.rows)
 
-  line_by : (line : List ℕ) (a : Asked) → e.place.rows_ended ≡ true → asked e.place (counts_of e.state) line ≡ a → IfGoes (done_by e a) (λ bytes next. IsHeld next × (next.place.rows_ended ≡ true))
+  line_by : (line : List ℕ) (a : Asked) → e.place.rows_ended ≡ true → asked e.place (counts_of e.state) line ≡ a
+      → IfGoes (done_by e a) (λ bytes next. IsHeld next × (next.place.rows_ended ≡ true))
   line_by line (Ok r) rows is = done_held r.0 r.1 rows (follows e.place (counts_of e.state) line r.0 r.1 is)
   line_by line (Err why) rows is = tt
 
@@ -73,11 +81,14 @@ module _ (e : Doing) (held : State) (k : HoldsAs held e.state) where
 -- ---- lines
 
 abbrev LinesHeld : List (List ℕ) → Type 0
-LinesHeld lines = (e end : Doing) (held : State) (printed : List ℕ) → e.place.rows_ended ≡ true → HoldsAs held e.state → over on_turn (map Line lines) e ≡ Goes printed end
+LinesHeld lines = (e end : Doing) (held : State) (printed : List ℕ) → e.place.rows_ended ≡ true → HoldsAs held e.state
+    → over on_turn (map Line lines) e ≡ Goes printed end
     → HoldsAs (held_behind (map Line lines) e held) end.state
 
-lines_by : (line : List ℕ) (lines : List (List ℕ)) (e end : Doing) (held : State) (printed : List ℕ) (c : Course Doing) → IfGoes c (λ bytes next. HoldsAs (held_then held e next) next.state × (next.place.rows_ended ≡ true))
-    → LinesHeld lines → onward (over on_turn (map Line lines)) c ≡ Goes printed end → HoldsAs (held_by_step on_turn held_then e held (held_over on_turn held_then (map Line lines)) c) end.state
+lines_by : (line : List ℕ) (lines : List (List ℕ)) (e end : Doing) (held : State) (printed : List ℕ) (c : Course Doing)
+    → IfGoes c (λ bytes next. HoldsAs (held_then held e next) next.state × (next.place.rows_ended ≡ true))
+    → LinesHeld lines → onward (over on_turn (map Line lines)) c ≡ Goes printed end
+    → HoldsAs (held_by_step on_turn held_then e held (held_over on_turn held_then (map Line lines)) c) end.state
 lines_by line lines e end held printed (Stops bytes) k rest goes = not_both bytes printed end goes
 lines_by line lines e end held printed (Goes bytes next) k rest goes =
     let g = goes_behind bytes printed end (over on_turn (map Line lines) next) goes in
@@ -85,11 +96,13 @@ lines_by line lines e end held printed (Goes bytes next) k rest goes =
 
 lines_held : (lines : List (List ℕ)) → LinesHeld lines
 lines_held [] e end held printed rows k goes = subst (λ (x : Doing). HoldsAs held x.state) (same_state [] printed e end goes) k
-lines_held (line ∷ lines) e end held printed rows k goes = lines_by line lines e end held printed (on_line e line) (line_held e held k line rows) (lines_held lines) goes
+lines_held (line ∷ lines) e end held printed rows k goes = lines_by line lines e end held printed (on_line e line) (line_held e held k line rows)
+    (lines_held lines) goes
 
 -- ---- a script: the count before its lines, the end of the input and the listing hold what was held
 
-closed_held : (d : Doing) (held : State) (r : Result Place RefusalKind) → held_by_step on_turn held_then d held (held_over on_turn held_then []) (on_close d r) ≡ held
+closed_held : (d : Doing) (held : State) (r : Result Place RefusalKind)
+    → held_by_step on_turn held_then d held (held_over on_turn held_then []) (on_close d r) ≡ held
 closed_held d held (Ok place) = held_same held d (record d { place = place }) refl
 closed_held d held (Err why) = refl
 
@@ -102,7 +115,8 @@ pub script_held : (from end : Doing) (script printed : List ℕ) → from.place.
 script_held from end script printed rows told =
     let lines = all_lines (scan no_line script) in
     let turns = turns_lines (scan no_line script) (right_text from end script printed told) in
-    let goes : over on_turn (map Line lines) from ≡ Goes printed end = sym (whole_over from script ∙ ap (λ (l : List Turn). over on_turn l from) turns) ∙ told in
+    let goes : over on_turn (map Line lines) from ≡ Goes printed end = sym (whole_over from script ∙ ap (λ (l : List Turn). over on_turn l from) turns)
+    ∙ told in
     let all : held_over_all false from script ≡ held_behind (map Line lines ++ ending 0) from from.state =
     (λ i. held_behind (turns i ++ ending_behind false (told i)) from (held_same from.state from from refl i)) in
     let split = held_goes on_turn held_then (map Line lines) (ending 0) from from.state printed end goes in

@@ -51,7 +51,8 @@ stopped_last : (bytes printed : List ℕ) (o : Option (List ℕ)) (end : Doing) 
 stopped_last bytes printed None end e = absurd cc
 stopped_last bytes printed (Some line) end e = absurd cc
 
-no_fault : (c : Course Doing) (f : Option Refusal) (o : Option (List ℕ)) (printed : List ℕ) (end : Doing) → with_last on_line (with_fault c f) o ≡ Goes printed end → f ≡ None
+no_fault : (c : Course Doing) (f : Option Refusal) (o : Option (List ℕ)) (printed : List ℕ) (end : Doing)
+    → with_last on_line (with_fault c f) o ≡ Goes printed end → f ≡ None
 no_fault c None o printed end e = refl
 no_fault (Goes bytes d) (Some refusal) o printed end e = absurd (stopped_last _ printed o end e)
 no_fault (Stops bytes) (Some refusal) o printed end e = absurd (stopped_last bytes printed o end e)
@@ -99,7 +100,15 @@ module _ (made : Init) (settings : Run) (mem : Once) (alike : AreAlike made sett
       λ i. record {
         place = place_is i;
         calls = [];
-        state = record { rule = sym alike.rules i; percent = sym alike.fallbacks i; rows = the_head.closed.rows_are i; waiting = []; batches = 0; requests = 0 };
+        state = record {
+          rule = sym alike.rules i;
+          percent = sym alike.fallbacks i;
+          rows = the_head.closed.rows_are i;
+          waiting = [];
+          batches = 0;
+          requests =
+              0;
+        };
         each = is_each (sym alike.listings i);
       }
 
@@ -118,7 +127,8 @@ module _ (made : Init) (settings : Run) (mem : Once) (alike : AreAlike made sett
     pub gives : Gives no_plan place.head values.0
     pub lines : List (List ℕ)
     pub opening : opens lines ≡ is_script script
-    pub whole : told_whole on_line no_line (start_of mem) (head ++ script) ≡ over on_turn (map Line lines) (record From { place = behind_head place.head place })
+    pub whole : told_whole on_line no_line (start_of mem) (head ++ script) ≡ over on_turn (map Line lines)
+        (record From { place = behind_head place.head place })
     pub over_it : run_from (is_each settings.listing) values.0 script (new_state made values) ≡ over on_turn (map Line lines) From
     pub whole_answers : answers_in mem (head ++ script) ≡ answers (map Line lines) (record From { place = behind_head place.head place })
     pub over_answers : answers_of (is_each settings.listing) values.0 script (new_state made values) ≡ answers (map Line lines) From

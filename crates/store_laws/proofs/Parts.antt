@@ -30,7 +30,8 @@ module _ (P : Scan → Type 0) (done : List (List ℕ)) (feed : Feed) where
 abbrev HasBounds : ℕ → ℕ → Scan → Type 0
 HasBounds limit longest s = (s.feed.limit ≡ limit) × (s.feed.longest ≡ longest)
 
-bounds : (done : List (List ℕ)) (feed : Feed) (bs : List ℕ) → (scan_after done feed bs).fault ≡ None → HasBounds feed.limit feed.longest (scan_after done feed bs)
+bounds : (done : List (List ℕ)) (feed : Feed) (bs : List ℕ) → (scan_after done feed bs).fault ≡ None
+    → HasBounds feed.limit feed.longest (scan_after done feed bs)
 bounds done feed [] e = (refl, refl)
 bounds done feed (x ∷ bs) e =
     kept_by (HasBounds feed.limit feed.longest) done feed (is_past_line feed x) (is_past_limit feed) (x == 10)
@@ -41,10 +42,12 @@ bounds done feed (x ∷ bs) e =
 abbrev IsFresh : Scan → Type 0
 IsFresh s = s.feed.begun ≡ []
 
-fresh : (done : List (List ℕ)) (feed : Feed) (front : List ℕ) → (scan_after done feed (front ++ 10 ∷ [])).fault ≡ None → IsFresh (scan_after done feed (front ++ 10 ∷ []))
+fresh : (done : List (List ℕ)) (feed : Feed) (front : List ℕ) → (scan_after done feed (front ++ 10 ∷ [])).fault ≡ None
+    → IsFresh (scan_after done feed (front ++ 10 ∷ []))
 fresh done feed [] e =
     kept_by IsFresh done feed (is_past_line feed 10) (is_past_limit feed) true
-    (scan_after (done ++ unreturned feed.begun ∷ []) (with_feed feed) []) (scan_after (done ++ unreturned feed.begun ∷ []) (with_feed feed) []) (λ h. refl) (λ h. refl) e
+    (scan_after (done ++ unreturned feed.begun ∷ []) (with_feed feed) []) (scan_after (done ++ unreturned feed.begun ∷ []) (with_feed feed) []) (λ h. refl)
+    (λ h. refl) e
 fresh done feed (x ∷ front) e =
     kept_by IsFresh done feed (is_past_line feed x) (is_past_limit feed) (x == 10)
     (scan_after (done ++ unreturned feed.begun ∷ []) (with_feed feed) (front ++ 10 ∷ [])) (scan_after done (with_byte feed x) (front ++ 10 ∷ []))
@@ -72,7 +75,8 @@ room_on f g more (inr h) = inr (omega (arith, h))
 module _ (done : List (List ℕ)) (f g : Feed) where
   alike_by : (long past size full feeds : Bool) (next other next' other' : Scan) → past ≡ long → (size ≡ false → full ≡ false)
       → (next.fault ≡ None → Alike next next') → (other.fault ≡ None → Alike other other')
-      → (next_by done f long size feeds next other).fault ≡ None → Alike (next_by done f long size feeds next other) (next_by done g past full feeds next' other')
+      → (next_by done f long size feeds next other).fault ≡ None
+      → Alike (next_by done f long size feeds next other) (next_by done g past full feeds next' other')
   alike_by true past size full feeds next other next' other' same room h k e = none_some _ e
   alike_by false true size full feeds next other next' other' same room h k e = absurd cc
   alike_by false false true full feeds next other next' other' same room h k e = none_some _ e
@@ -87,7 +91,8 @@ module _ (done : List (List ℕ)) (f g : Feed) where
   has_room more same (inl h) e = grind (arith, same, h, e)
   has_room more same (inr h) e = grind (arith, h)
 
-alike : (done : List (List ℕ)) (f g : Feed) (bs : List ℕ) → IsLike f g (length bs) → (scan_after done f bs).fault ≡ None → Alike (scan_after done f bs) (scan_after done g bs)
+alike : (done : List (List ℕ)) (f g : Feed) (bs : List ℕ) → IsLike f g (length bs) → (scan_after done f bs).fault ≡ None
+    → Alike (scan_after done f bs) (scan_after done g bs)
 alike done f g [] like e = record { right = refl; lines = refl; begun = like.begun }
 alike done f g (x ∷ bs) like e =
     let room = room_on f g (length bs) like.room in
@@ -96,14 +101,17 @@ alike done f g (x ∷ bs) like e =
     record { limit = like.limit; longest = like.longest; begun = ap (λ (l : List ℕ). l ++ x ∷ []) like.begun; room = room } in
     alike_by done f g (is_past_line f x) (is_past_line g x) (is_past_limit f) (is_past_limit g) (x == 10)
     (scan_after (done ++ unreturned f.begun ∷ []) (with_feed f) bs) (scan_after done (with_byte f x) bs)
-    (scan_after (done ++ unreturned g.begun ∷ []) (with_feed g) bs) (scan_after done (with_byte g x) bs) (same_line done f g x (length (x ∷ bs)) like) (has_room done f g (length bs) like.limit like.room)
-    (λ right. subst (λ (l : List ℕ). Alike (scan_after (done ++ unreturned f.begun ∷ []) (with_feed f) bs) (scan_after (done ++ unreturned l ∷ []) (with_feed g) bs)) (sym like.begun)
+    (scan_after (done ++ unreturned g.begun ∷ []) (with_feed g) bs) (scan_after done (with_byte g x) bs) (same_line done f g x (length (x ∷ bs)) like)
+    (has_room done f g (length bs) like.limit like.room)
+    (λ right. subst (λ (l : List ℕ). Alike (scan_after (done ++ unreturned f.begun ∷ []) (with_feed f) bs)
+    (scan_after (done ++ unreturned l ∷ []) (with_feed g) bs)) (sym like.begun)
     (alike (done ++ unreturned f.begun ∷ []) (with_feed f) (with_feed g) bs here right))
     (λ right. alike done (with_byte f x) (with_byte g x) bs on right) e
 
 -- ---- two texts
 
-right_front : (feed : Feed) (a b : List ℕ) (fault : Option Refusal) → (scan feed a).fault ≡ fault → (scan feed (a ++ b)).fault ≡ None → (scan feed a).fault ≡ None
+right_front : (feed : Feed) (a b : List ℕ) (fault : Option Refusal) → (scan feed a).fault ≡ fault → (scan feed (a ++ b)).fault ≡ None
+    → (scan feed a).fault ≡ None
 right_front feed a b None is e = is
 right_front feed a b (Some refusal) is e =
     let stays = scan-faulted [] feed a b (λ none. let no : Some refusal ≡ None = sym is ∙ none in absurd cc) in
@@ -133,7 +141,8 @@ module _ (limit longest : ℕ) where
       let rest = (Of head).feed in
       let whole = cut (blank limit longest) head script front in
       let rest_right : (scan rest script).fault ≡ None = ap (λ (s : Scan). s.fault) (sym whole) ∙ right in
-      let same = alike [] rest (blank limit longest) script (record { limit = sym has.0; longest = sym has.1; begun = sym none; room = inl (omega arith) }) rest_right in
+      let same = alike [] rest (blank limit longest) script (record { limit = sym has.0; longest = sym has.1; begun = sym none; room = inl (omega arith) })
+      rest_right in
       record {
         head_right = front;
         head_ends = none;
@@ -141,11 +150,13 @@ module _ (limit longest : ℕ) where
         lines =
             ap all_lines whole
             ∙ append_assoc (Of head).lines (scan rest script).lines (option_to_list (last_line (scan rest script).feed))
-            ∙ (λ i. (Of head).lines ++ (sym same.lines i ++ option_to_list (if length (sym same.begun i) == 0 then None else Some (unreturned (sym same.begun i)))));
+            ∙ (λ i. (Of head).lines ++ (sym same.lines i ++ option_to_list
+            (if length (sym same.begun i) == 0 then None else Some (unreturned (sym same.begun i)))));
       }
 
   -- both are right, and there is room for both
-  pub joined : (head script : List ℕ) → EndsLine head → (Of head).fault ≡ None → (Of script).fault ≡ None → length (head ++ script) ≤ limit → (Of (head ++ script)).fault ≡ None
+  pub joined : (head script : List ℕ) → EndsLine head → (Of head).fault ≡ None → (Of script).fault ≡ None → length (head ++ script) ≤ limit
+      → (Of (head ++ script)).fault ≡ None
   joined head script ends front back few =
       let none = ends_fresh head ends front in
       let has = bounds [] (blank limit longest) head front in

@@ -50,14 +50,17 @@ abbrev Lines : List (List ℕ) → Doing → Course Doing
 Lines lines d = over on_turn (map Line lines) d
 
 -- a line that goes on in both
-goes_both : (line : List ℕ) (lines : List (List ℕ)) (d e next after : Doing) (bytes : List ℕ) → on_line d line ≡ Goes bytes next → on_line e line ≡ Goes bytes after
+goes_both : (line : List ℕ) (lines : List (List ℕ)) (d e next after : Doing) (bytes : List ℕ) → on_line d line ≡ Goes bytes next
+    → on_line e line ≡ Goes bytes after
     → (IsStopped (Lines lines next) → IsStopped (Lines lines after)) → IsStopped (Lines (line ∷ lines) d) → IsStopped (Lines (line ∷ lines) e)
 goes_both line lines d e next after bytes is runs rest h =
     let whole = subst (λ (c : Course Doing). IsStopped (onward (Lines lines) c)) is h in
-    subst (λ (c : Course Doing). IsStopped (onward (Lines lines) c)) (sym runs) (stops_behind bytes (Lines lines after) (rest (stops_in bytes (Lines lines next) whole)))
+    subst (λ (c : Course Doing). IsStopped (onward (Lines lines) c)) (sym runs)
+    (stops_behind bytes (Lines lines after) (rest (stops_in bytes (Lines lines next) whole)))
 
 -- a line that is refused
-stops_at : (line : List ℕ) (lines : List (List ℕ)) (e : Doing) (why : RefusalKind) → asked e.place (counts_of e.state) line ≡ Err why → IsStopped (Lines (line ∷ lines) e)
+stops_at : (line : List ℕ) (lines : List (List ℕ)) (e : Doing) (why : RefusalKind) → asked e.place (counts_of e.state) line ≡ Err why
+    → IsStopped (Lines (line ∷ lines) e)
 stops_at line lines e why is = subst (λ (c : Course Doing). IsStopped (onward (Lines lines) c)) (sym (ap (λ (a : Asked). done_by e a) is)) tt
 
 module _ (plan : Plan) where
@@ -69,7 +72,8 @@ module _ (plan : Plan) where
     abbrev At : Doing
     At = record d { place = q }
 
-    stops_taken : (after : Place) (asks : Deed) (c : Course Doing) → asked d.place (counts_of d.state) line ≡ Ok (after, asks) → on_line d line ≡ c → IsStopped (Lines (line ∷ lines) d) → IsStopped (Lines (line ∷ lines) At)
+    stops_taken : (after : Place) (asks : Deed) (c : Course Doing) → asked d.place (counts_of d.state) line ≡ Ok (after, asks) → on_line d line ≡ c
+        → IsStopped (Lines (line ∷ lines) d) → IsStopped (Lines (line ∷ lines) At)
     stops_taken after asks (Stops bytes) is goes h =
         let same : done (record d { place = after }) asks ≡ Stops bytes = sym (ap (λ (a : Asked). done_by d a) is) ∙ goes in
         absurd (done_goes (record d { place = after }) asks (subst IsStopped (sym same) tt))
@@ -77,7 +81,8 @@ module _ (plan : Plan) where
         let r = run_line plan count d q line bytes next each goes in
         goes_both line lines d At next (runs_as (line_after count) next) bytes goes r.goes (λ k. rest (line_after count) next r.place_is k) h
 
-    stops_by : (a : Asked) → asked d.place (counts_of d.state) line ≡ a → ((why : RefusalKind) → asked d.place (counts_of d.state) line ≡ Err why → asked q (counts_of d.state) line ≡ Err why)
+    stops_by : (a : Asked) → asked d.place (counts_of d.state) line ≡ a
+        → ((why : RefusalKind) → asked d.place (counts_of d.state) line ≡ Err why → asked q (counts_of d.state) line ≡ Err why)
         → IsStopped (Lines (line ∷ lines) d) → IsStopped (Lines (line ∷ lines) At)
     stops_by (Ok r) is refused h = stops_taken r.0 r.1 (on_line d line) is refl h
     stops_by (Err why) is refused h = stops_at line lines At why (refused why is)
@@ -86,7 +91,8 @@ module _ (plan : Plan) where
   batches_stop [] count d at h = absurd h
   batches_stop (line ∷ lines) count d at h =
       let c = counts_of d.state in
-      stops_by line lines count d (as_run count d.place) (λ after asks is. batch_asked plan count d.place after c line asks at is) (batches_stop lines) (asked d.place c line) refl
+      stops_by line lines count d (as_run count d.place) (λ after asks is. batch_asked plan count d.place after c line asks at is) (batches_stop lines)
+      (asked d.place c line) refl
       (λ why is. batch_refused plan count d.place c line why at is) h
 
   module _ (d : Doing) where
@@ -100,7 +106,8 @@ module _ (plan : Plan) where
     head_by : (line : List ℕ) (lines : List (List ℕ)) (count : ℕ) → ((said line ≡ Ok item.Skip) × (opens lines ≡ false)) ⊎ (opens_by true (said line) ≡ false)
         → ((count : ℕ) → opens lines ≡ false → IsStopped (Lines lines (RunAt count))) → IsStopped (Lines (line ∷ lines) (RunAt count))
     head_by line lines count (inl skip) rest =
-        subst (λ (c : Course Doing). IsStopped (onward (Lines lines) c)) (sym (skips line count skip.0)) (stops_behind [] (Lines lines (RunAt (line_after count))) (rest (line_after count) skip.1))
+        subst (λ (c : Course Doing). IsStopped (onward (Lines lines) c)) (sym (skips line count skip.0))
+        (stops_behind [] (Lines lines (RunAt (line_after count))) (rest (line_after count) skip.1))
     head_by line lines count (inr wrong) rest = stops_at line lines (RunAt count) _ (run_refuses plan count (counts_of d.state) line wrong)
 
     pub head_stops : (lines : List (List ℕ)) (count : ℕ) → opens lines ≡ false → IsStopped (Lines lines (RunAt count))
@@ -112,7 +119,8 @@ module _ (plan : Plan) where
       abbrev OnceAt : Place → Doing
       OnceAt p = record d { place = behind_head h p }
 
-      script_by : (line : List ℕ) (lines : List (List ℕ)) (count : ℕ) (p : Place) → ((said line ≡ Ok item.Skip) × (opens lines ≡ true)) ⊎ (opens_by false (said line) ≡ true)
+      script_by : (line : List ℕ) (lines : List (List ℕ)) (count : ℕ) (p : Place) → ((said line ≡ Ok item.Skip) × (opens lines ≡ true))
+          ⊎ (opens_by false (said line) ≡ true)
           → ((count : ℕ) (p : Place) → opens lines ≡ true → IsStopped (Lines lines (OnceAt p)) → IsStopped (Lines lines (RunAt count)))
           → IsStopped (Lines (line ∷ lines) (OnceAt p)) → IsStopped (Lines (line ∷ lines) (RunAt count))
       script_by line lines count p (inl skip) rest stops =
@@ -121,10 +129,12 @@ module _ (plan : Plan) where
           (λ k. rest (line_after count) (next_line p) skip.1 k) stops
       script_by line lines count p (inr first) rest stops =
           let c = counts_of d.state in
-          stops_by line lines count (OnceAt p) (before_batches plan count) (λ after asks is. first_asked plan count c no_plan h p after line asks gives first is) (batches_stop lines)
+          stops_by line lines count (OnceAt p) (before_batches plan count)
+          (λ after asks is. first_asked plan count c no_plan h p after line asks gives first is) (batches_stop lines)
           (asked (behind_head h p) c line) refl (λ why is. first_refused plan count c no_plan h p line why named gives first is) stops
 
-      pub script_stops : (lines : List (List ℕ)) (count : ℕ) (p : Place) → opens lines ≡ true → IsStopped (Lines lines (OnceAt p)) → IsStopped (Lines lines (RunAt count))
+      pub script_stops : (lines : List (List ℕ)) (count : ℕ) (p : Place) → opens lines ≡ true → IsStopped (Lines lines (OnceAt p))
+          → IsStopped (Lines lines (RunAt count))
       script_stops [] count p opening stops = absurd stops
       script_stops (line ∷ lines) count p opening stops =
           script_by line lines count p (begins (opens lines) (said line) opening) (λ more q e k. script_stops lines more q e k) stops

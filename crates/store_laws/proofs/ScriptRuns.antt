@@ -35,7 +35,8 @@ place_or p (Goes bytes d) = d.place
 place_or p (Stops bytes) = p
 
 -- what is done goes by the catalogue of the place alone
-done_run : (d : Doing) (lines : ℕ) (after : Place) (asks : Deed) → done (record d { place = as_run lines after }) asks ≡ placed (as_run lines) (done (record d { place = after }) asks)
+done_run : (d : Doing) (lines : ℕ) (after : Place) (asks : Deed)
+    → done (record d { place = as_run lines after }) asks ≡ placed (as_run lines) (done (record d { place = after }) asks)
 done_run d lines after deed.Nothing = refl
 done_run d lines after (deed.Put key row) = refl
 done_run d lines after (deed.Call call) = refl
@@ -61,9 +62,11 @@ module _ (plan : Plan) (lines : ℕ) (d : Doing) (q : Place) where
 
   -- a line that `run` takes as `once` does
   abbrev pub AreAsked : List ℕ → Type 0
-  AreAsked line = (after : Place) (asks : Deed) → asked d.place (counts_of d.state) line ≡ Ok (after, asks) → IsAskedTo plan lines q (counts_of d.state) line after asks
+  AreAsked line = (after : Place) (asks : Deed) → asked d.place (counts_of d.state) line ≡ Ok (after, asks)
+      → IsAskedTo plan lines q (counts_of d.state) line after asks
 
-  run_by : (line bytes : List ℕ) (next : Doing) (a : Asked) → asked d.place (counts_of d.state) line ≡ a → AreAsked line → done_by d a ≡ Goes bytes next → IsRun line bytes next
+  run_by : (line bytes : List ℕ) (next : Doing) (a : Asked) → asked d.place (counts_of d.state) line ≡ a → AreAsked line → done_by d a ≡ Goes bytes next
+      → IsRun line bytes next
   run_by line bytes next (Err why) is each goes = not_both _ bytes next goes
   run_by line bytes next (Ok r) is each goes =
       let run = each r.0 r.1 is in
@@ -90,9 +93,11 @@ pub record RunsTo (lines : List (List ℕ)) (d e : Doing) (printed : List ℕ) (
 
 run_then : (line : List ℕ) (lines : List (List ℕ)) (d next : Doing) (q after : Place) (bytes printed : List ℕ) (last : Doing) → on_line d line ≡ Goes bytes next
     → on_line (record d { place = q }) line ≡ Goes bytes (record next { place = after }) → over on_turn (map Line (line ∷ lines)) d ≡ Goes printed last
-    → ((more : List ℕ) → over on_turn (map Line lines) next ≡ Goes more last → RunsTo lines next (record next { place = after }) more last) → RunsTo (line ∷ lines) d (record d { place = q }) printed last
+    → ((more : List ℕ) → over on_turn (map Line lines) next ≡ Goes more last → RunsTo lines next (record next { place = after }) more last)
+    → RunsTo (line ∷ lines) d (record d { place = q }) printed last
 run_then line lines d next q after bytes printed last is run goes rest =
-    let whole : behind bytes (over on_turn (map Line lines) next) ≡ Goes printed last = sym (ap (λ (c : Course Doing). onward (over on_turn (map Line lines)) c) is) ∙ goes in
+    let whole : behind bytes (over on_turn (map Line lines) next) ≡ Goes printed last =
+    sym (ap (λ (c : Course Doing). onward (over on_turn (map Line lines)) c) is) ∙ goes in
     let g = goes_behind bytes printed last (over on_turn (map Line lines) next) whole in
     let r = rest g.more g.goes in
     record {
@@ -115,15 +120,18 @@ module _ (plan : Plan) where
       → RunsTo lines d (runs_as count d) printed last
 
   -- where `run` takes the first of them
-  then_batches : (line : List ℕ) (lines : List (List ℕ)) (count : ℕ) (d last : Doing) (q : Place) (printed : List ℕ) (c : Course Doing) → on_line d line ≡ c → AreAsked plan count d q line
+  then_batches : (line : List ℕ) (lines : List (List ℕ)) (count : ℕ) (d last : Doing) (q : Place) (printed : List ℕ) (c : Course Doing) → on_line d line ≡ c
+      → AreAsked plan count d q line
       → BatchesOver lines → over on_turn (map Line (line ∷ lines)) d ≡ Goes printed last → RunsTo (line ∷ lines) d (record d { place = q }) printed last
   then_batches line lines count d last q printed (Stops bytes) is each rest goes =
       not_both bytes printed last (sym (ap (λ (x : Course Doing). onward (over on_turn (map Line lines)) x) is) ∙ goes)
   then_batches line lines count d last q printed (Goes bytes next) is each rest goes =
       let r = run_line plan count d q line bytes next each is in
-      run_then line lines d next q (as_run (line_after count) next.place) bytes printed last is r.goes goes (λ more go. rest (line_after count) next last more r.place_is go)
+      run_then line lines d next q (as_run (line_after count) next.place) bytes printed last is r.goes goes
+      (λ more go. rest (line_after count) next last more r.place_is go)
 
-  batches_none : (count : ℕ) (d last : Doing) (printed : List ℕ) → d.place ≡ in_batches plan d.place → Goes [] d ≡ Goes printed last → RunsTo [] d (runs_as count d) printed last
+  batches_none : (count : ℕ) (d last : Doing) (printed : List ℕ) → d.place ≡ in_batches plan d.place → Goes [] d ≡ Goes printed last
+      → RunsTo [] d (runs_as count d) printed last
   batches_none count d last printed at goes =
       let here = subst (λ (x : Doing). x.place ≡ in_batches plan x.place) (same_state [] printed d last goes) at in
       record {
@@ -162,7 +170,8 @@ module _ (plan : Plan) where
     ScriptOver lines = (count : ℕ) (p : Place) (printed : List ℕ) → opens lines ≡ true → over on_turn (map Line lines) (OnceAt p) ≡ Goes printed last
         → RunsTo lines (OnceAt p) (RunAt count) printed last
 
-    script_by : (line : List ℕ) (lines : List (List ℕ)) (count : ℕ) (p : Place) (printed : List ℕ) → ((said line ≡ Ok item.Skip) × (opens lines ≡ true)) ⊎ (opens_by false (said line) ≡ true)
+    script_by : (line : List ℕ) (lines : List (List ℕ)) (count : ℕ) (p : Place) (printed : List ℕ) → ((said line ≡ Ok item.Skip) × (opens lines ≡ true))
+        ⊎ (opens_by false (said line) ≡ true)
         → ScriptOver lines → over on_turn (map Line (line ∷ lines)) (OnceAt p) ≡ Goes printed last → RunsTo (line ∷ lines) (OnceAt p) (RunAt count) printed last
     script_by line lines count p printed (inl skip) rest goes =
         let c = counts_of d.state in

@@ -71,25 +71,32 @@ module _ (plan : Plan) (lines : ℕ) where
     runs_call : (proc : List ℕ) (args : List Arg) → Runs (at_call O proc args) (at_call R proc args)
     runs_call proc args =
         runs_then (calls O) (calls R) (placed_call plan proc args)
-        (λ call. runs_if (nat_lt p.open_calls MOST_REQUESTS) (Ok (record O { rows_ended = true; open_calls = p.open_calls + 1 }, deed.Call call)) (Err kind.Batch)
-        (Ok (record R { rows_ended = true; open_calls = p.open_calls + 1 }, deed.Call call)) (Err kind.Batch) (at_rest (record p { open_calls = p.open_calls + 1 }) (deed.Call call)) refl)
+        (λ call. runs_if (nat_lt p.open_calls MOST_REQUESTS) (Ok (record O { rows_ended = true; open_calls = p.open_calls + 1 }, deed.Call call))
+        (Err kind.Batch)
+        (Ok (record R { rows_ended = true; open_calls = p.open_calls + 1 }, deed.Call call)) (Err kind.Batch)
+        (at_rest (record p { open_calls = p.open_calls + 1 }) (deed.Call call)) refl)
 
     runs_now : (n : ℕ) → Runs (runs O c n) (runs R c n)
     runs_now n =
         let crowded = true && nat_lt MOST_REQUESTS (c.waiting + p.open_calls) in
         let past = nat_lt GREATEST_NUMBER n || nat_lt GREATEST_NUMBER (c.requests + p.open_calls) in
-        runs_if crowded (Err kind.Batch) (if past then Err kind.Numbers else Ok (closed O, deed.Run)) (Err kind.Batch) (if past then Err kind.Numbers else Ok (closed R, deed.Run)) refl
-        (runs_if past (Err kind.Numbers) (Ok (closed O, deed.Run)) (Err kind.Numbers) (Ok (closed R, deed.Run)) refl (at_rest (record p { open_calls = 0 }) deed.Run))
+        runs_if crowded (Err kind.Batch) (if past then Err kind.Numbers else Ok (closed O, deed.Run)) (Err kind.Batch)
+        (if past then Err kind.Numbers else Ok (closed R, deed.Run)) refl
+        (runs_if past (Err kind.Numbers) (Ok (closed O, deed.Run)) (Err kind.Numbers) (Ok (closed R, deed.Run)) refl
+        (at_rest (record p { open_calls = 0 }) deed.Run))
 
     runs_end : (n : ℕ) → Runs (at_end O c n) (at_end R c n)
     runs_end n =
         let gap = kind.Gap n (c.batches + 1) in
-        runs_if (nat_lt (c.batches + 1) n) (Err gap) (if nat_le n c.batches then Ok (closed O, deed.Keep n) else runs O c n) (Err gap) (if nat_le n c.batches then Ok (closed R, deed.Keep n) else runs R c n) refl
-        (runs_if (nat_le n c.batches) (Ok (closed O, deed.Keep n)) (runs O c n) (Ok (closed R, deed.Keep n)) (runs R c n) (at_rest (record p { open_calls = 0 }) (deed.Keep n)) (runs_now n))
+        runs_if (nat_lt (c.batches + 1) n) (Err gap) (if nat_le n c.batches then Ok (closed O, deed.Keep n) else runs O c n) (Err gap)
+        (if nat_le n c.batches then Ok (closed R, deed.Keep n) else runs R c n) refl
+        (runs_if (nat_le n c.batches) (Ok (closed O, deed.Keep n)) (runs O c n) (Ok (closed R, deed.Keep n)) (runs R c n)
+        (at_rest (record p { open_calls = 0 }) (deed.Keep n)) (runs_now n))
 
     runs_settings : (name : List ℕ) (percent : ℤ) → Runs (at_settings O name percent) (at_settings R name percent)
     runs_settings name percent =
-        runs_if (p.open_calls == 0) (and_then (sets O) (placed_settings name percent)) (Err kind.Site) (and_then (sets R) (placed_settings name percent)) (Err kind.Site)
+        runs_if (p.open_calls == 0) (and_then (sets O) (placed_settings name percent)) (Err kind.Site) (and_then (sets R) (placed_settings name percent))
+        (Err kind.Site)
         (runs_then (sets O) (sets R) (placed_settings name percent) (λ pair. record { asked_run = refl; place_is = refl })) refl
 
     -- a line that no head has and that is not skipped
@@ -115,28 +122,33 @@ module _ (plan : Plan) (lines : ℕ) where
   runs_item c p (item.Settings name percent) = runs_settings c (record p { rows_ended = true }) name percent
 
 module _ (plan : Plan) (lines : ℕ) where
-  runs_line : (c : Counts) (p : Place) (line : List ℕ) → Runs plan (line_after lines) (asked (in_batches plan p) c line) (asked (as_run lines (in_batches plan p)) c line)
+  runs_line : (c : Counts) (p : Place) (line : List ℕ) → Runs plan (line_after lines) (asked (in_batches plan p) c line)
+      (asked (as_run lines (in_batches plan p)) c line)
   runs_line c p line =
       let q = next_line p in
-      runs_then plan (line_after lines) (at_item (in_batches plan q) c) (at_item (as_run (line_after lines) (in_batches plan q)) c) (said line) (λ i. runs_item plan (line_after lines) c q i)
+      runs_then plan (line_after lines) (at_item (in_batches plan q) c) (at_item (as_run (line_after lines) (in_batches plan q)) c) (said line)
+      (λ i. runs_item plan (line_after lines) c q i)
 
   -- what `run` is asked for by a line that `once` takes
   pub record IsAskedTo (q : Place) (c : Counts) (line : List ℕ) (after : Place) (asks : Deed) : Type 0 where
     pub asked_run : asked q c line ≡ Ok (as_run (line_after lines) after, asks)
     pub place_is : after ≡ in_batches plan after
 
-  pub is_asked : (q after : Place) (c : Counts) (line : List ℕ) (asks : Deed) (given : Asked) → given ≡ Ok (after, asks) → Runs plan (line_after lines) given (asked q c line) → IsAskedTo q c line after asks
+  pub is_asked : (q after : Place) (c : Counts) (line : List ℕ) (asks : Deed) (given : Asked) → given ≡ Ok (after, asks)
+      → Runs plan (line_after lines) given (asked q c line) → IsAskedTo q c line after asks
   is_asked q after c line asks given is r =
       let ran : Ran plan (line_after lines) (after, asks) (asked q c line) = subst (λ (a : Asked). Runs plan (line_after lines) a (asked q c line)) is r in
       record { asked_run = ran.asked_run; place_is = ran.place_is }
 
-  pub batch_asked : (p after : Place) (c : Counts) (line : List ℕ) (asks : Deed) → p ≡ in_batches plan p → asked p c line ≡ Ok (after, asks) → IsAskedTo (as_run lines p) c line after asks
+  pub batch_asked : (p after : Place) (c : Counts) (line : List ℕ) (asks : Deed) → p ≡ in_batches plan p → asked p c line ≡ Ok (after, asks)
+      → IsAskedTo (as_run lines p) c line after asks
   batch_asked p after c line asks at is =
       is_asked (as_run lines p) after c line asks (asked p c line) is
       (subst (λ (q : Place). Runs plan (line_after lines) (asked q c line) (asked (as_run lines q) c line)) (sym at) (runs_line c p line))
 
   -- what `once` refuses
-  pub batch_refused : (p : Place) (c : Counts) (line : List ℕ) (why : RefusalKind) → p ≡ in_batches plan p → asked p c line ≡ Err why → asked (as_run lines p) c line ≡ Err why
+  pub batch_refused : (p : Place) (c : Counts) (line : List ℕ) (why : RefusalKind) → p ≡ in_batches plan p → asked p c line ≡ Err why
+      → asked (as_run lines p) c line ≡ Err why
   batch_refused p c line why at is =
       let r = subst (λ (q : Place). Runs plan (line_after lines) (asked q c line) (asked (as_run lines q) c line)) (sym at) (runs_line c p line) in
       subst (λ (a : Asked). Runs plan (line_after lines) a (asked (as_run lines p) c line)) is r

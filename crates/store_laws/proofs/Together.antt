@@ -19,18 +19,22 @@ use Rattle.store_laws.proofs.ScriptRuns.{RunsTo, script_over}
 use Rattle.store_laws.proofs.Behind.{behind_head}
 use Rattle.store_laws.proofs.Joint.{AreBegun, IsEnded, are_begun, ended_done, right_text}
 
-module _ (made : Init) (settings : Run) (mem : Once) (alike : AreAlike made settings mem) (head script : List ℕ) (values : Plan × Database) (right : AreRight mem head script values) where
+module _ (made : Init) (settings : Run) (mem : Once) (alike : AreAlike made settings mem) (head script : List ℕ) (values : Plan × Database)
+    (right : AreRight mem head script values) where
   in_memory : IsEnded mem.drain (told_whole on_line no_line (start_of mem) (head ++ script))
   in_memory = ended_done mem.drain (told_whole on_line no_line (start_of mem) (head ++ script)) right.done
 
-  begun : AreBegun made settings mem alike head script values right.ends right.said (right_text (start_of mem) in_memory.end (head ++ script) in_memory.printed in_memory.goes)
-  begun = are_begun made settings mem alike head script values right.ends right.said (right_text (start_of mem) in_memory.end (head ++ script) in_memory.printed in_memory.goes)
+  begun : AreBegun made settings mem alike head script values right.ends right.said
+      (right_text (start_of mem) in_memory.end (head ++ script) in_memory.printed in_memory.goes)
+  begun = are_begun made settings mem alike head script values right.ends right.said
+      (right_text (start_of mem) in_memory.end (head ++ script) in_memory.printed in_memory.goes)
 
   abbrev From0 : Doing
   From0 = resumed (is_each settings.listing) values.0 (new_state made values)
 
   runs : RunsTo begun.lines (record From0 { place = behind_head begun.place.head begun.place }) From0 in_memory.printed in_memory.end
-  runs = script_over values.0 begun.place.head begun.gives From0 in_memory.end begun.lines 0 begun.place in_memory.printed (begun.opening ∙ right.batches) (sym begun.whole ∙ in_memory.goes)
+  runs = script_over values.0 begun.place.head begun.gives From0 in_memory.end begun.lines 0 begun.place in_memory.printed (begun.opening ∙ right.batches)
+      (sym begun.whole ∙ in_memory.goes)
 
   runs_whole : run_from (is_each settings.listing) values.0 script (new_state made values) ≡ Goes in_memory.printed runs.end
   runs_whole = begun.over_it ∙ runs.goes
@@ -50,7 +54,8 @@ module _ (made : Init) (settings : Run) (mem : Once) (alike : AreAlike made sett
     leaves = (in_memory.printed, in_memory.goes);
     runs = runs_whole;
     state = runs.like.state;
-    held = subst (λ (s : State). HoldsAs (held_over_all false From0 script) s) runs.like.state (script_held From0 runs.end script in_memory.printed refl runs_whole);
+    held = subst (λ (s : State). HoldsAs (held_over_all false From0 script) s) runs.like.state
+        (script_held From0 runs.end script in_memory.printed refl runs_whole);
     answered = begun.over_answers ∙ runs.answered ∙ sym begun.whole_answers;
     out = out_is;
   }

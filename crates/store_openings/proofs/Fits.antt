@@ -49,7 +49,8 @@ fit_by : (first : Bool) (c : Checkpoint) (bytes : List ℕ) (batch : Batch) → 
 fit_by true c bytes batch says = fits_all c.plan batch.calls says.2.fit
 fit_by false c bytes batch says = fits_all c.plan batch.calls says.fit
 
-fallback_by : (first : Bool) (c : Checkpoint) (bytes : List ℕ) (batch : Batch) → c.head.fallback ≤ MOST_PERCENT → SaysIn first c bytes batch → batch.fallback ≤ MOST_PERCENT
+fallback_by : (first : Bool) (c : Checkpoint) (bytes : List ℕ) (batch : Batch) → c.head.fallback ≤ MOST_PERCENT → SaysIn first c bytes batch
+    → batch.fallback ≤ MOST_PERCENT
 fallback_by true c bytes batch bound says = subst (λ (n : ℕ). n ≤ MOST_PERCENT) (sym says.1) bound
 fallback_by false c bytes batch bound says = says.fallback
 

@@ -70,10 +70,19 @@ module _ (tree : Request → Tree Key Cells End) where
   percent_behind state (batch ∷ later) = percent_behind (step tree state (handed_in batch)) later
 
 settings_of : (store : Kept) (state : State) → store.rule ≡ state.rule → store.fallback ≡ state.percent → told_by (Some store) state ≡ state
-settings_of store state r p = λ i. record { rule = r i; percent = p i; rows = state.rows; waiting = state.waiting; batches = state.batches; requests = state.requests }
+settings_of store state r p = λ i. record {
+  rule = r i;
+  percent = p i;
+  rows = state.rows;
+  waiting = state.waiting;
+  batches = state.batches;
+  requests =
+      state.requests;
+}
 
 pub store_of : (disk : History) (store : Kept) (c : Checkpoint) (later : List Batch) (state : State) → state ≡ state_behind c later
-    → IsInOrder (slot_in store.files) c → IsKnown store c later → Rests disk store.files → store.files.closed ≡ None → (store.files.batches ≡ 0 → store.files.at ≡ 0) → IsStoreOf disk store state
+    → IsInOrder (slot_in store.files) c → IsKnown store c later → Rests disk store.files → store.files.closed ≡ None
+    → (store.files.batches ≡ 0 → store.files.at ≡ 0) → IsStoreOf disk store state
 store_of disk store c later state same order known rests shut empty =
     let ran = batches_behind (run_of c.plan) (state_at c) later in
     let here : state.batches ≡ (state_behind c later).batches = ap (λ (s : State). s.batches) same in
@@ -199,7 +208,8 @@ look_run old new c later log place refused.NoMemory is crowd h = tt
 
 -- ---- a look at a log
 
-pub look_at : (told : Option File) (payloads : List Payload) (end place at : ℕ) → at ≡ offset_at payloads place → IfSome told (λ f. log_of f.seen ≡ Ends payloads end)
+pub look_at : (told : Option File) (payloads : List Payload) (end place at : ℕ) → at ≡ offset_at payloads place
+    → IfSome told (λ f. log_of f.seen ≡ Ends payloads end)
     → IfSome told (λ f. at ≡ offset_in (log_of f.seen) place)
 look_at None payloads end place at is log = tt
 look_at (Some f) payloads end place at is log = is ∙ sym (ap (λ (l : Log). offset_in l place) log)

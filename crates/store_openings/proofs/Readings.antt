@@ -50,7 +50,8 @@ read_image None bytes is image = absurd is
 read_image (Some f) bytes is image = subst (λ (l : List ℕ). IsImage f l) is image
 
 -- what a read gives is an image that a stop may leave
-pub reads_left : (disk : History) (images : ℕ → List ℕ) → ReadsAs disk images → ((file : ℕ) → IfSome (current disk file) (λ f. IsImage f f.seen)) → MayLeave disk disk.now images
+pub reads_left : (disk : History) (images : ℕ → List ℕ) → ReadsAs disk images → ((file : ℕ) → IfSome (current disk file) (λ f. IsImage f f.seen))
+    → MayLeave disk disk.now images
 reads_left disk images reads law file low = read_image (current disk file) (images file) (reads file low) (law file)
 
 seen_in : (told : Option File) (bytes : List ℕ) (Q : List ℕ → Type 0) → IsSomeAnd told (λ f. f.seen ≡ bytes) → IfSome told (λ f. Q f.seen) → Q bytes
@@ -63,12 +64,14 @@ module _ (disk : History) (images : ℕ → List ℕ) (reads : ReadsAs disk imag
   left : MayLeave disk disk.now images
   left = reads_left disk images reads law
 
-  pub found_is : (store : Kept) (c : Checkpoint) (later : List Batch) (found : Reopened) → (IsTold disk → Stands disk store c later) → Reopens images found → found ≡ Found c later
+  pub found_is : (store : Kept) (c : Checkpoint) (later : List Batch) (found : Reopened) → (IsTold disk → Stands disk store c later) → Reopens images found
+      → found ≡ Found c later
   found_is store c later found stands reopens =
       reopens_once images found (Found c later) reopens (found_now disk store c later (stands (told_all disk images reads)) images left)
 
   -- attaching was refused
-  pub attach_refusal : (before : History) (refused : StoreRefused) (why : NotOpened) (found : Reopened) → AttachCause before disk refused → IsFor refused why → Reopens images found
+  pub attach_refusal : (before : History) (refused : StoreRefused) (why : NotOpened) (found : Reopened) → AttachCause before disk refused → IsFor refused why
+      → Reopens images found
       → IsRefusalOf (opened images found) why
   attach_refusal before of_store.Memory why found cause is reopens = subst (λ (w : NotOpened). IsRefusalOf (opened images found) w) (sym is) tt
   attach_refusal before of_store.DiskFault why found cause is reopens = subst (λ (w : NotOpened). IsRefusalOf (opened images found) w) (sym is) tt
@@ -97,14 +100,16 @@ opened_crowded disk images reads c later file at crowd =
     seen_in (current disk (log_in c)) (images (log_in c)) (λ l. at ≡ offset_in (log_of l) crowd.0) (reads (log_in c) (log_low c)) crowd.3 in
     ap (λ (p : Option ℕ). opened_at images c later p) crowd.1 ∙ sym (λ i. Damaged (crowd.2 i) (offset i))
 
-pub opened_as : (images : ℕ → List ℕ) (engines : Engines) (c : Checkpoint) (later : List Batch) (found : Reopened) (live : Live) → IsFoundAs engines c later live
+pub opened_as : (images : ℕ → List ℕ) (engines : Engines) (c : Checkpoint) (later : List Batch) (found : Reopened) (live : Live)
+    → IsFoundAs engines c later live
     → found ≡ Found c later → IsOpenedAs (opened images found) live
 opened_as images engines c later found live f same =
     subst (λ (r : Reopened). IsOpenedAs (opened images r) live) (sym same)
     (subst (λ (r : Reopened). IsOpenedAs r live) (sym (opened_roomy images c later f.roomy)) (f.plan, f.state))
 
 -- what was found is refused where a batch has no room alone
-pub found_refusal : (disk new : History) (images : ℕ → List ℕ) → ReadsAs disk images → (store : Kept) (c : Checkpoint) (later : List Batch) (found : Reopened) (why : NotOpened)
+pub found_refusal : (disk new : History) (images : ℕ → List ℕ) → ReadsAs disk images
+    → (store : Kept) (c : Checkpoint) (later : List Batch) (found : Reopened) (why : NotOpened)
     → found ≡ Found c later → IsNotFound disk new store c later why → IsRefusalOf (opened images found) why
 found_refusal disk new images reads store c later found refusal.NoStore same h = absurd h
 found_refusal disk new images reads store c later found (refusal.Damaged file at) same crowd =
@@ -148,7 +153,8 @@ module _ (old disk new : History) (attach : LeavesAll old disk (MayLeave old old
     where
       both : LeavesAll disk new (MayLeave disk disk.now) → LeavesAll old new (MayLeave old old.now)
       both rest = leaves_then old disk new (MayLeave old old.now) attach (leaves_more disk new (MayLeave disk disk.now) (MayLeave old old.now) rest back)
-  unwritten_then (refusal.Damaged file at) all = leaves_then old disk new (MayLeave old old.now) attach (leaves_more disk new (MayLeave disk disk.now) (MayLeave old old.now) all back)
+  unwritten_then (refusal.Damaged file at) all = leaves_then old disk new (MayLeave old old.now) attach
+      (leaves_more disk new (MayLeave disk disk.now) (MayLeave old old.now) all back)
   unwritten_then refusal.NoDisk all = tt
   unwritten_then refusal.NoMemory all = tt
 
@@ -170,4 +176,5 @@ module _ (old disk new : History) (attach : LeavesAll old disk (MayLeave old old
 -- where attaching was refused, its images are all
 pub attached_leaves : (old new : History) (what : Reopened) → LeavesAll old new (MayLeave old old.now)
     → LeavesAll old new (λ left. MayLeave old old.now left ⊎ ReopensToOpened what left)
-attached_leaves old new what all = leaves_more old new (MayLeave old old.now) (λ left. MayLeave old old.now left ⊎ ReopensToOpened what left) all (λ i left. inl left)
+attached_leaves old new what all = leaves_more old new (MayLeave old old.now) (λ left. MayLeave old old.now left ⊎ ReopensToOpened what left) all
+    (λ i left. inl left)

@@ -51,14 +51,16 @@ other false x y off = refl
 
 -- whatever else is told of the way: the next batch may be run, and there is still a number for it
 pub may_follow_here : (plan : Plan) (live : Live) (batch : Batch) (rest : List Batch) → plan_of live ≡ plan
-    → AreRunnable plan (state_of live).batches (state_of live).requests (batch ∷ rest) → MayFollow (plan_of live) (state_of live).batches (state_of live).requests batch
+    → AreRunnable plan (state_of live).batches (state_of live).requests (batch ∷ rest)
+    → MayFollow (plan_of live) (state_of live).batches (state_of live).requests batch
 may_follow_here plan live batch rest same fit = subst (λ (p : Plan). MayFollow p (state_of live).batches (state_of live).requests batch) (sym same) fit.0
 
 pub below_here : (plan : Plan) (first place batches requests : ℕ) (batch : Batch) (rest : List Batch) → batches ≡ first + place
     → AreRunnable plan batches requests (batch ∷ rest) → place + 1 ≤ GREATEST_NUMBER
 below_here plan first place batches requests batch rest counted fit = omega (arith, counted, fit.0.within.batches)
 
-module _ (start : Live) (all : List Batch) (live : Live) (place : ℕ) (batch : Batch) (rest : List Batch) (on : IsOnWay start all live place (batch ∷ rest)) where
+module _ (start : Live) (all : List Batch) (live : Live) (place : ℕ) (batch : Batch) (rest : List Batch)
+    (on : IsOnWay start all live place (batch ∷ rest)) where
   abbrev After : State
   After = step (run_of (plan_of start)) (state_of live) (handed_in batch)
 

@@ -22,7 +22,8 @@ is_write_of q w = eq_by_cmp key_cmp q w.0
 none_from : (n : ℕ) (ws : Buffer) (q : Key) → position_from (is_write_of q) n ws ≡ None → fin.find key_cmp q ws ≡ None
 none_from n [] q none = refl
 none_from n (w ∷ ws) q none =
-    elim (eq_by_cmp key_cmp q w.0) as (λ b. cond b (Some n) (position_from (is_write_of q) (n + 1) ws) ≡ None → cond b (Some w.1) (fin.find key_cmp q ws) ≡ None) [
+    elim (eq_by_cmp key_cmp q w.0) as (λ b. cond b (Some n) (position_from (is_write_of q) (n + 1) ws) ≡ None
+    → cond b (Some w.1) (fin.find key_cmp q ws) ≡ None) [
       | true ↦ λ some. cc
       | false ↦ λ rest. none_from (n + 1) ws q rest
     ] none
@@ -47,27 +48,35 @@ find-at [] q i d at = absurd (omega (arith, at.below))
 find-at (w ∷ ws) q zero d at = ap (λ b. cond b (Some w.1) (fin.find key_cmp q ws)) at.here
 find-at (w ∷ ws) q (suc i) d at = ap (λ b. cond b (Some w.1) (fin.find key_cmp q ws)) (at.before 0 (omega arith)) ∙ find-at ws q i d (later w ws q i d at)
 
-with_write-at : (ws : Buffer) (q : Key) (row : Option Cells) (i : ℕ) (d : Key × Option Cells) → IsAt ws q i d → with_write key_cmp ws q row ≡ slice_set ws i ((slice_index_or ws i d).0, row)
+with_write-at : (ws : Buffer) (q : Key) (row : Option Cells) (i : ℕ) (d : Key × Option Cells) → IsAt ws q i d
+    → with_write key_cmp ws q row ≡ slice_set ws i ((slice_index_or ws i d).0, row)
 with_write-at [] q row i d at = absurd (omega (arith, at.below))
 with_write-at (w ∷ ws) q row zero d at = ap (λ b. if b then (w.0, row) ∷ ws else w ∷ with_write key_cmp ws q row) at.here
 with_write-at (w ∷ ws) q row (suc i) d at =
-    ap (λ b. if b then (w.0, row) ∷ ws else w ∷ with_write key_cmp ws q row) (at.before 0 (omega arith)) ∙ ap (λ ws. w ∷ ws) (with_write-at ws q row i d (later w ws q i d at))
+    ap (λ b. if b then (w.0, row) ∷ ws else w ∷ with_write key_cmp ws q row) (at.before 0 (omega arith))
+    ∙ ap (λ ws. w ∷ ws) (with_write-at ws q row i d (later w ws q i d at))
 
 pub pushed : (ws : Buffer) (q : Key) (row : Option Cells) → fin.find key_cmp q ws ≡ None → with_write key_cmp ws q row ≡ ws ++ (q, row) ∷ []
 pushed [] q row none = refl
 pushed (w ∷ ws) q row none =
-    elim (eq_by_cmp key_cmp q w.0) as (λ b. cond b (Some w.1) (fin.find key_cmp q ws) ≡ None → (if b then (w.0, row) ∷ ws else w ∷ with_write key_cmp ws q row) ≡ w ∷ (ws ++ (q, row) ∷ [])) [
+    elim (eq_by_cmp key_cmp q w.0) as (λ b. cond b (Some w.1) (fin.find key_cmp q ws) ≡ None
+    → (if b then (w.0, row) ∷ ws else w ∷ with_write key_cmp ws q row) ≡ w ∷ (ws ++ (q, row) ∷ [])) [
       | true ↦ λ some. cc
       | false ↦ λ rest. ap (λ ws. w ∷ ws) (pushed ws q row rest)
     ] none
 
 -- what is seen after a write and after a read
-pub seen-written : (db : Database) (reads : List Key) (ws new : Buffer) (k : Key) (row : Option Cells) → new ≡ with_write key_cmp ws k row → seen_of (record { base = db; noted = record { reads = reads; writes = new } }) ≡ after_write (seen_of (record { base = db; noted = record { reads = reads; writes = ws } })) k row
+pub seen-written : (db : Database) (reads : List Key) (ws new : Buffer) (k : Key) (row : Option Cells) → new ≡ with_write key_cmp ws k row
+    → seen_of (record { base = db; noted = record { reads = reads; writes = new } }) ≡ after_write
+    (seen_of (record { base = db; noted = record { reads = reads; writes = ws } })) k row
 seen-written db reads ws new k row is =
     let map = ap (overwritten db) is ∙ overwritten-with_write key_cmp_total key_cmp-IsAntisymmetric db ws k row in
     λ i. record { map = map i; noted = record { reads = reads; writes = is i } }
 
-pub seen-read : (db : Database) (reads new : List Key) (ws : Buffer) (k : Key) → new ≡ (if is_among key_cmp reads k || is_among key_cmp (keys_of ws) k then reads else reads ++ k ∷ []) → seen_of (record { base = db; noted = record { reads = new; writes = ws } }) ≡ after_read (seen_of (record { base = db; noted = record { reads = reads; writes = ws } })) k
+pub seen-read : (db : Database) (reads new : List Key) (ws : Buffer) (k : Key)
+    → new ≡ (if is_among key_cmp reads k || is_among key_cmp (keys_of ws) k then reads else reads ++ k ∷ [])
+    → seen_of (record { base = db; noted = record { reads = new; writes = ws } }) ≡ after_read
+    (seen_of (record { base = db; noted = record { reads = reads; writes = ws } })) k
 seen-read db reads new ws k is i = record { map = overwritten db ws; noted = record { reads = is i; writes = ws } }
 
 kept : (b : Bool) (xs ys : List Key) → (if b || true then xs else ys) ≡ xs
@@ -75,7 +84,8 @@ kept true xs ys = refl
 kept false xs ys = refl
 
 -- in the forms of the calls: a key whose write stands at a place
-pub write-at : (ws : Buffer) (q : Key) (row : Option Cells) (i : ℕ) (old : Key × Option Cells) → position (is_write_of q) ws ≡ Some i → old ≡ slice_index_or ws i old → slice_set ws i (old.0, row) ≡ with_write key_cmp ws q row
+pub write-at : (ws : Buffer) (q : Key) (row : Option Cells) (i : ℕ) (old : Key × Option Cells) → position (is_write_of q) ws ≡ Some i
+    → old ≡ slice_index_or ws i old → slice_set ws i (old.0, row) ≡ with_write key_cmp ws q row
 write-at ws q row i old some is = ap (λ w. slice_set ws i (w.0, row)) is ∙ sym (with_write-at ws q row i old (is_at-position ws q i old some))
 
 -- the row that is written, or else the one below
@@ -86,11 +96,16 @@ pub row-below : (db : Database) (ws : Buffer) (q : Key) → None ≡ fin.find ke
 row-below db ws q is = sym (get-overwritten key_cmp_total db ws q ∙ ap (λ found. unwrap_or found (fin.get db q)) (sym is))
 
 -- the keys that are noted as read after a read: of a key that is written, one that was read, and any other
-pub reads-written : (reads : List Key) (ws : Buffer) (q : Key) → is_among key_cmp (keys_of ws) q ≡ true → reads ≡ (if is_among key_cmp reads q || is_among key_cmp (keys_of ws) q then reads else reads ++ q ∷ [])
-reads-written reads ws q among = sym (ap (λ b. if is_among key_cmp reads q || b then reads else reads ++ q ∷ []) among ∙ kept (is_among key_cmp reads q) reads (reads ++ q ∷ []))
+pub reads-written : (reads : List Key) (ws : Buffer) (q : Key) → is_among key_cmp (keys_of ws) q ≡ true
+    → reads ≡ (if is_among key_cmp reads q || is_among key_cmp (keys_of ws) q then reads else reads ++ q ∷ [])
+reads-written reads ws q among = sym (ap (λ b. if is_among key_cmp reads q || b then reads else reads ++ q ∷ []) among
+    ∙ kept (is_among key_cmp reads q) reads (reads ++ q ∷ []))
 
-pub reads-there : (reads : List Key) (ws : Buffer) (q : Key) → is_among key_cmp reads q ≡ true → reads ≡ (if is_among key_cmp reads q || is_among key_cmp (keys_of ws) q then reads else reads ++ q ∷ [])
+pub reads-there : (reads : List Key) (ws : Buffer) (q : Key) → is_among key_cmp reads q ≡ true
+    → reads ≡ (if is_among key_cmp reads q || is_among key_cmp (keys_of ws) q then reads else reads ++ q ∷ [])
 reads-there reads ws q among = sym (ap (λ b. if b || is_among key_cmp (keys_of ws) q then reads else reads ++ q ∷ []) among)
 
-pub reads-more : (reads : List Key) (ws : Buffer) (q : Key) → is_among key_cmp (keys_of ws) q ≡ false → is_among key_cmp reads q ≡ false → reads ++ q ∷ [] ≡ (if is_among key_cmp reads q || is_among key_cmp (keys_of ws) q then reads else reads ++ q ∷ [])
-reads-more reads ws q apart new = sym (ap (λ b. if is_among key_cmp reads q || b then reads else reads ++ q ∷ []) apart ∙ ap (λ b. if b || false then reads else reads ++ q ∷ []) new)
+pub reads-more : (reads : List Key) (ws : Buffer) (q : Key) → is_among key_cmp (keys_of ws) q ≡ false → is_among key_cmp reads q ≡ false
+    → reads ++ q ∷ [] ≡ (if is_among key_cmp reads q || is_among key_cmp (keys_of ws) q then reads else reads ++ q ∷ [])
+reads-more reads ws q apart new = sym (ap (λ b. if is_among key_cmp reads q || b then reads else reads ++ q ∷ []) apart
+    ∙ ap (λ b. if b || false then reads else reads ++ q ∷ []) new)

@@ -27,7 +27,8 @@ stays : (bits hash at : ℕ) → bit_at bits at ≡ 1 → bit_at (with_bit bits 
 stays bits hash at is = bit_at_or bits (2 ^ bit_of hash) at ∙ set_at_most (bit_at bits at) (bit_at (2 ^ bit_of hash) at) is (bit_at-lt (2 ^ bit_of hash) at)
 
 own : (bits hash : ℕ) → bit_at (with_bit bits hash) (bit_of hash) ≡ 1
-own bits hash = bit_at_or bits (2 ^ bit_of hash) (bit_of hash) ∙ set_either (bit_at bits (bit_of hash)) (bit_at (2 ^ bit_of hash) (bit_of hash)) (bit_at-lt bits (bit_of hash)) (bit_at-pow_same (bit_of hash))
+own bits hash = bit_at_or bits (2 ^ bit_of hash) (bit_of hash)
+    ∙ set_either (bit_at bits (bit_of hash)) (bit_at (2 ^ bit_of hash) (bit_of hash)) (bit_at-lt bits (bit_of hash)) (bit_at-pow_same (bit_of hash))
 
 pub marked_more : (bits hash : ℕ) (keys : List Key) (k : Key) → hash ≡ hash_of k → AllMarked bits keys → AllMarked (with_bit bits hash) (keys ++ k ∷ [])
 marked_more bits hash [] k is all = (ap (λ h. bit_at (with_bit bits hash) (bit_of h)) (sym is) ∙ own bits hash, tt)
@@ -37,7 +38,8 @@ pub not_among : (bits : ℕ) (keys : List Key) (q : Key) → AllMarked bits keys
 not_among bits [] q all clear = refl
 not_among bits (x ∷ xs) q all clear =
     elim (eq_by_cmp key_cmp q x) as (λ b. eq_by_cmp key_cmp q x ≡ b → (b || is_among key_cmp xs q) ≡ false) [
-      | true ↦ λ tied. let one : bit_at bits (bit_of (hash_of q)) ≡ 1 = ap (λ k. bit_at bits (bit_of (hash_of k))) (same_key q x tied) ∙ all.0 in absurd (omega (arith, clear, one))
+      | true ↦ λ tied. let one : bit_at bits (bit_of (hash_of q)) ≡ 1 = ap (λ k. bit_at bits (bit_of (hash_of k))) (same_key q x tied)
+          ∙ all.0 in absurd (omega (arith, clear, one))
       | false ↦ λ _. not_among bits xs q all.1 clear
     ] refl
 
@@ -46,27 +48,34 @@ none_by : (found : Option (Option Cells)) → is_some found ≡ false → found 
 none_by None is = refl
 none_by (Some row) is = cc
 
-pub find_none : (bits hash : ℕ) (ws : Buffer) (q : Key) → hash ≡ hash_of q → AllMarked bits (keys_of ws) → bit_at bits (bit_of hash) ≡ 0 → fin.find key_cmp q ws ≡ None
-find_none bits hash ws q is all clear = let unset : bit_at bits (bit_of (hash_of q)) ≡ 0 = ap (λ h. bit_at bits (bit_of h)) (sym is) ∙ clear in none_by (fin.find key_cmp q ws) (entries.is_some-find key_cmp q ws ∙ not_among bits (keys_of ws) q all unset)
+pub find_none : (bits hash : ℕ) (ws : Buffer) (q : Key) → hash ≡ hash_of q → AllMarked bits (keys_of ws) → bit_at bits (bit_of hash) ≡ 0
+    → fin.find key_cmp q ws ≡ None
+find_none bits hash ws q is all clear = let unset : bit_at bits (bit_of (hash_of q)) ≡ 0 = ap (λ h. bit_at bits (bit_of h)) (sym is)
+    ∙ clear in none_by (fin.find key_cmp q ws) (entries.is_some-find key_cmp q ws ∙ not_among bits (keys_of ws) q all unset)
 
-pub placed : (ws : Buffer) (q : Key) (r : Option ℕ) → r ≡ position (is_write_of q) ws → MatchOption r (fin.find key_cmp q ws ≡ None) (λ i. position (is_write_of q) ws ≡ Some i)
+pub placed : (ws : Buffer) (q : Key) (r : Option ℕ) → r ≡ position (is_write_of q) ws
+    → MatchOption r (fin.find key_cmp q ws ≡ None) (λ i. position (is_write_of q) ws ≡ Some i)
 placed ws q None is = find-none ws q (sym is)
 placed ws q (Some i) is = sym is
 
-pub marked_more_rows : (bits hash : ℕ) (ws : Buffer) (k : Key) (row : Option Cells) → hash ≡ hash_of k → AllMarked bits (keys_of ws) → AllMarked (with_bit bits hash) (keys_of (ws ++ (k, row) ∷ []))
+pub marked_more_rows : (bits hash : ℕ) (ws : Buffer) (k : Key) (row : Option Cells) → hash ≡ hash_of k → AllMarked bits (keys_of ws)
+    → AllMarked (with_bit bits hash) (keys_of (ws ++ (k, row) ∷ []))
 marked_more_rows bits hash [] k row is all = marked_more bits hash [] k is all
 marked_more_rows bits hash (w ∷ ws) k row is all = (stays bits hash (bit_of (hash_of w.0)) all.0, marked_more_rows bits hash ws k row is all.1)
 
-marked_set : (bits : ℕ) (ws : Buffer) (i : ℕ) (row : Option Cells) (d : Key × Option Cells) → AllMarked bits (keys_of ws) → AllMarked bits (keys_of (slice_set ws i ((slice_index_or ws i d).0, row)))
+marked_set : (bits : ℕ) (ws : Buffer) (i : ℕ) (row : Option Cells) (d : Key × Option Cells) → AllMarked bits (keys_of ws)
+    → AllMarked bits (keys_of (slice_set ws i ((slice_index_or ws i d).0, row)))
 marked_set bits [] i row d all = all
 marked_set bits (w ∷ ws) zero row d all = all
 marked_set bits (w ∷ ws) (suc i) row d all = (all.0, marked_set bits ws i row d all.1)
 
-pub marked_set_at : (bits : ℕ) (ws : Buffer) (i : ℕ) (row : Option Cells) (old : Key × Option Cells) → old ≡ slice_index_or ws i old → AllMarked bits (keys_of ws) → AllMarked bits (keys_of (slice_set ws i (old.0, row)))
+pub marked_set_at : (bits : ℕ) (ws : Buffer) (i : ℕ) (row : Option Cells) (old : Key × Option Cells) → old ≡ slice_index_or ws i old
+    → AllMarked bits (keys_of ws) → AllMarked bits (keys_of (slice_set ws i (old.0, row)))
 marked_set_at bits ws i row old is all = subst (λ w. AllMarked bits (keys_of (slice_set ws i (w.0, row)))) (sym is) (marked_set bits ws i row old all)
 
 -- what is found at a place, and whether a key is written
-pub found_at : (ws : Buffer) (q : Key) (i : ℕ) (old : Key × Option Cells) → position (is_write_of q) ws ≡ Some i → old ≡ slice_index_or ws i old → Some old.1 ≡ fin.find key_cmp q ws
+pub found_at : (ws : Buffer) (q : Key) (i : ℕ) (old : Key × Option Cells) → position (is_write_of q) ws ≡ Some i → old ≡ slice_index_or ws i old
+    → Some old.1 ≡ fin.find key_cmp q ws
 found_at ws q i old some is = ap (λ w. Some w.1) is ∙ sym (find-at ws q i old (is_at-position ws q i old some))
 
 pub has-some : (ws : Buffer) (q : Key) (i : ℕ) → position (is_write_of q) ws ≡ Some i → true ≡ is_among key_cmp (keys_of ws) q

@@ -229,7 +229,8 @@ district-leaves s w d q differ g =
       (λ t. refl),
       each-append (Leaves (count q)) (customers ++ orders.0) names
           (each-append (Leaves (count q)) customers orders.0 (leaves-unseen q customers (unseen-customers s w d tax.1))
-          (each-weaker _ (Leaves (count q)) (λ r of. of-other (district_number w d) q (fact_of r) differ of) orders.0 (of-orders s w d places.0 s.customers places.1)))
+          (each-weaker _ (Leaves (count q)) (λ r of. of-other (district_number w d) q (fact_of r) differ of) orders.0
+          (of-orders s w d places.0 s.customers places.1)))
           (leaves-unseen q names (unseen-names s w d tax.1 (heads.names s))),
     )
 

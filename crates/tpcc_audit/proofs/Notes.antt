@@ -109,11 +109,16 @@ module _ (q : District) (told : List Fact) where
 
   by_kind : (f : Fact) → tally (filter_map (order_of q) told ++ found (order_of q f)) (filter_map (open_of q) told ++ found (open_of q f))
       (filter_map (due_of q) told ++ found (due_of q f)) (filter_map (line_of q) told ++ found (line_of q f)) ≡ counted f q (tally_of q told)
-  by_kind (fact.Warehouse row) = none-more (filter_map (order_of q) told) (filter_map (open_of q) told) (filter_map (due_of q) told) (filter_map (line_of q) told)
-  by_kind (fact.District row) = none-more (filter_map (order_of q) told) (filter_map (open_of q) told) (filter_map (due_of q) told) (filter_map (line_of q) told)
-  by_kind (fact.Open at order) = opened-more (same at q) (filter_map (order_of q) told) (filter_map (open_of q) told) (filter_map (due_of q) told) (filter_map (line_of q) told) order
-  by_kind (fact.Order at order lines) = order-more (same at q) (filter_map (order_of q) told) (filter_map (open_of q) told) (filter_map (due_of q) told) (filter_map (line_of q) told) order lines
-  by_kind (fact.Line at) = line-more (same at q) (filter_map (order_of q) told) (filter_map (open_of q) told) (filter_map (due_of q) told) (filter_map (line_of q) told) at
+  by_kind (fact.Warehouse row) = none-more (filter_map (order_of q) told) (filter_map (open_of q) told) (filter_map (due_of q) told)
+      (filter_map (line_of q) told)
+  by_kind (fact.District row) = none-more (filter_map (order_of q) told) (filter_map (open_of q) told) (filter_map (due_of q) told)
+      (filter_map (line_of q) told)
+  by_kind (fact.Open at order) = opened-more (same at q) (filter_map (order_of q) told) (filter_map (open_of q) told) (filter_map (due_of q) told)
+      (filter_map (line_of q) told) order
+  by_kind (fact.Order at order lines) = order-more (same at q) (filter_map (order_of q) told) (filter_map (open_of q) told) (filter_map (due_of q) told)
+      (filter_map (line_of q) told) order lines
+  by_kind (fact.Line at) = line-more (same at q) (filter_map (order_of q) told) (filter_map (open_of q) told) (filter_map (due_of q) told)
+      (filter_map (line_of q) told) at
   by_kind fact.Other = none-more (filter_map (order_of q) told) (filter_map (open_of q) told) (filter_map (due_of q) told) (filter_map (line_of q) told)
 
   pub tally-more : (f : Fact) → tally_of q (told ++ f ∷ []) ≡ counted f q (tally_of q told)

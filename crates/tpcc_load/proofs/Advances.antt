@@ -44,7 +44,8 @@ start-advances s g = (6, refl)
 
 pub order-advances : (s : Tpcc) (number : ℕ) → Advances (new_order s number)
 unfolding new_order
-order-advances s number g = past-trans g (order_start s g).1 _ (start-advances s g) (lines-advance s (order_start s g).0 (order_start s g).0.count (order_start s g).1)
+order-advances s number g = past-trans g (order_start s g).1 _ (start-advances s g)
+    (lines-advance s (order_start s g).0 (order_start s g).0.count (order_start s g).1)
 
 home-advances : (s : Tpcc) (w d : ℕ) → Advances (home s w d)
 home-advances s w d = advances-either (nat_lt 1 s.warehouses) _ _

@@ -70,9 +70,16 @@ district-laid s w d tax ranks places t0 t1 t2 t3 t4 g0 g1 g2 g3 g4 p1 q1 p2 q2 q
     ∙ ap (λ x. (laid x.0 (by_name ranks), x.1)) q4
     ∙ ap (λ x. (laid (laid t2 (drawn x).0) (by_name ranks), (drawn x).1)) p3
     ∙ (λ i. (laid (laid (q2 i) (drawn (mixed (p2 i))).0) (by_name (q3 i)), (drawn (mixed (p2 i))).1))
-    ∙ ap (λ t. (laid (laid (laid t (rows (people g1).0)) (drawn (mixed (people g1).1)).0) (by_name (map rank_of (people g1).0)), (drawn (mixed (people g1).1)).1)) q1
-    ∙ ap (λ t. (t, (drawn (mixed (people g1).1)).1)) (laid-four t0 (district_row s w d tax) (rows (people g1).0) (drawn (mixed (people g1).1)).0 (by_name (map rank_of (people g1).0)))
-    ∙ ap (λ a. (laid t0 (district_row s w d a.0 ∷ rows (people a.1).0 ++ (drawn (mixed (people a.1).1)).0 ++ by_name (map rank_of (people a.1).0)), (drawn (mixed (people a.1).1)).1)) p1
+    ∙ ap (λ t. (
+      laid (laid (laid t (rows (people g1).0)) (drawn (mixed (people g1).1)).0) (by_name (map rank_of (people g1).0)),
+      (drawn (mixed (people g1).1)).1,
+    )) q1
+    ∙ ap (λ t. (t, (drawn (mixed (people g1).1)).1)) (laid-four t0 (district_row s w d tax) (rows (people g1).0) (drawn (mixed (people g1).1)).0
+    (by_name (map rank_of (people g1).0)))
+    ∙ ap (λ a. (
+      laid t0 (district_row s w d a.0 ∷ rows (people a.1).0 ++ (drawn (mixed (people a.1).1)).0 ++ by_name (map rank_of (people a.1).0)),
+      (drawn (mixed (people a.1).1)).1,
+    )) p1
 
 pub warehouse-laid : (s : Tpcc) (w tax : ℕ) (t0 t1 t2 t3 : Database) (g0 g1 g2 g3 : Lcg)
     → (tax, g1) ≡ random 0 2000 g0 → t1 ≡ laid t0 (row_of table.warehouses (w ∷ []) (pos tax ∷ pos 30000000 ∷ []) ∷ [])

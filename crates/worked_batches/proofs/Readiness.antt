@@ -29,14 +29,17 @@ MayStand tables key (Some row) = Fits tables key row
 pub fit_nowhere : (tables : List Table) (db : Database) → db ≡ fin.empty → IsConsistent tables db
 fit_nowhere tables db e key row found = subst (MayStand tables key) (sym (fin.get-empty key_cmp key) ∙ sym (ap (λ (m : Database). fin.get m key) e) ∙ found) tt
 
-pub fit_with : (tables : List Table) (before after : Database) (k : Key) (row : Cells) → IsConsistent tables before → Fits tables k row → after ≡ fin.insert before k row
+pub fit_with : (tables : List Table) (before after : Database) (k : Key) (row : Cells) → IsConsistent tables before → Fits tables k row
+    → after ≡ fin.insert before k row
     → IsConsistent tables after
-fit_with tables before after k row c fits put q cells e = elim (eq_by_cmp key_cmp q k) as (λ b. eq_by_cmp key_cmp q k ≡ b → cond b (Some row) (fin.get before q) ≡ Some cells → Fits tables q cells) [
-  | true ↦ λ same e. subst (λ k. Fits tables k cells) (sym (same_key key_cmp-IsAntisymmetric q k same)) (subst (MayStand tables k) e fits)
-  | false ↦ λ other e. c q cells e
-] refl (sym (fin.get-insert key_cmp_total before k row q) ∙ sym (ap (λ (m : Database). fin.get m q) put) ∙ e)
+fit_with tables before after k row c fits put q cells e = elim (eq_by_cmp key_cmp q k) as (λ b. eq_by_cmp key_cmp q k ≡ b
+    → cond b (Some row) (fin.get before q) ≡ Some cells → Fits tables q cells) [
+      | true ↦ λ same e. subst (λ k. Fits tables k cells) (sym (same_key key_cmp-IsAntisymmetric q k same)) (subst (MayStand tables k) e fits)
+      | false ↦ λ other e. c q cells e
+    ] refl (sym (fin.get-insert key_cmp_total before k row q) ∙ sym (ap (λ (m : Database). fin.get m q) put) ∙ e)
 
-pub all_taken : (plan named : Plan) (calls slice : List Call) (taken : Bool) → taken ≡ list_all (takes named) slice → named ≡ plan → slice ≡ calls → taken ≡ true
+pub all_taken : (plan named : Plan) (calls slice : List Call) (taken : Bool) → taken ≡ list_all (takes named) slice → named ≡ plan → slice ≡ calls
+    → taken ≡ true
     → All (λ call. takes plan call ≡ true) calls
 all_taken plan named calls slice taken is p s holds = AllPass-from_list_all (takes plan) calls (sym (λ i. list_all (takes (p i)) (s i)) ∙ sym is ∙ holds)
 

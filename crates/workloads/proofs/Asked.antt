@@ -156,7 +156,8 @@ abbrev AreWithin : List Reader → Type 0
 AreWithin [] = ⊤
 AreWithin (r ∷ rs) = ((l : Line) (c : Command) → r.1 l ≡ Some c → IsWithinCommand c) × AreWithin rs
 
-mapped : {X : Type 0} (f : X → Command) (o : Option X) (c : Command) → ((x : X) → o ≡ Some x → IsWithinCommand (f x)) → option_map f o ≡ Some c → IsWithinCommand c
+mapped : {X : Type 0} (f : X → Command) (o : Option X) (c : Command) → ((x : X) → o ≡ Some x → IsWithinCommand (f x)) → option_map f o ≡ Some c
+    → IsWithinCommand c
 mapped f None c each e = cc
 mapped f (Some x) c each e = let it : f x ≡ c = cc in subst IsWithinCommand it (each x refl)
 

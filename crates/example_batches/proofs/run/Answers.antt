@@ -11,7 +11,8 @@ use Rattle.example_batches.proofs.run.Goals as goal
 
 -- no rows fit every catalogue
 none_fit : (plan : Plan) (rows : Database) → rows ≡ fin.empty → IsConsistent plan.tables rows
-none_fit plan rows e = subst (λ (db : Database). IsConsistent plan.tables db) (sym e) (λ key row found. absurd (let none = get-empty {X = Cells} key_cmp key in cc))
+none_fit plan rows e = subst (λ (db : Database). IsConsistent plan.tables db) (sym e)
+    (λ key row found. absurd (let none = get-empty {X = Cells} key_cmp key in cc))
 
 -- an engine without rows and requests is ready for its first batch
 ready_at_first : (plan : Plan) (rows : Database) (carried : List Request) → rows ≡ fin.empty → carried ≡ [] → IsReady plan rows carried 0 0

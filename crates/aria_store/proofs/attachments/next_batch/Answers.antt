@@ -12,4 +12,6 @@ returns-then-not-is_within c =
     let it : Checkpoint = checkpoint_in c.args.image.now in
     let says = subst (λ (o : Option Logged). IsThatBatch it c.args.bytes.now (option_map batch_in o)) c.in-Some.is c.in_ok-logged.ensures in
     past_bound it c.schema.ensures.catalog c.args.batches c.args.requests c.args.bytes.now (batch_in c.in-Some.logged) says
-    (λ within. let yes : IsTrue c.is_within.result = c.is_within.ensures.1 (rw c.len.ensures (subst (IsWithin c.args.batches c.args.requests) (sym c.in-Some.logged.calls.ok.0) within)) in grind (arith, yes, c.if-not-is_within.true))
+    (λ within. let yes : IsTrue c.is_within.result = c.is_within.ensures.1
+    (rw c.len.ensures (subst (IsWithin c.args.batches c.args.requests) (sym c.in-Some.logged.calls.ok.0) within)) in
+    grind (arith, yes, c.if-not-is_within.true))

@@ -11,8 +11,10 @@ use Rattle.aria_store.proofs.attachments.read_batches.Goals as goal
 pub loop-payload-preserved : goal.loop-payload-preserved
 loop-payload-preserved c =
     let it : Checkpoint = checkpoint_in c.args.image.now in
-    let next = subst (λ (o : Option Logged). IsNext it c.loop-payload.batches c.loop-payload.requests c.as_slice-bytes.result.now (option_map batch_in o)) c.in-Some.is c.in_ok-logged.ensures in
-    let follows = subst (λ (l : List ℕ). Follows it c.loop-payload.batches c.loop-payload.requests l (batch_in c.in-Some.logged)) c.as_slice-bytes.ensures next in
+    let next = subst (λ (o : Option Logged). IsNext it c.loop-payload.batches c.loop-payload.requests c.as_slice-bytes.result.now (option_map batch_in o))
+    c.in-Some.is c.in_ok-logged.ensures in
+    let follows = subst (λ (l : List ℕ). Follows it c.loop-payload.batches c.loop-payload.requests l (batch_in c.in-Some.logged)) c.as_slice-bytes.ensures
+    next in
     let pushed : batches_in c.push.new.self.items ≡ batches_in c.loop-payload.later.items ++ batch_in c.in-Some.logged ∷ [] =
     ap batches_in c.in_ok-push.ensures.items ∙ map-append batch_in c.loop-payload.later.items (c.in-Some.logged ∷ []) in
     rw c.len.ensures (rw c.in-Some.logged.calls.ok.0

@@ -25,7 +25,8 @@ returns-in_err-later-clause-refused g c =
     let a = g.D.Disk.history c.args.disk.now in
     let z = g.D.Disk.history c.scan.new.disk in
     let it = checkpoint_in c.args.image.now in
-    let log = subst (λ (l : List Payload). IfSome (current a (2 + c.args.slot)) (λ f. log_of f.seen ≡ Ends l c.in_ok-payloads.end.at)) (sym c.as_slice.ensures.value) c.in_ok-payloads.ensures.log in
+    let log = subst (λ (l : List Payload). IfSome (current a (2 + c.args.slot)) (λ f. log_of f.seen ≡ Ends l c.in_ok-payloads.end.at))
+    (sym c.as_slice.ensures.value) c.in_ok-payloads.ensures.log in
     let cause : LaterCause it a z c.args.slot c.in_err-later.field-0.0 =
     batches_refused it a z c.args.slot c.as_slice.result.now c.in_ok-payloads.end.at c.in_err-later.field-0.0 log c.in_err-later.ensures.refused in
     search rules
@@ -36,6 +37,7 @@ returns-clause-later g c =
     record {
       payloads = c.in_ok-payloads.payloads.items;
       log = c.in_ok-payloads.ensures.log;
-      are = subst (λ (l : List Payload). AreBatches it it.head.batches it.head.requests l (batches_in c.in_ok-later.later.items)) c.as_slice.ensures.value c.in_ok-later.ensures.batches;
+      are = subst (λ (l : List Payload). AreBatches it it.head.batches it.head.requests l (batches_in c.in_ok-later.later.items)) c.as_slice.ensures.value
+          c.in_ok-later.ensures.batches;
       many = c.in_ok-payloads.ensures.end.1;
     }

@@ -5,11 +5,13 @@ use Rattle.aria_store.proofs.attachments.settings_after.Goals as goal
 
 pub returns-in-Some-clause-rule : goal.returns-in-Some-clause-rule
 returns-in-Some-clause-rule c =
-    sym (settings_last c.args.later.now c.in-Some.logged.now (sym c.last.ensures.value ∙ ap option_copied c.in-Some.is) c.args.image.now.rule c.args.image.now.fallback).0
+    sym (settings_last c.args.later.now c.in-Some.logged.now (sym c.last.ensures.value ∙ ap option_copied c.in-Some.is) c.args.image.now.rule
+    c.args.image.now.fallback).0
 
 pub returns-in-Some-clause-fallback : goal.returns-in-Some-clause-fallback
 returns-in-Some-clause-fallback c =
-    sym (settings_last c.args.later.now c.in-Some.logged.now (sym c.last.ensures.value ∙ ap option_copied c.in-Some.is) c.args.image.now.rule c.args.image.now.fallback).1
+    sym (settings_last c.args.later.now c.in-Some.logged.now (sym c.last.ensures.value ∙ ap option_copied c.in-Some.is) c.args.image.now.rule
+    c.args.image.now.fallback).1
 
 pub returns-in-None-clause-rule : goal.returns-in-None-clause-rule
 returns-in-None-clause-rule c =

@@ -5,12 +5,14 @@ use Rattle.aria_top.proofs.stores.run_batches.Goals as goal
 
 pub returns-in-Ok-clause-answered : goal.returns-in-Ok-clause-answered
 returns-in-Ok-clause-answered g c images found reads reopens is_answered =
-    over_answered c.args.settings.now (g.S.Source.left c.args.input.now) (g.S.Source.left c.run.new.input) (g.K.Sink.given c.args.out.now) (g.K.Sink.given c.run.new.out) (opened images found) c.in-Ok.status
+    over_answered c.args.settings.now (g.S.Source.left c.args.input.now) (g.S.Source.left c.run.new.input) (g.K.Sink.given c.args.out.now)
+    (g.K.Sink.given c.run.new.out) (opened images found) c.in-Ok.status
     (c.in-Ok.ensures.completes images found reads reopens)
 
 pub returns-in-Ok-clause-front : goal.returns-in-Ok-clause-front
 returns-in-Ok-clause-front g c images found reads reopens =
-    over_front c.args.settings.now (g.S.Source.left c.args.input.now) (g.S.Source.left c.run.new.input) (g.K.Sink.given c.args.out.now) (g.K.Sink.given c.run.new.out) (opened images found) c.in-Ok.status
+    over_front c.args.settings.now (g.S.Source.left c.args.input.now) (g.S.Source.left c.run.new.input) (g.K.Sink.given c.args.out.now)
+    (g.K.Sink.given c.run.new.out) (opened images found) c.in-Ok.status
     (c.in-Ok.ensures.completes images found reads reopens)
 
 pub returns-in-Ok-clause-leaves : goal.returns-in-Ok-clause-leaves
@@ -21,17 +23,20 @@ returns-in-Ok-clause-leaves g c images found reads reopens = record {
 
 pub returns-in-Err-clause-answered : goal.returns-in-Err-clause-answered
 returns-in-Err-clause-answered g c images found reads reopens is_answered =
-    over_cut c.args.settings.now (g.S.Source.left c.args.input.now) (g.S.Source.left c.run.new.input) (g.K.Sink.given c.args.out.now) (g.K.Sink.given c.run.new.out) (opened images found) c.in-Err.stop c.status.result
+    over_cut c.args.settings.now (g.S.Source.left c.args.input.now) (g.S.Source.left c.run.new.input) (g.K.Sink.given c.args.out.now)
+    (g.K.Sink.given c.run.new.out) (opened images found) c.in-Err.stop c.status.result
     c.status.ensures (c.in-Err.ensures.completes images found reads reopens) is_answered
 
 pub returns-in-Err-clause-front : goal.returns-in-Err-clause-front
 returns-in-Err-clause-front g c images found reads reopens =
-    over_cut_front c.args.settings.now (g.S.Source.left c.args.input.now) (g.S.Source.left c.run.new.input) (g.K.Sink.given c.args.out.now) (g.K.Sink.given c.run.new.out) (opened images found) c.in-Err.stop
+    over_cut_front c.args.settings.now (g.S.Source.left c.args.input.now) (g.S.Source.left c.run.new.input) (g.K.Sink.given c.args.out.now)
+    (g.K.Sink.given c.run.new.out) (opened images found) c.in-Err.stop
     (c.in-Err.ensures.completes images found reads reopens)
 
 pub returns-in-Err-clause-told : goal.returns-in-Err-clause-told
 returns-in-Err-clause-told g c images found reads reopens failed =
-    over_told c.args.settings.now (g.S.Source.left c.args.input.now) (g.S.Source.left c.run.new.input) (g.K.Sink.given c.args.out.now) (g.K.Sink.given c.run.new.out) (opened images found) c.in-Err.stop c.status.result
+    over_told c.args.settings.now (g.S.Source.left c.args.input.now) (g.S.Source.left c.run.new.input) (g.K.Sink.given c.args.out.now)
+    (g.K.Sink.given c.run.new.out) (opened images found) c.in-Err.stop c.status.result
     c.status.ensures (c.in-Err.ensures.completes images found reads reopens) failed
 
 pub returns-in-Err-clause-leaves : goal.returns-in-Err-clause-leaves

@@ -8,40 +8,50 @@ use Rattle.aria_top.proofs.stores.run_init.Goals as goal
 
 pub returns-in-Ok-clause-answered : goal.returns-in-Ok-clause-answered
 returns-in-Ok-clause-answered g c images reads is_answered =
-    answered_end (out_of c.args.settings.now (is_taken images)) (g.S.Source.left c.args.input.now) (g.K.Sink.given c.args.out.now) (g.K.Sink.given c.init.new.out) c.in-Ok.status
-    (init_completes (g.D.Disk.history c.args.disk.now) images reads c.args.settings.now (g.D.Disk.history c.init.new.disk) (g.S.Source.left c.args.input.now) (g.S.Source.left c.init.new.input)
+    answered_end (out_of c.args.settings.now (is_taken images)) (g.S.Source.left c.args.input.now) (g.K.Sink.given c.args.out.now)
+    (g.K.Sink.given c.init.new.out) c.in-Ok.status
+    (init_completes (g.D.Disk.history c.args.disk.now) images reads c.args.settings.now (g.D.Disk.history c.init.new.disk) (g.S.Source.left c.args.input.now)
+    (g.S.Source.left c.init.new.input)
     (g.K.Sink.given c.args.out.now) (g.K.Sink.given c.init.new.out) (Ok c.in-Ok.status) c.in-Ok.ensures.inits).0
 
 pub returns-in-Ok-clause-front : goal.returns-in-Ok-clause-front
 returns-in-Ok-clause-front g c images reads =
-    front_end (out_of c.args.settings.now (is_taken images)) (g.S.Source.left c.args.input.now) (g.K.Sink.given c.args.out.now) (g.K.Sink.given c.init.new.out) c.in-Ok.status
-    (init_completes (g.D.Disk.history c.args.disk.now) images reads c.args.settings.now (g.D.Disk.history c.init.new.disk) (g.S.Source.left c.args.input.now) (g.S.Source.left c.init.new.input)
+    front_end (out_of c.args.settings.now (is_taken images)) (g.S.Source.left c.args.input.now) (g.K.Sink.given c.args.out.now)
+    (g.K.Sink.given c.init.new.out) c.in-Ok.status
+    (init_completes (g.D.Disk.history c.args.disk.now) images reads c.args.settings.now (g.D.Disk.history c.init.new.disk) (g.S.Source.left c.args.input.now)
+    (g.S.Source.left c.init.new.input)
     (g.K.Sink.given c.args.out.now) (g.K.Sink.given c.init.new.out) (Ok c.in-Ok.status) c.in-Ok.ensures.inits).0
 
 pub returns-in-Ok-clause-leaves : goal.returns-in-Ok-clause-leaves
 returns-in-Ok-clause-leaves g c images reads = record {
   refused = λ unmade. unmade_ok g.D.Disk.history c.args.disk.now c.init.new.disk c.in-Ok.status c.in-Ok.ensures.leaves c.in-Ok.ensures.status unmade;
-  unmade = init_unmade (g.D.Disk.history c.args.disk.now) images reads c.args.settings.now (g.D.Disk.history c.init.new.disk) (g.S.Source.left c.args.input.now) (g.S.Source.left c.init.new.input)
+  unmade = init_unmade (g.D.Disk.history c.args.disk.now) images reads c.args.settings.now (g.D.Disk.history c.init.new.disk)
+      (g.S.Source.left c.args.input.now) (g.S.Source.left c.init.new.input)
       (g.K.Sink.given c.args.out.now) (g.K.Sink.given c.init.new.out) (Ok c.in-Ok.status) c.in-Ok.ensures.inits;
   made = λ done. c.in-Ok.ensures.made (ap (λ (n : ℕ). Ok n) done);
 }
 
 pub returns-in-Err-clause-answered : goal.returns-in-Err-clause-answered
 returns-in-Err-clause-answered g c images reads is_answered =
-    answered_cut (out_of c.args.settings.now (is_taken images)) (g.S.Source.left c.args.input.now) (g.K.Sink.given c.args.out.now) (g.K.Sink.given c.init.new.out) c.in-Err.stop c.status.result c.status.ensures
-    (init_completes (g.D.Disk.history c.args.disk.now) images reads c.args.settings.now (g.D.Disk.history c.init.new.disk) (g.S.Source.left c.args.input.now) (g.S.Source.left c.init.new.input)
+    answered_cut (out_of c.args.settings.now (is_taken images)) (g.S.Source.left c.args.input.now) (g.K.Sink.given c.args.out.now)
+    (g.K.Sink.given c.init.new.out) c.in-Err.stop c.status.result c.status.ensures
+    (init_completes (g.D.Disk.history c.args.disk.now) images reads c.args.settings.now (g.D.Disk.history c.init.new.disk) (g.S.Source.left c.args.input.now)
+    (g.S.Source.left c.init.new.input)
     (g.K.Sink.given c.args.out.now) (g.K.Sink.given c.init.new.out) (Err c.in-Err.stop) c.in-Err.ensures.inits).0 is_answered
 
 pub returns-in-Err-clause-front : goal.returns-in-Err-clause-front
 returns-in-Err-clause-front g c images reads =
-    front_cut (out_of c.args.settings.now (is_taken images)) (g.S.Source.left c.args.input.now) (g.K.Sink.given c.args.out.now) (g.K.Sink.given c.init.new.out) c.in-Err.stop
-    (init_completes (g.D.Disk.history c.args.disk.now) images reads c.args.settings.now (g.D.Disk.history c.init.new.disk) (g.S.Source.left c.args.input.now) (g.S.Source.left c.init.new.input)
+    front_cut (out_of c.args.settings.now (is_taken images)) (g.S.Source.left c.args.input.now) (g.K.Sink.given c.args.out.now)
+    (g.K.Sink.given c.init.new.out) c.in-Err.stop
+    (init_completes (g.D.Disk.history c.args.disk.now) images reads c.args.settings.now (g.D.Disk.history c.init.new.disk) (g.S.Source.left c.args.input.now)
+    (g.S.Source.left c.init.new.input)
     (g.K.Sink.given c.args.out.now) (g.K.Sink.given c.init.new.out) (Err c.in-Err.stop) c.in-Err.ensures.inits).0
 
 pub returns-in-Err-clause-leaves : goal.returns-in-Err-clause-leaves
 returns-in-Err-clause-leaves g c images reads = record {
   refused = λ unmade. unmade_cut g.D.Disk.history c.args.disk.now c.init.new.disk c.in-Err.stop c.status.result c.status.ensures c.in-Err.ensures.leaves unmade;
-  unmade = init_unmade (g.D.Disk.history c.args.disk.now) images reads c.args.settings.now (g.D.Disk.history c.init.new.disk) (g.S.Source.left c.args.input.now) (g.S.Source.left c.init.new.input)
+  unmade = init_unmade (g.D.Disk.history c.args.disk.now) images reads c.args.settings.now (g.D.Disk.history c.init.new.disk)
+      (g.S.Source.left c.args.input.now) (g.S.Source.left c.init.new.input)
       (g.K.Sink.given c.args.out.now) (g.K.Sink.given c.init.new.out) (Err c.in-Err.stop) c.in-Err.ensures.inits;
   made = λ done. absurd (never_done c.in-Err.stop c.status.result c.status.ensures done);
 }

@@ -43,13 +43,15 @@ returns-in-Run-clause-front g c images found sees =
 pub returns-in-Run-clause-told : goal.returns-in-Run-clause-told
 returns-in-Run-clause-told g c images found sees failed =
     let seen = subst (λ (t : Task). Sees (Some t) (g.D.Disk.history c.args.disk.now) images found) c.in-Run.is sees in
-    subst (λ (t : Task). IsToldFor (Some t) images found (g.S.Source.left c.args.input.now) (g.S.Source.left c.run_batches.new.input) (g.K.Sink.given c.args.out.now) (g.K.Sink.given c.run_batches.new.out))
+    subst (λ (t : Task). IsToldFor (Some t) images found (g.S.Source.left c.args.input.now) (g.S.Source.left c.run_batches.new.input)
+    (g.K.Sink.given c.args.out.now) (g.K.Sink.given c.run_batches.new.out))
     (sym c.in-Run.is) (c.run_batches.ensures.told images found seen.0 seen.1 failed)
 
 pub returns-in-Run-clause-leaves : goal.returns-in-Run-clause-leaves
 returns-in-Run-clause-leaves g c images found sees =
     let seen = subst (λ (t : Task). Sees (Some t) (g.D.Disk.history c.args.disk.now) images found) c.in-Run.is sees in
-    subst (λ (t : Task). LeavesDisk (Some t) images found (g.S.Source.left c.args.input.now) (g.D.Disk.history c.args.disk.now) (g.D.Disk.history c.run_batches.new.disk) (g.K.Sink.given c.args.out.now)
+    subst (λ (t : Task). LeavesDisk (Some t) images found (g.S.Source.left c.args.input.now) (g.D.Disk.history c.args.disk.now)
+    (g.D.Disk.history c.run_batches.new.disk) (g.K.Sink.given c.args.out.now)
     (g.K.Sink.given c.run_batches.new.out) c.run_batches.result) (sym c.in-Run.is) (c.run_batches.ensures.leaves images found seen.0 seen.1)
 
 pub returns-in-Replay-clause-answered : goal.returns-in-Replay-clause-answered

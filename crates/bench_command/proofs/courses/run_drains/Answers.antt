@@ -38,5 +38,6 @@ loop-preserved g c =
       stands = subst (λ (p : Plan). Stands p c.in_ok-turn.turn) c.loop.invariant.stands.plan c.in_ok-turn.ensures.stands;
       past = omega (arith, batches, c.loop.invariant.past);
       left = omega (arith, less, waiting, c.loop.invariant.left);
-      leads = drain_leads c.args.start c.loop.turn c.in_ok-turn.turn _ plan all c.loop.counter within some c.loop.invariant.stands.plan c.in_ok-turn.ensures.behind c.loop.invariant.leads;
+      leads = drain_leads c.args.start c.loop.turn c.in_ok-turn.turn _ plan all c.loop.counter within some c.loop.invariant.stands.plan
+          c.in_ok-turn.ensures.behind c.loop.invariant.leads;
     }

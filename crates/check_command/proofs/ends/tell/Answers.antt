@@ -7,7 +7,8 @@ use Rattle.check_command.proofs.ends.tell.Goals as goal
 
 pub returns-in-Holds-clause-finishes : goal.returns-in-Holds-clause-finishes
 returns-in-Holds-clause-finishes g c =
-    subst (λ (f : Finding). Finishes (out_of_finding c.args.ends.now f) (g.K.Sink.given c.args.out.now) (g.K.Sink.given c.end_with.new.out) c.end_with.result) (sym c.in-Holds.is) c.end_with.ensures.finishes
+    subst (λ (f : Finding). Finishes (out_of_finding c.args.ends.now f) (g.K.Sink.given c.args.out.now) (g.K.Sink.given c.end_with.new.out) c.end_with.result)
+    (sym c.in-Holds.is) c.end_with.ensures.finishes
 
 pub returns-in-Ok-clause-finishes : goal.returns-in-Ok-clause-finishes
 returns-in-Ok-clause-finishes g c =

@@ -14,5 +14,6 @@ gather-requires-sync-T g c κs within = search (request.the_sync, snapshot.the_s
 
 pub returns : goal.returns
 returns g c =
-    all_as_map (ComesTo (outcome_at (run_of c.args.catalog.now) c.args.snapshot) c.args.list.now) (outcome_at (run_of c.args.catalog.now) c.args.snapshot) c.args.list.now (λ v. v.items) c.gather.result
+    all_as_map (ComesTo (outcome_at (run_of c.args.catalog.now) c.args.snapshot) c.args.list.now) (outcome_at (run_of c.args.catalog.now) c.args.snapshot)
+    c.args.list.now (λ v. v.items) c.gather.result
     (λ place output d gives. gives d) c.gather.ensures

@@ -13,7 +13,8 @@ loop-past-init g c =
     let all : c.args.amount.batches - 0 ≡ c.args.amount.batches = omega arith in
     record {
       sink = omega arith;
-      leads = leads_same _ _ (g.K.Sink.given c.args.out.now) (ap (λ n. from it size 1 n c.draws-draws.result) all ∙ ap (from it size 1 c.args.amount.batches) c.draws-draws.ensures);
+      leads = leads_same _ _ (g.K.Sink.given c.args.out.now) (ap (λ n. from it size 1 n c.draws-draws.result) all
+          ∙ ap (from it size 1 c.args.amount.batches) c.draws-draws.ensures);
     }
 
 pub loop-past-preserved : goal.loop-past-preserved

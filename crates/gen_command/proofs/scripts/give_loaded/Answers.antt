@@ -15,7 +15,8 @@ pub returns-in_err-give_catalog-clause-gives : goal.returns-in_err-give_catalog-
 returns-in_err-give_catalog-clause-gives g c =
     let it = c.args.generator.now in
     let p = err_from_is_err_and c.from_residual.result c.from_residual.ensures.1 in
-    rw p.1 (front_longer (g.K.Sink.given c.args.out.now) (g.K.Sink.given c.give_catalog.new.out) (catalog_text it) (rows_text it) c.in_err-give_catalog.ensures.gives)
+    rw p.1 (front_longer (g.K.Sink.given c.args.out.now) (g.K.Sink.given c.give_catalog.new.out) (catalog_text it)
+    (rows_text it) c.in_err-give_catalog.ensures.gives)
 
 pub returns-clause-gives : goal.returns-clause-gives
 returns-clause-gives g c =

@@ -16,5 +16,6 @@ pub returns-clause-gives : goal.returns-clause-gives
 returns-clause-gives g c =
     let it = c.args.generator.now in
     let batches = batches_text (plan_of it).procs 1 (calls_of it c.args.amount.size c.args.amount.batches) in
-    gives_behind (g.K.Sink.given c.args.out.now) (g.K.Sink.given c.give_head.new.out) (g.K.Sink.given c.give_batches.new.out) c.give_batches.result (head_text it) batches
+    gives_behind (g.K.Sink.given c.args.out.now) (g.K.Sink.given c.give_head.new.out) (g.K.Sink.given c.give_batches.new.out) c.give_batches.result
+    (head_text it) batches
     c.in_ok-catalog.ensures.gives c.give_batches.ensures.gives

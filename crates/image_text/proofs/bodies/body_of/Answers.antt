@@ -8,11 +8,13 @@ pub returns-clause-text : goal.returns-clause-text
 returns-clause-text c =
     let rows = ap (λ l. map deref_pair l) c.as_slice.ensures.value ∙ c.in_ok-rows.ensures in
     let front = c.in_ok-append_front.ensures.text ∙ ap (λ (l : List ℕ). l ++ front_text c.args.catalog.now) c.new-body.ensures.items in
-    body_joined deref_pair c.args.catalog.now c.args.tables.now c.args.held.now _ _ _ _ rows front c.in_ok-append_rows.ensures.text c.in_ok-append_requests.ensures.text
+    body_joined deref_pair c.args.catalog.now c.args.tables.now c.args.held.now _ _ _ _ rows front c.in_ok-append_rows.ensures.text
+    c.in_ok-append_requests.ensures.text
 
 pub returns-clause-again : goal.returns-clause-again
 returns-clause-again c =
     let rows = ap (λ l. map deref_pair l) c.as_slice.ensures.value ∙ c.in_ok-rows.ensures in
     let held = rows_held deref_pair c.args.tables.now _ rows c.in_ok-append_rows.ensures.held in
     let front = c.in_ok-append_front.ensures in
-    body_written _ (c.args.catalog.now, c.args.tables.now, c.args.held.now) (returns-clause-text c) front.catalog front.told c.requires.rows c.requires.calls held c.in_ok-append_requests.ensures.args
+    body_written _ (c.args.catalog.now, c.args.tables.now, c.args.held.now) (returns-clause-text c) front.catalog front.told c.requires.rows c.requires.calls
+    held c.in_ok-append_requests.ensures.args

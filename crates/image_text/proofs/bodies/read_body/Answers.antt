@@ -6,7 +6,8 @@ returns-in_default-clause-values c = no_front _ (rw c.in_default.is at c.in_ok-c
 
 pub returns-in_default-2-clause-values : goal.returns-in_default-2-clause-values
 returns-in_default-2-clause-values c =
-    no_rest c.args.bytes.now c.in-Some.rest.now c.in-Some.catalog (rw c.in-Some.is at c.in_ok-catalog.ensures.front) (rw c.in_default-2.is at c.in_ok-tables.ensures.rest)
+    no_rest c.args.bytes.now c.in-Some.rest.now c.in-Some.catalog (rw c.in-Some.is at c.in_ok-catalog.ensures.front)
+    (rw c.in_default-2.is at c.in_ok-tables.ensures.rest)
 
 pub returns-clause-values : goal.returns-clause-values
 returns-clause-values c =

@@ -7,4 +7,5 @@ use Rattle.image_text.proofs.fronts.append_front.Goals as goal
 pub returns-clause-text : goal.returns-clause-text
 returns-clause-text c =
     let text = c.as_slice.ensures.value ∙ c.in_ok-text.ensures.text in
-    on_ok_weaker c.append_pieces.result (λ pieces. front_written _ _ _ c.args.catalog.now c.in_ok-extend_from_slice.ensures.items (pieces ∙ ap (λ l. c.extend_from_slice.new.self.items ++ pieces_text l) text)) c.append_pieces.ensures
+    on_ok_weaker c.append_pieces.result (λ pieces. front_written _ _ _ c.args.catalog.now c.in_ok-extend_from_slice.ensures.items (pieces
+    ∙ ap (λ l. c.extend_from_slice.new.self.items ++ pieces_text l) text)) c.append_pieces.ensures

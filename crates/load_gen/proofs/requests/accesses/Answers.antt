@@ -26,14 +26,16 @@ returns-in_err-access-clause-further c =
     let s = c.args.settings.now in
     let g = c.args.draws.now in
     let at = c.in_err-access.ensures.past ∙ ap (λ g. (access s g).1) c.loop.invariant.1 in
-    subst (IsPast g) (sym at) (past-trans g (times c.loop.counter (access s) g).1 _ (advances-times c.loop.counter (access s) (advances-access s) g) (advances-access s _))
+    subst (IsPast g) (sym at) (past-trans g (times c.loop.counter (access s) g).1 _ (advances-times c.loop.counter (access s) (advances-access s) g)
+    (advances-access s _))
 
 pub returns-in_err-push-clause-further : goal.returns-in_err-push-clause-further
 returns-in_err-push-clause-further c =
     let s = c.args.settings.now in
     let g = c.args.draws.now in
     let at = c.in_ok-access.ensures.past ∙ ap (λ g. (access s g).1) c.loop.invariant.1 in
-    subst (IsPast g) (sym at) (past-trans g (times c.loop.counter (access s) g).1 _ (advances-times c.loop.counter (access s) (advances-access s) g) (advances-access s _))
+    subst (IsPast g) (sym at) (past-trans g (times c.loop.counter (access s) g).1 _ (advances-times c.loop.counter (access s) (advances-access s) g)
+    (advances-access s _))
 
 pub returns-clause-further : goal.returns-clause-further
 returns-clause-further c =

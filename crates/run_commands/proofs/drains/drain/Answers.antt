@@ -49,7 +49,8 @@ returns-then-waiting-eq0-clause-keeps g c = λ first d end h.
     let now = g.K.Sink.given c.loop.out in
     let n = length (state_of c.args.start).waiting in
     c.loop.invariant.keeps first d end h disk now
-    (keeps_here c.args.start c.loop.live c.args.line n c.loop.counter d end c.loop.invariant.like first (replicate (n - c.loop.counter) Drain) disk now (c.loop.invariant.holds first h))
+    (keeps_here c.args.start c.loop.live c.args.line n c.loop.counter d end c.loop.invariant.like first (replicate (n - c.loop.counter) Drain) disk now
+    (c.loop.invariant.holds first h))
 
 pub returns-then-waiting-eq0-clause-held : goal.returns-then-waiting-eq0-clause-held
 returns-then-waiting-eq0-clause-held g c = λ d end.
@@ -63,7 +64,8 @@ returns-clause-keeps g c = λ first d end h.
     let now = g.K.Sink.given c.loop.out in
     let n = length (state_of c.args.start).waiting in
     c.loop.invariant.keeps first d end h disk now
-    (keeps_here c.args.start c.loop.live c.args.line n c.loop.counter d end c.loop.invariant.like first (replicate (n - c.loop.counter) Drain) disk now (c.loop.invariant.holds first h))
+    (keeps_here c.args.start c.loop.live c.args.line n c.loop.counter d end c.loop.invariant.like first (replicate (n - c.loop.counter) Drain) disk now
+    (c.loop.invariant.holds first h))
 
 pub returns-clause-held : goal.returns-clause-held
 returns-clause-held g c = λ d end.
@@ -80,7 +82,8 @@ returns-in-Err-clause-serves g c =
     let within : c.loop.counter < length (state_of c.args.start).waiting = omega (arith, c.loop-test.true, c.waiting-end.ensures) in
     let new = g.K.Sink.given c.drain_one.new.out in
     c.loop.invariant.leads new (Err c.in-Err.stop)
-    (next_cut c.args.start c.loop.live c.args.line (length (state_of c.args.start).waiting) c.loop.counter c.loop.invariant.like within some (g.K.Sink.given c.loop.out) new c.in-Err.stop c.in-Err.ensures.serves)
+    (next_cut c.args.start c.loop.live c.args.line (length (state_of c.args.start).waiting) c.loop.counter c.loop.invariant.like within some
+    (g.K.Sink.given c.loop.out) new c.in-Err.stop c.in-Err.ensures.serves)
 
 pub returns-in-Err-clause-keeps : goal.returns-in-Err-clause-keeps
 returns-in-Err-clause-keeps g c = λ first d end h.
@@ -92,9 +95,11 @@ returns-in-Err-clause-keeps g c = λ first d end h.
     let new = g.K.Sink.given c.drain_one.new.out in
     let here : Doing = record d { state = state_of c.loop.live } in
     let held = c.loop.invariant.holds first h in
-    let one = c.drain_one.ensures.keeps held.c held.later here (here_end c.args.start c.loop.live c.args.line n c.loop.counter d end c.loop.invariant.like) held.holds in
+    let one = c.drain_one.ensures.keeps held.c held.later here (here_end c.args.start c.loop.live c.args.line n c.loop.counter d end c.loop.invariant.like)
+    held.holds in
     c.loop.invariant.keeps first d end h (g.D.Disk.history c.drain_one.new.disk) new
-    (keeps_stop c.args.start c.loop.live c.args.line n c.loop.counter d end c.loop.invariant.like within some (g.D.Disk.history c.loop.disk) (g.D.Disk.history c.drain_one.new.disk) now new one)
+    (keeps_stop c.args.start c.loop.live c.args.line n c.loop.counter d end c.loop.invariant.like within some (g.D.Disk.history c.loop.disk)
+    (g.D.Disk.history c.drain_one.new.disk) now new one)
 
 pub returns-in-Err-clause-refused : goal.returns-in-Err-clause-refused
 returns-in-Err-clause-refused g c = λ first d end h e.
@@ -110,14 +115,17 @@ returns-in-Err-clause-refused g c = λ first d end h e.
     let held : stored_state live ≡ held_behind (drains_of (state_of c.args.start)) d (stored_state c.args.start) =
     sym (held_refused c.args.start live c.args.line n c.loop.counter d end c.loop.invariant.like within some now new stopped) ∙ c.loop.invariant.held d end in
     let disk : g.D.Disk.history c.loop.disk ≡ g.D.Disk.history c.drain_one.new.disk = ap g.D.Disk.history (sym (c.in-Err.ensures.refused e)) in
-    subst (λ (q : History). LeavesLaid first c.args.start.checkpoint q (plan_of c.args.start) (held_behind (drains_of (state_of c.args.start)) d (stored_state c.args.start))) disk
+    subst (λ (q : History). LeavesLaid first c.args.start.checkpoint q (plan_of c.args.start)
+    (held_behind (drains_of (state_of c.args.start)) d (stored_state c.args.start))) disk
     (subst (λ (s : State). LeavesLaid first c.args.start.checkpoint (g.D.Disk.history c.loop.disk) (plan_of c.args.start) s) held
     (laid_here first c.args.start live (g.D.Disk.history c.loop.disk) c.loop.invariant.like (c.loop.invariant.holds first h)))
 
 pub returns-in-Err-clause-cause : goal.returns-in-Err-clause-cause
 returns-in-Err-clause-cause g c =
-    cause_on c.args.start.store c.loop.live.store c.in-Err.stop (g.K.Sink.faults c.args.out.now) (g.K.Sink.faults c.loop.out) (g.K.Sink.faults c.drain_one.new.out)
-    (g.D.Disk.history c.args.disk.now).faults (g.D.Disk.history c.loop.disk).faults (g.D.Disk.history c.drain_one.new.disk).faults c.loop.invariant.store c.loop.invariant.sink c.loop.invariant.disk
+    cause_on c.args.start.store c.loop.live.store c.in-Err.stop (g.K.Sink.faults c.args.out.now) (g.K.Sink.faults c.loop.out)
+    (g.K.Sink.faults c.drain_one.new.out)
+    (g.D.Disk.history c.args.disk.now).faults (g.D.Disk.history c.loop.disk).faults (g.D.Disk.history c.drain_one.new.disk).faults c.loop.invariant.store
+    c.loop.invariant.sink c.loop.invariant.disk
     c.in-Err.ensures.cause
 
 -- ---- a batch more
@@ -140,16 +148,20 @@ loop-preserved g c =
       logging = c.in-Ok.ensures.logging;
       left = omega (arith, c.in-Ok.ensures.fewer, c.loop.invariant.left);
       leads = λ q result h. c.loop.invariant.leads q result
-          (next_leads c.args.start live c.args.line n c.loop.counter c.loop.invariant.like within some (state_of c.in-Ok.next) now new c.in-Ok.ensures.serves q result h);
+          (next_leads c.args.start live c.args.line n c.loop.counter c.loop.invariant.like within some (state_of c.in-Ok.next) now new c.in-Ok.ensures.serves q
+          result h);
       holds = λ first h. c.in-Ok.ensures.holds first (c.loop.invariant.holds first h);
       held = λ d end.
-          held_next c.args.start live c.args.line n c.loop.counter d end c.loop.invariant.like within some c.in-Ok.next now new c.in-Ok.ensures.counted c.in-Ok.ensures.told c.in-Ok.ensures.serves
+          held_next c.args.start live c.args.line n c.loop.counter d end c.loop.invariant.like within some c.in-Ok.next now new c.in-Ok.ensures.counted
+          c.in-Ok.ensures.told c.in-Ok.ensures.serves
           ∙ c.loop.invariant.held d end;
       keeps = λ first d end h last given rest.
           let here : Doing = record d { state = state_of live } in
           let held = c.loop.invariant.holds first h in
-          let one = c.drain_one.ensures.keeps held.c held.later here (here_end c.args.start live c.args.line n c.loop.counter d end c.loop.invariant.like) held.holds in
+          let one = c.drain_one.ensures.keeps held.c held.later here (here_end c.args.start live c.args.line n c.loop.counter d end c.loop.invariant.like)
+          held.holds in
           c.loop.invariant.keeps first d end h last given
-          (keeps_next c.args.start live c.args.line n c.loop.counter d end c.loop.invariant.like within some c.in-Ok.next now new c.in-Ok.ensures.counted c.in-Ok.ensures.told c.in-Ok.ensures.serves
+          (keeps_next c.args.start live c.args.line n c.loop.counter d end c.loop.invariant.like within some c.in-Ok.next now new c.in-Ok.ensures.counted
+          c.in-Ok.ensures.told c.in-Ok.ensures.serves
           (g.D.Disk.history c.loop.disk) (g.D.Disk.history c.drain_one.new.disk) last given one rest);
     }

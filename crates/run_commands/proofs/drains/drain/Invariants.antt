@@ -19,15 +19,19 @@ invariant-loop g l = record {
   like : IsLike l.initial.live l.live;
   logging : IsLogging (g.D.Disk.history l.disk) l.live;
   left : length (state_of l.live).waiting ≤ length (state_of l.initial.live).waiting - l.counter;
-  leads : Leads (drained (plan_of l.initial.live) l.initial.live.each l.line (length (state_of l.initial.live).waiting - l.counter) (state_of l.live)) (g.K.Sink.given l.out)
+  leads : Leads (drained (plan_of l.initial.live) l.initial.live.each l.line (length (state_of l.initial.live).waiting - l.counter) (state_of l.live))
+      (g.K.Sink.given l.out)
       (drains (plan_of l.initial.live) l.initial.live.each l.line (state_of l.initial.live)) (g.K.Sink.given l.initial.out);
   holds : (first : ℕ) → HoldsLive first (g.D.Disk.history l.initial.disk) l.initial.live → HoldsLive first (g.D.Disk.history l.disk) l.live;
   held : (d : Doing) → IsEnd (plan_of l.initial.live) l.initial.live.each l.line (state_of l.initial.live) d
       → held_behind (replicate (length (state_of l.initial.live).waiting - l.counter) Drain) (record d { state = state_of l.live }) (stored_state l.live)
       ≡ held_behind (drains_of (state_of l.initial.live)) d (stored_state l.initial.live);
   -- what is kept from here on is kept from the start
-  keeps : (first : ℕ) (d : Doing) → IsEnd (plan_of l.initial.live) l.initial.live.each l.line (state_of l.initial.live) d → HoldsLive first (g.D.Disk.history l.initial.disk) l.initial.live
+  keeps : (first : ℕ) (d : Doing) → IsEnd (plan_of l.initial.live) l.initial.live.each l.line (state_of l.initial.live) d
+      → HoldsLive first (g.D.Disk.history l.initial.disk) l.initial.live
       → (last : History) (given : Option (List ℕ))
-      → Keeps (PassesTurns (replicate (length (state_of l.initial.live).waiting - l.counter) Drain) (record d { state = state_of l.live }) (stored_state l.live)) (plan_of l.initial.live) (g.D.Disk.history l.disk) last (g.K.Sink.given l.out) given
-      → Keeps (PassesTurns (drains_of (state_of l.initial.live)) d (stored_state l.initial.live)) (plan_of l.initial.live) (g.D.Disk.history l.initial.disk) last (g.K.Sink.given l.initial.out) given;
+      → Keeps (PassesTurns (replicate (length (state_of l.initial.live).waiting - l.counter) Drain) (record d { state = state_of l.live })
+      (stored_state l.live)) (plan_of l.initial.live) (g.D.Disk.history l.disk) last (g.K.Sink.given l.out) given
+      → Keeps (PassesTurns (drains_of (state_of l.initial.live)) d (stored_state l.initial.live)) (plan_of l.initial.live)
+      (g.D.Disk.history l.initial.disk) last (g.K.Sink.given l.initial.out) given;
 }

@@ -31,7 +31,8 @@ returns-then-batches-ge-GREATEST_NUMBER-clause-serves g c =
     let past : GREATEST_NUMBER ≤ (state_of c.args.live).batches = omega (arith, c.batches.ensures, c.if-batches-ge-GREATEST_NUMBER.true) in
     let old = g.K.Sink.given c.args.out.now in
     let new = g.K.Sink.given c.refuse.new.out in
-    subst (λ (q : Course State). Serves q old new (state_result c.refuse.result)) (sym (one_refused (plan_of c.args.live) c.args.live.each c.args.line (state_of c.args.live) past))
+    subst (λ (q : Course State). Serves q old new (state_result c.refuse.result))
+    (sym (one_refused (plan_of c.args.live) c.args.live.each c.args.line (state_of c.args.live) past))
     (stopped_on (refusal_text (record { line = c.args.line; kind = Numbers })) old new c.refuse.result c.refuse.ensures.serves)
 
 pub returns-then-batches-ge-GREATEST_NUMBER-clause-keeps : goal.returns-then-batches-ge-GREATEST_NUMBER-clause-keeps
@@ -40,80 +41,95 @@ returns-then-batches-ge-GREATEST_NUMBER-clause-keeps g c = λ ck later d end h.
     let some : (length (state_of c.args.live).waiting == 0) ≡ false = some_waits (length (state_of c.args.live).waiting) c.requires.some in
     let disk = g.D.Disk.history c.args.disk.now in
     let live = c.args.live in
-    drain_refused (plan_of live) live.each c.args.line (state_of live) d end some (stored_state live) (refusal_text (record { line = c.args.line; kind = Numbers })) disk (g.K.Sink.given c.args.out.now)
+    drain_refused (plan_of live) live.each c.args.line (state_of live) d end some (stored_state live)
+    (refusal_text (record { line = c.args.line; kind = Numbers })) disk (g.K.Sink.given c.args.out.now)
     (g.K.Sink.given c.refuse.new.out) (one_refused (plan_of live) live.each c.args.line (state_of live) past) c.refuse.ensures.front
     (held_leaves_all disk (plan_of live) (stored_state live) live.store ck later h)
 
 pub returns-then-batches-ge-GREATEST_NUMBER-clause-cause : goal.returns-then-batches-ge-GREATEST_NUMBER-clause-cause
 returns-then-batches-ge-GREATEST_NUMBER-clause-cause g c =
     let disk = g.D.Disk.history c.args.disk.now in
-    causes_more (Rose (g.K.Sink.faults c.args.out.now) (g.K.Sink.faults c.refuse.new.out)) (IsSomeAnd c.args.live.store (λ _. Rose disk.faults disk.faults)) c.refuse.result c.refuse.ensures.cause
+    causes_more (Rose (g.K.Sink.faults c.args.out.now) (g.K.Sink.faults c.refuse.new.out)) (IsSomeAnd c.args.live.store (λ _. Rose disk.faults disk.faults))
+    c.refuse.result c.refuse.ensures.cause
 
 -- ---- the batch was told
 
 pub returns-in-Some-clause-serves : goal.returns-in-Some-clause-serves
 returns-in-Some-clause-serves g c =
     let below : (state_of c.args.live).batches < GREATEST_NUMBER = omega (arith, c.batches.ensures, c.if-batches-ge-GREATEST_NUMBER.false) in
-    one_told c.args.live c.new.result.items c.new.ensures.items c.args.line below (g.K.Sink.given c.args.out.now) (g.K.Sink.given c.serve_batch-next.new.out) c.serve_batch-next.result
+    one_told c.args.live c.new.result.items c.new.ensures.items c.args.line below (g.K.Sink.given c.args.out.now)
+    (g.K.Sink.given c.serve_batch-next.new.out) c.serve_batch-next.result
     c.serve_batch-next.ensures.tells c.in-Some.next c.in-Some.is
 
 pub returns-in-Some-clause-like : goal.returns-in-Some-clause-like
 returns-in-Some-clause-like g c =
     let below : (state_of c.args.live).batches < GREATEST_NUMBER = omega (arith, c.batches.ensures, c.if-batches-ge-GREATEST_NUMBER.false) in
-    like_next c.args.live c.new.result.items c.new.ensures.items c.args.line below (g.K.Sink.given c.args.out.now) (g.K.Sink.given c.serve_batch-next.new.out) c.serve_batch-next.result
+    like_next c.args.live c.new.result.items c.new.ensures.items c.args.line below (g.K.Sink.given c.args.out.now)
+    (g.K.Sink.given c.serve_batch-next.new.out) c.serve_batch-next.result
     c.serve_batch-next.ensures.tells c.in-Some.next c.in-Some.is
 
 pub returns-in-Some-clause-fewer : goal.returns-in-Some-clause-fewer
 returns-in-Some-clause-fewer g c =
     let below : (state_of c.args.live).batches < GREATEST_NUMBER = omega (arith, c.batches.ensures, c.if-batches-ge-GREATEST_NUMBER.false) in
     fewer_next c.args.live c.new.result.items c.new.ensures.items c.in-Some.next
-    (next_here c.args.live c.new.result.items c.new.ensures.items c.args.line below (g.K.Sink.given c.args.out.now) (g.K.Sink.given c.serve_batch-next.new.out) c.serve_batch-next.result
+    (next_here c.args.live c.new.result.items c.new.ensures.items c.args.line below (g.K.Sink.given c.args.out.now)
+    (g.K.Sink.given c.serve_batch-next.new.out) c.serve_batch-next.result
     c.serve_batch-next.ensures.tells c.in-Some.next c.in-Some.is) c.requires.some
 
 pub returns-in-Some-clause-counted : goal.returns-in-Some-clause-counted
 returns-in-Some-clause-counted g c =
     let below : (state_of c.args.live).batches < GREATEST_NUMBER = omega (arith, c.batches.ensures, c.if-batches-ge-GREATEST_NUMBER.false) in
-    counted_next c.args.live c.new.result.items c.new.ensures.items c.args.line below (g.K.Sink.given c.args.out.now) (g.K.Sink.given c.serve_batch-next.new.out) c.serve_batch-next.result
+    counted_next c.args.live c.new.result.items c.new.ensures.items c.args.line below (g.K.Sink.given c.args.out.now)
+    (g.K.Sink.given c.serve_batch-next.new.out) c.serve_batch-next.result
     c.serve_batch-next.ensures.tells c.in-Some.next c.in-Some.is
 
 pub returns-in-Some-clause-told : goal.returns-in-Some-clause-told
 returns-in-Some-clause-told g c =
     let below : (state_of c.args.live).batches < GREATEST_NUMBER = omega (arith, c.batches.ensures, c.if-batches-ge-GREATEST_NUMBER.false) in
-    stored_next c.args.live c.new.result.items c.new.ensures.items c.args.line below (g.K.Sink.given c.args.out.now) (g.K.Sink.given c.serve_batch-next.new.out) c.serve_batch-next.result
+    stored_next c.args.live c.new.result.items c.new.ensures.items c.args.line below (g.K.Sink.given c.args.out.now)
+    (g.K.Sink.given c.serve_batch-next.new.out) c.serve_batch-next.result
     c.serve_batch-next.ensures.tells c.in-Some.next c.in-Some.is c.serve_batch-next.ensures.store
 
 pub returns-in-Some-clause-logging : goal.returns-in-Some-clause-logging
 returns-in-Some-clause-logging g c =
     let below : (state_of c.args.live).batches < GREATEST_NUMBER = omega (arith, c.batches.ensures, c.if-batches-ge-GREATEST_NUMBER.false) in
-    told_here c.args.live c.new.result.items c.new.ensures.items c.args.line below (g.K.Sink.given c.args.out.now) (g.K.Sink.given c.serve_batch-next.new.out) c.serve_batch-next.result
+    told_here c.args.live c.new.result.items c.new.ensures.items c.args.line below (g.K.Sink.given c.args.out.now)
+    (g.K.Sink.given c.serve_batch-next.new.out) c.serve_batch-next.result
     c.serve_batch-next.ensures.tells c.in-Some.next c.in-Some.is (IsLogging (g.D.Disk.history c.serve_batch-next.new.disk)) c.serve_batch-next.ensures.logging
 
 pub returns-in-Some-clause-keeps : goal.returns-in-Some-clause-keeps
 returns-in-Some-clause-keeps g c = λ ck later d end h.
     let below : (state_of c.args.live).batches < GREATEST_NUMBER = omega (arith, c.batches.ensures, c.if-batches-ge-GREATEST_NUMBER.false) in
     let some : (length (state_of c.args.live).waiting == 0) ≡ false = some_waits (length (state_of c.args.live).waiting) c.requires.some in
-    keeps_told c.args.live c.new.result.items c.new.ensures.items c.args.line below (g.K.Sink.given c.args.out.now) (g.K.Sink.given c.serve_batch-next.new.out) c.serve_batch-next.result
-    c.serve_batch-next.ensures.tells some d end (g.D.Disk.history c.args.disk.now) (g.D.Disk.history c.serve_batch-next.new.disk) (c.serve_batch-next.ensures.images ck later h)
+    keeps_told c.args.live c.new.result.items c.new.ensures.items c.args.line below (g.K.Sink.given c.args.out.now)
+    (g.K.Sink.given c.serve_batch-next.new.out) c.serve_batch-next.result
+    c.serve_batch-next.ensures.tells some d end (g.D.Disk.history c.args.disk.now) (g.D.Disk.history c.serve_batch-next.new.disk)
+    (c.serve_batch-next.ensures.images ck later h)
     (c.serve_batch-next.ensures.answered ck later h) c.in-Some.next c.in-Some.is
 
 pub returns-in-Some-clause-holds : goal.returns-in-Some-clause-holds
 returns-in-Some-clause-holds g c = λ first h.
     let below : (state_of c.args.live).batches < GREATEST_NUMBER = omega (arith, c.batches.ensures, c.if-batches-ge-GREATEST_NUMBER.false) in
-    holds_next c.args.live c.new.result.items c.new.ensures.items c.args.line below (g.K.Sink.given c.args.out.now) (g.K.Sink.given c.serve_batch-next.new.out) c.serve_batch-next.result
-    c.serve_batch-next.ensures.tells c.in-Some.next c.in-Some.is c.serve_batch-next.ensures.store first (g.D.Disk.history c.args.disk.now) (g.D.Disk.history c.serve_batch-next.new.disk)
+    holds_next c.args.live c.new.result.items c.new.ensures.items c.args.line below (g.K.Sink.given c.args.out.now)
+    (g.K.Sink.given c.serve_batch-next.new.out) c.serve_batch-next.result
+    c.serve_batch-next.ensures.tells c.in-Some.next c.in-Some.is c.serve_batch-next.ensures.store first (g.D.Disk.history c.args.disk.now)
+    (g.D.Disk.history c.serve_batch-next.new.disk)
     c.serve_batch-next.ensures.holds h
 
 pub returns-in-Some-clause-store : goal.returns-in-Some-clause-store
 returns-in-Some-clause-store g c =
     let below : (state_of c.args.live).batches < GREATEST_NUMBER = omega (arith, c.batches.ensures, c.if-batches-ge-GREATEST_NUMBER.false) in
-    none_next c.args.live c.new.result.items c.new.ensures.items c.args.line below (g.K.Sink.given c.args.out.now) (g.K.Sink.given c.serve_batch-next.new.out) c.serve_batch-next.result
+    none_next c.args.live c.new.result.items c.new.ensures.items c.args.line below (g.K.Sink.given c.args.out.now)
+    (g.K.Sink.given c.serve_batch-next.new.out) c.serve_batch-next.result
     c.serve_batch-next.ensures.tells c.in-Some.next c.in-Some.is c.serve_batch-next.ensures.store
 
 pub returns-in-Some-clause-disk : goal.returns-in-Some-clause-disk
 returns-in-Some-clause-disk g c =
     let below : (state_of c.args.live).batches < GREATEST_NUMBER = omega (arith, c.batches.ensures, c.if-batches-ge-GREATEST_NUMBER.false) in
-    told_here c.args.live c.new.result.items c.new.ensures.items c.args.line below (g.K.Sink.given c.args.out.now) (g.K.Sink.given c.serve_batch-next.new.out) c.serve_batch-next.result
-    c.serve_batch-next.ensures.tells c.in-Some.next c.in-Some.is (λ (n : Live). (g.D.Disk.history c.args.disk.now).faults ≤ (g.D.Disk.history c.serve_batch-next.new.disk).faults)
+    told_here c.args.live c.new.result.items c.new.ensures.items c.args.line below (g.K.Sink.given c.args.out.now)
+    (g.K.Sink.given c.serve_batch-next.new.out) c.serve_batch-next.result
+    c.serve_batch-next.ensures.tells c.in-Some.next c.in-Some.is
+    (λ (n : Live). (g.D.Disk.history c.args.disk.now).faults ≤ (g.D.Disk.history c.serve_batch-next.new.disk).faults)
     c.serve_batch-next.ensures.disk
 
 -- ---- it was cut off
@@ -121,15 +137,18 @@ returns-in-Some-clause-disk g c =
 pub returns-in-None-clause-serves : goal.returns-in-None-clause-serves
 returns-in-None-clause-serves g c =
     let below : (state_of c.args.live).batches < GREATEST_NUMBER = omega (arith, c.batches.ensures, c.if-batches-ge-GREATEST_NUMBER.false) in
-    one_cut c.args.live c.new.result.items c.new.ensures.items c.args.line below (g.K.Sink.given c.args.out.now) (g.K.Sink.given c.serve_batch-next.new.out) c.serve_batch-next.result
+    one_cut c.args.live c.new.result.items c.new.ensures.items c.args.line below (g.K.Sink.given c.args.out.now)
+    (g.K.Sink.given c.serve_batch-next.new.out) c.serve_batch-next.result
     c.serve_batch-next.ensures.tells c.why_stopped.result c.in-None.is c.why_stopped.ensures
 
 pub returns-in-None-clause-keeps : goal.returns-in-None-clause-keeps
 returns-in-None-clause-keeps g c = λ ck later d end h.
     let below : (state_of c.args.live).batches < GREATEST_NUMBER = omega (arith, c.batches.ensures, c.if-batches-ge-GREATEST_NUMBER.false) in
     let some : (length (state_of c.args.live).waiting == 0) ≡ false = some_waits (length (state_of c.args.live).waiting) c.requires.some in
-    keeps_cut c.args.live c.new.result.items c.new.ensures.items c.args.line below (g.K.Sink.given c.args.out.now) (g.K.Sink.given c.serve_batch-next.new.out) c.serve_batch-next.result
-    c.serve_batch-next.ensures.tells some d end (g.D.Disk.history c.args.disk.now) (g.D.Disk.history c.serve_batch-next.new.disk) (c.serve_batch-next.ensures.images ck later h)
+    keeps_cut c.args.live c.new.result.items c.new.ensures.items c.args.line below (g.K.Sink.given c.args.out.now)
+    (g.K.Sink.given c.serve_batch-next.new.out) c.serve_batch-next.result
+    c.serve_batch-next.ensures.tells some d end (g.D.Disk.history c.args.disk.now) (g.D.Disk.history c.serve_batch-next.new.disk)
+    (c.serve_batch-next.ensures.images ck later h)
     (c.serve_batch-next.ensures.answered ck later h) c.in-None.is
 
 pub returns-in-None-clause-refused : goal.returns-in-None-clause-refused

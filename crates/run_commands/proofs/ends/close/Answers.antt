@@ -22,7 +22,8 @@ returns-then-not-drains-clause-keeps g c = λ first d end h.
     let plan = plan_in c.args.head.now in
     let b = c.args.work.base in
     let disk = g.D.Disk.history c.args.disk.now in
-    quiet_keeps plan c.args.work.each c.args.line (state_in b) d end (held_in b) c.args.drains off disk (g.K.Sink.given c.args.out.now) (g.K.Sink.given c.list.new.out) c.list.result c.list.ensures.finishes
+    quiet_keeps plan c.args.work.each c.args.line (state_in b) d end (held_in b) c.args.drains off disk (g.K.Sink.given c.args.out.now)
+    (g.K.Sink.given c.list.new.out) c.list.result c.list.ensures.finishes
     (holds_leave first (checkpoint_in b) disk plan (held_in b) (store_in b) h)
 
 pub returns-then-not-drains-clause-laid : goal.returns-then-not-drains-clause-laid
@@ -31,19 +32,22 @@ returns-then-not-drains-clause-laid g c = λ first d end h which.
     let plan = plan_in c.args.head.now in
     let b = c.args.work.base in
     let disk = g.D.Disk.history c.args.disk.now in
-    quiet_laid plan c.args.work.each c.args.line (state_in b) d end (held_in b) c.args.drains off first (checkpoint_in b) disk (holds_laid first (checkpoint_in b) disk plan (held_in b) (store_in b) h)
+    quiet_laid plan c.args.work.each c.args.line (state_in b) d end (held_in b) c.args.drains off first (checkpoint_in b) disk
+    (holds_laid first (checkpoint_in b) disk plan (held_in b) (store_in b) h)
 
 pub returns-then-not-drains-clause-cause : goal.returns-then-not-drains-clause-cause
 returns-then-not-drains-clause-cause g c =
     let disk = g.D.Disk.history c.args.disk.now in
-    causes_more (Rose (g.K.Sink.faults c.args.out.now) (g.K.Sink.faults c.list.new.out)) (IsSomeAnd (store_in c.args.work.base) (λ _. Rose disk.faults disk.faults)) c.list.result c.list.ensures.cause
+    causes_more (Rose (g.K.Sink.faults c.args.out.now) (g.K.Sink.faults c.list.new.out))
+    (IsSomeAnd (store_in c.args.work.base) (λ _. Rose disk.faults disk.faults)) c.list.result c.list.ensures.cause
 
 -- ---- where all was drained
 
 pub returns-in-Ok-clause-finishes : goal.returns-in-Ok-clause-finishes
 returns-in-Ok-clause-finishes g c =
     let on : c.args.drains ≡ true = grind (arith, c.if-not-drains.false) in
-    drained_by c.args.drains (plan_in c.args.head.now) c.args.work.each c.args.line (state_in c.args.work.base) on (state_in c.in-Ok.base) (g.K.Sink.given c.args.out.now) (g.K.Sink.given c.drained.new.out)
+    drained_by c.args.drains (plan_in c.args.head.now) c.args.work.each c.args.line (state_in c.args.work.base) on (state_in c.in-Ok.base)
+    (g.K.Sink.given c.args.out.now) (g.K.Sink.given c.drained.new.out)
     (g.K.Sink.given c.list-in-Ok.new.out) c.list-in-Ok.result c.in-Ok.ensures.serves c.list-in-Ok.ensures.read c.list-in-Ok.ensures.finishes
 
 pub returns-in-Ok-clause-keeps : goal.returns-in-Ok-clause-keeps
@@ -53,8 +57,10 @@ returns-in-Ok-clause-keeps g c = λ first d end h.
     let b = c.args.work.base in
     let next = c.in-Ok.base in
     let new = g.D.Disk.history c.drained.new.disk in
-    drained_keeps plan c.args.work.each c.args.line (state_in b) d end (held_in b) (held_in next) c.args.drains on (state_in next) (g.D.Disk.history c.args.disk.now) new (g.K.Sink.given c.args.out.now)
-    (g.K.Sink.given c.drained.new.out) (g.K.Sink.given c.list-in-Ok.new.out) c.list-in-Ok.result c.in-Ok.ensures.serves c.list-in-Ok.ensures.finishes (c.in-Ok.ensures.held d end)
+    drained_keeps plan c.args.work.each c.args.line (state_in b) d end (held_in b) (held_in next) c.args.drains on (state_in next)
+    (g.D.Disk.history c.args.disk.now) new (g.K.Sink.given c.args.out.now)
+    (g.K.Sink.given c.drained.new.out) (g.K.Sink.given c.list-in-Ok.new.out) c.list-in-Ok.result c.in-Ok.ensures.serves c.list-in-Ok.ensures.finishes
+    (c.in-Ok.ensures.held d end)
     (holds_leave first (checkpoint_in next) new plan (held_in next) (store_in next) (c.in-Ok.ensures.holds first h)) (c.drained.ensures.keeps first d end h)
 
 pub returns-in-Ok-clause-laid : goal.returns-in-Ok-clause-laid
@@ -74,13 +80,15 @@ returns-in-Ok-clause-laid g c = λ first d end h which.
 pub returns-clause-finishes : goal.returns-clause-finishes
 returns-clause-finishes g c =
     let on : c.args.drains ≡ true = grind (arith, c.if-not-drains.false) in
-    drained_cut c.args.drains (plan_in c.args.head.now) c.args.work.each c.args.line (state_in c.args.work.base) on (g.K.Sink.given c.args.out.now) (g.K.Sink.given c.drained.new.out) c.in-Err.stop c.in-Err.ensures.serves
+    drained_cut c.args.drains (plan_in c.args.head.now) c.args.work.each c.args.line (state_in c.args.work.base) on (g.K.Sink.given c.args.out.now)
+    (g.K.Sink.given c.drained.new.out) c.in-Err.stop c.in-Err.ensures.serves
 
 pub returns-clause-keeps : goal.returns-clause-keeps
 returns-clause-keeps g c = λ first d end h.
     let on : c.args.drains ≡ true = grind (arith, c.if-not-drains.false) in
     let b = c.args.work.base in
-    drained_stop (plan_in c.args.head.now) c.args.work.each c.args.line (state_in b) d end (held_in b) c.args.drains on (g.D.Disk.history c.args.disk.now) (g.D.Disk.history c.drained.new.disk)
+    drained_stop (plan_in c.args.head.now) c.args.work.each c.args.line (state_in b) d end (held_in b) c.args.drains on (g.D.Disk.history c.args.disk.now)
+    (g.D.Disk.history c.drained.new.disk)
     (g.K.Sink.given c.args.out.now) (g.K.Sink.given c.drained.new.out) (c.drained.ensures.keeps first d end h)
 
 pub returns-clause-laid : goal.returns-clause-laid
@@ -89,6 +97,7 @@ returns-clause-laid g c = λ first d end h which.
     let b = c.args.work.base in
     elim which [
       | inl e ↦ absurd cc
-      | inr e ↦ drained_laid (plan_in c.args.head.now) c.args.work.each c.args.line (state_in b) d end (held_in b) c.args.drains on first (checkpoint_in b) (g.D.Disk.history c.drained.new.disk)
+      | inr e ↦ drained_laid (plan_in c.args.head.now) c.args.work.each c.args.line (state_in b) d end (held_in b) c.args.drains on first (checkpoint_in b)
+          (g.D.Disk.history c.drained.new.disk)
           (c.in-Err.ensures.refused first d end h (refused_as c.in-Err.stop stop.Refused e))
     ]

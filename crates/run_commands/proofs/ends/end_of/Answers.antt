@@ -28,7 +28,8 @@ returns-in-Ok-clause-keeps g c = λ first h.
     let stays = c.closes.ensures place q c.in-Ok.ensures in
     let of = c.script.invariant.holds.of_head in
     let line : c.saturating_add-line.result ≡ line_after place.lines = c.saturating_add-line.ensures in
-    subst (λ (s : Running). Keeps (PassesTurns (ending_of c.args.drains s.doing) s.doing (held_of s)) (plan_in s.doing.place.head) old new ga gb) c.script.view_is
+    subst (λ (s : Running). Keeps (PassesTurns (ending_of c.args.drains s.doing) s.doing (held_of s)) (plan_in s.doing.place.head) old new ga gb)
+    c.script.view_is
     (closed_keeps place q work c.in-Ok.ensures stays of c.args.drains first old here new ga gb
     (c.close-in-Ok.ensures.keeps first (doing_of q work) (end_is place q work c.saturating_add-line.result c.in-Ok.ensures line)
     (closed_holds place q work c.in-Ok.ensures stays of c.args.drains first old here)))
@@ -45,7 +46,8 @@ returns-in-Ok-clause-laid g c = λ first h which.
     let stays = c.closes.ensures place q c.in-Ok.ensures in
     let of = c.script.invariant.holds.of_head in
     let line : c.saturating_add-line.result ≡ line_after place.lines = c.saturating_add-line.ensures in
-    subst (λ (s : Running). LeavesLaid first s.checkpoint new (plan_in s.doing.place.head) (held_behind (ending_of c.args.drains s.doing) s.doing (held_of s))) c.script.view_is
+    subst (λ (s : Running). LeavesLaid first s.checkpoint new (plan_in s.doing.place.head) (held_behind (ending_of c.args.drains s.doing) s.doing (held_of s)))
+    c.script.view_is
     (closed_laid place q work c.in-Ok.ensures stays of c.args.drains first old here new
     (c.close-in-Ok.ensures.laid first (doing_of q work) (end_is place q work c.saturating_add-line.result c.in-Ok.ensures line)
     (closed_holds place q work c.in-Ok.ensures stays of c.args.drains first old here) which))
@@ -58,7 +60,8 @@ returns-in-Err-Memory-clause-keeps g c = λ first h.
     let plan = plan_in s.doing.place.head in
     let disk = g.D.Disk.history c.args.disk.now in
     let now = g.K.Sink.given c.args.out.now in
-    keeps_none on_turn held_then plan (ending_of c.args.drains s.doing) s.doing (held_of s) disk now (Appends-nil now) (holds_leave first s.checkpoint disk plan (held_of s) s.store h)
+    keeps_none on_turn held_then plan (ending_of c.args.drains s.doing) s.doing (held_of s) disk now (Appends-nil now)
+    (holds_leave first s.checkpoint disk plan (held_of s) s.store h)
 
 pub returns-clause-keeps : goal.returns-clause-keeps
 returns-clause-keeps g c = λ first h.
@@ -71,7 +74,8 @@ returns-clause-keeps g c = λ first h.
     let here : HoldsBase first disk (plan_in place.head) work.base =
     subst (λ (s : Running). HoldsState first s.checkpoint disk (plan_in s.doing.place.head) (held_of s) s.store) (sym c.script.view_is) h in
     let said = rw c.in-Err-Line.field-0-is at c.in-Err-Line.ensures in
-    subst (λ (s : Running). Keeps (PassesTurns (ending_of c.args.drains s.doing) s.doing (held_of s)) (plan_in s.doing.place.head) disk disk ga gb) c.script.view_is
+    subst (λ (s : Running). Keeps (PassesTurns (ending_of c.args.drains s.doing) s.doing (held_of s)) (plan_in s.doing.place.head) disk disk ga gb)
+    c.script.view_is
     (close_refused place work refusal said.0 said.1 c.args.drains first disk here ga gb c.refuse.ensures.front)
 
 pub returns-clause-laid : goal.returns-clause-laid
@@ -83,5 +87,6 @@ returns-clause-laid g c = λ first h which.
     let here : HoldsBase first disk (plan_in place.head) work.base =
     subst (λ (s : Running). HoldsState first s.checkpoint disk (plan_in s.doing.place.head) (held_of s) s.store) (sym c.script.view_is) h in
     let said = rw c.in-Err-Line.field-0-is at c.in-Err-Line.ensures in
-    subst (λ (s : Running). LeavesLaid first s.checkpoint disk (plan_in s.doing.place.head) (held_behind (ending_of c.args.drains s.doing) s.doing (held_of s))) c.script.view_is
+    subst (λ (s : Running). LeavesLaid first s.checkpoint disk (plan_in s.doing.place.head)
+    (held_behind (ending_of c.args.drains s.doing) s.doing (held_of s))) c.script.view_is
     (close_refused_laid place work refusal said.0 said.1 c.args.drains first disk here)

@@ -21,5 +21,6 @@ invariant-loop-line g l =
       leads : Leads (with_lines on_line (Goes [] l.script.doing) (drop l.line-index l.lines)) (g.K.Sink.given l.out)
           (with_lines on_line (Goes [] l.initial.script.doing) l.lines) (g.K.Sink.given l.initial.out);
       kept : (first : ℕ) → HoldsScript first start l.initial.script → HoldsScript first now l.script
-          × LeadsTurns first (map Line (drop l.line-index l.lines)) l.script now (g.K.Sink.given l.out) (map Line l.lines) l.initial.script start (g.K.Sink.given l.initial.out);
+          × LeadsTurns first (map Line (drop l.line-index l.lines)) l.script now (g.K.Sink.given l.out) (map Line l.lines) l.initial.script start
+          (g.K.Sink.given l.initial.out);
     }

@@ -12,7 +12,8 @@ use Rattle.run_commands.proofs.loops.finish.Goals as goal
 pub returns-in-Some-clause-serves : goal.returns-in-Some-clause-serves
 returns-in-Some-clause-serves g c =
     let is : last_line c.args.lines ≡ Some c.as_slice.result.now = search rules in
-    last_is on_line c.args.script.doing c.as_slice.result.now (last_line c.args.lines) (g.K.Sink.given c.args.out.now) (g.K.Sink.given c.serve.new.out) (doing_result c.serve.result) is c.serve.ensures.serves
+    last_is on_line c.args.script.doing c.as_slice.result.now (last_line c.args.lines) (g.K.Sink.given c.args.out.now) (g.K.Sink.given c.serve.new.out)
+    (doing_result c.serve.result) is c.serve.ensures.serves
 
 pub serve-requires-clause-short : goal.serve-requires-clause-short
 serve-requires-clause-short g c κs within =
@@ -22,7 +23,8 @@ serve-requires-clause-short g c κs within =
 pub returns-in-Some-clause-keeps : goal.returns-in-Some-clause-keeps
 returns-in-Some-clause-keeps g c = λ first h.
     let is : last_line c.args.lines ≡ Some c.as_slice.result.now = search rules in
-    same_turns first (last (last_line c.args.lines)) (Line c.as_slice.result.now ∷ []) c.args.script (g.D.Disk.history c.args.disk.now) (g.D.Disk.history c.serve.new.disk)
+    same_turns first (last (last_line c.args.lines)) (Line c.as_slice.result.now ∷ []) c.args.script (g.D.Disk.history c.args.disk.now)
+    (g.D.Disk.history c.serve.new.disk)
     (g.K.Sink.given c.args.out.now) (g.K.Sink.given c.serve.new.out) c.serve.result (ap last is) (c.serve.ensures.keeps first h)
 
 pub returns-in-None-clause-keeps : goal.returns-in-None-clause-keeps
@@ -30,4 +32,5 @@ returns-in-None-clause-keeps g c = λ first h.
     let none : last_line c.args.lines ≡ None = search rules in
     let disk = g.D.Disk.history c.args.disk.now in
     let now = g.K.Sink.given c.args.out.now in
-    same_turns first (last (last_line c.args.lines)) [] c.args.script disk disk now now (Ok c.args.script) (ap last none) (still_kept first c.args.script disk now h)
+    same_turns first (last (last_line c.args.lines)) [] c.args.script disk disk now now (Ok c.args.script) (ap last none)
+    (still_kept first c.args.script disk now h)

@@ -16,7 +16,8 @@ pub returns-in_default-clause-comes : goal.returns-in_default-clause-comes
 returns-in_default-clause-comes g c =
     let now = g.K.Sink.given c.loop-count.out in
     c.loop-count.invariant.leads (g.S.Source.left c.take.new.self) now (Err stop.NoRead)
-    (comes_fault on_line c.loop-count.lines c.loop-count.script.doing (g.S.Source.left c.loop-count.input) (g.S.Source.left c.take.new.self) now c.in_default.ensures.bytes)
+    (comes_fault on_line c.loop-count.lines c.loop-count.script.doing (g.S.Source.left c.loop-count.input)
+    (g.S.Source.left c.take.new.self) now c.in_default.ensures.bytes)
 
 pub returns-in_default-clause-keeps : goal.returns-in_default-clause-keeps
 returns-in_default-clause-keeps g c = λ first h.
@@ -33,7 +34,8 @@ returns-then-count-eq0-clause-comes g c =
     let rest = g.S.Source.left c.take.new.self in
     let end = end_before left rest c.in-Ok.count c.take.new.buf c.if-count-eq0.true c.in-Ok.ensures.bytes.1 c.in-Ok.ensures.bytes.2 in
     c.loop-count.invariant.leads rest (g.K.Sink.given c.finish.new.out) (doing_result c.finish.result)
-    (comes_end on_line c.loop-count.lines c.loop-count.script.doing left rest (g.K.Sink.given c.loop-count.out) (g.K.Sink.given c.finish.new.out) (doing_result c.finish.result) end c.finish.ensures.serves)
+    (comes_end on_line c.loop-count.lines c.loop-count.script.doing left rest (g.K.Sink.given c.loop-count.out) (g.K.Sink.given c.finish.new.out)
+    (doing_result c.finish.result) end c.finish.ensures.serves)
 
 pub returns-then-count-eq0-clause-keeps : goal.returns-then-count-eq0-clause-keeps
 returns-then-count-eq0-clause-keeps g c = λ first h.
@@ -44,7 +46,8 @@ returns-then-count-eq0-clause-keeps g c = λ first h.
     let disk = g.D.Disk.history c.finish.new.disk in
     let given = g.K.Sink.given c.finish.new.out in
     inv.1 disk given c.finish.result
-    (end_kept first c.loop-count.lines c.loop-count.script (g.D.Disk.history c.loop-count.disk) (g.K.Sink.given c.loop-count.out) left disk given c.finish.result end (c.finish.ensures.keeps first inv.0.holds))
+    (end_kept first c.loop-count.lines c.loop-count.script (g.D.Disk.history c.loop-count.disk)
+    (g.K.Sink.given c.loop-count.out) left disk given c.finish.result end (c.finish.ensures.keeps first inv.0.holds))
 
 pub returns-then-count-eq0-clause-stays : goal.returns-then-count-eq0-clause-stays
 returns-then-count-eq0-clause-stays g c = λ first h.
@@ -57,13 +60,16 @@ returns-then-count-eq0-clause-cause g c =
     let start = g.D.Disk.history c.args.disk.now in
     let now = g.D.Disk.history c.loop-count.disk in
     let new = g.D.Disk.history c.finish.new.disk in
-    reads_since c.args.start.store c.loop-count.script.store c.loop-count.invariant.store (g.K.Sink.faults c.args.out.now) (g.K.Sink.faults c.loop-count.out) (g.K.Sink.faults c.finish.new.out)
-    c.loop-count.invariant.sink start.faults now.faults new.faults c.loop-count.invariant.faults (Rose (g.S.Source.faults c.args.input.now) (g.S.Source.faults c.take.new.self)) c.finish.result c.finish.ensures.cause
+    reads_since c.args.start.store c.loop-count.script.store c.loop-count.invariant.store (g.K.Sink.faults c.args.out.now) (g.K.Sink.faults c.loop-count.out)
+    (g.K.Sink.faults c.finish.new.out)
+    c.loop-count.invariant.sink start.faults now.faults new.faults c.loop-count.invariant.faults
+    (Rose (g.S.Source.faults c.args.input.now) (g.S.Source.faults c.take.new.self)) c.finish.result c.finish.ensures.cause
 
 pub loop-count-smaller : goal.loop-count-smaller
 loop-count-smaller g c =
     let piece = take c.in-Ok.count c.take.new.buf in
-    let on = gone c.loop-count.lines c.take_piece.new.lines piece c.loop-count.invariant.within c.in-Ok-take_piece.ensures.taken.0 c.in-Ok-take_piece.ensures.taken.1 in
+    let on = gone c.loop-count.lines c.take_piece.new.lines piece c.loop-count.invariant.within c.in-Ok-take_piece.ensures.taken.0
+    c.in-Ok-take_piece.ensures.taken.1 in
     omega (arith, on.0, on.1, on.2, length-take-le c.in-Ok.count c.take.new.buf c.in-Ok.ensures.bytes.0)
 
 pub loop-count-preserved : goal.loop-count-preserved
@@ -82,8 +88,10 @@ loop-count-preserved g c =
       longest = taken_longest c.loop-count.lines c.take_piece.new.lines piece taken.1 c.loop-count.invariant.begun c.loop-count.invariant.longest;
       begun = taken_begun c.loop-count.lines c.take_piece.new.lines piece taken.1 c.loop-count.invariant.begun;
       leads = λ rest new result h. c.loop-count.invariant.leads rest new result
-          (comes_on on_line c.loop-count.lines c.take_piece.new.lines c.loop-count.script.doing c.in-Ok-take_piece.next.doing piece (g.S.Source.left c.loop-count.input) (g.S.Source.left c.take.new.self)
-          (g.K.Sink.given c.loop-count.out) (g.K.Sink.given c.take_piece.new.out) c.in-Ok.ensures.bytes.1 c.in-Ok-take_piece.ensures.serves taken.0 taken.1 rest new result h);
+          (comes_on on_line c.loop-count.lines c.take_piece.new.lines c.loop-count.script.doing c.in-Ok-take_piece.next.doing piece
+          (g.S.Source.left c.loop-count.input) (g.S.Source.left c.take.new.self)
+          (g.K.Sink.given c.loop-count.out) (g.K.Sink.given c.take_piece.new.out) c.in-Ok.ensures.bytes.1 c.in-Ok-take_piece.ensures.serves taken.0 taken.1
+          rest new result h);
       kept = λ first h.
           let inv = c.loop-count.invariant.kept first h in
           let now = g.D.Disk.history c.loop-count.disk in
@@ -91,8 +99,10 @@ loop-count-preserved g c =
           let k = c.in-Ok-take_piece.ensures.keeps first inv.0.holds in (
             stays_then first now disk c.args.start c.loop-count.script c.in-Ok-take_piece.next inv.0 k.stays,
             λ new given result rest. inv.1 new given result
-                (piece_kept first c.loop-count.lines c.loop-count.script now (g.K.Sink.given c.loop-count.out) (g.S.Source.left c.loop-count.input) (g.S.Source.left c.take.new.self) piece
-                c.take_piece.new.lines c.in-Ok-take_piece.next disk new (g.K.Sink.given c.take_piece.new.out) given result c.in-Ok.ensures.bytes.1 c.in-Ok-take_piece.ensures.serves taken.0 taken.1 k rest),
+                (piece_kept first c.loop-count.lines c.loop-count.script now (g.K.Sink.given c.loop-count.out) (g.S.Source.left c.loop-count.input)
+                (g.S.Source.left c.take.new.self) piece
+                c.take_piece.new.lines c.in-Ok-take_piece.next disk new (g.K.Sink.given c.take_piece.new.out) given result c.in-Ok.ensures.bytes.1
+                c.in-Ok-take_piece.ensures.serves taken.0 taken.1 k rest),
           );
     }
 
@@ -102,7 +112,8 @@ returns-in-Err-clause-comes g c =
     let rest = g.S.Source.left c.take.new.self in
     let new = g.K.Sink.given c.take_piece.new.out in
     c.loop-count.invariant.leads rest new (Err c.in-Err.stop)
-    (comes_cut on_line c.loop-count.lines c.loop-count.script.doing piece (g.S.Source.left c.loop-count.input) rest (g.K.Sink.given c.loop-count.out) new c.in-Err.stop c.in-Ok.ensures.bytes.1 c.in-Err.ensures.serves)
+    (comes_cut on_line c.loop-count.lines c.loop-count.script.doing piece (g.S.Source.left c.loop-count.input) rest
+    (g.K.Sink.given c.loop-count.out) new c.in-Err.stop c.in-Ok.ensures.bytes.1 c.in-Err.ensures.serves)
 
 pub returns-in-Err-clause-keeps : goal.returns-in-Err-clause-keeps
 returns-in-Err-clause-keeps g c = λ first h.
@@ -111,7 +122,8 @@ returns-in-Err-clause-keeps g c = λ first h.
     let disk = g.D.Disk.history c.take_piece.new.disk in
     let new = g.K.Sink.given c.take_piece.new.out in
     inv.1 disk new (Err c.in-Err.stop)
-    (cut_kept first c.loop-count.lines c.loop-count.script (g.D.Disk.history c.loop-count.disk) (g.K.Sink.given c.loop-count.out) (g.S.Source.left c.loop-count.input) (g.S.Source.left c.take.new.self) piece disk new
+    (cut_kept first c.loop-count.lines c.loop-count.script (g.D.Disk.history c.loop-count.disk) (g.K.Sink.given c.loop-count.out)
+    (g.S.Source.left c.loop-count.input) (g.S.Source.left c.take.new.self) piece disk new
     c.in-Err.stop c.in-Ok.ensures.bytes.1 c.in-Err.ensures.serves (c.in-Err.ensures.keeps first inv.0.holds))
 
 pub returns-in-Err-clause-cause : goal.returns-in-Err-clause-cause
@@ -119,5 +131,7 @@ returns-in-Err-clause-cause g c =
     let start = g.D.Disk.history c.args.disk.now in
     let now = g.D.Disk.history c.loop-count.disk in
     let new = g.D.Disk.history c.take_piece.new.disk in
-    read_since c.args.start.store c.loop-count.script.store c.loop-count.invariant.store (g.K.Sink.faults c.args.out.now) (g.K.Sink.faults c.loop-count.out) (g.K.Sink.faults c.take_piece.new.out)
-    c.loop-count.invariant.sink start.faults now.faults new.faults c.loop-count.invariant.faults (Rose (g.S.Source.faults c.args.input.now) (g.S.Source.faults c.take.new.self)) c.in-Err.stop c.in-Err.ensures.cause
+    read_since c.args.start.store c.loop-count.script.store c.loop-count.invariant.store (g.K.Sink.faults c.args.out.now) (g.K.Sink.faults c.loop-count.out)
+    (g.K.Sink.faults c.take_piece.new.out)
+    c.loop-count.invariant.sink start.faults now.faults new.faults c.loop-count.invariant.faults
+    (Rose (g.S.Source.faults c.args.input.now) (g.S.Source.faults c.take.new.self)) c.in-Err.stop c.in-Err.ensures.cause

@@ -27,7 +27,8 @@ invariant-loop-count g l =
           (told on_line no_line l.initial.script.doing) (told_whole on_line no_line l.initial.script.doing)
           (g.S.Source.left l.initial.input) (g.K.Sink.given l.initial.out);
       kept : (first : ℕ) → HoldsScript first start l.initial.script → Stays first now l.initial.script l.script
-          × CarriesText first l.lines l.script now (g.S.Source.left l.input) (g.K.Sink.given l.out) no_line l.initial.script start (g.S.Source.left l.initial.input) (g.K.Sink.given l.initial.out);
+          × CarriesText first l.lines l.script now (g.S.Source.left l.input) (g.K.Sink.given l.out) no_line l.initial.script start
+          (g.S.Source.left l.initial.input) (g.K.Sink.given l.initial.out);
     }
 
 abbrev pub decreases-loop-count : goal.decreases-loop-count

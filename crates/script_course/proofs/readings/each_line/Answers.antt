@@ -7,7 +7,8 @@ use Rattle.script_course.proofs.readings.each_line.Goals as goal
 
 pub loop-line-preserved : goal.loop-line-preserved
 loop-line-preserved g c =
-    let left = next_of c.args.lines.now c.loop-line.line-index c.line-item.result c.as_slice.result.now c.loop-line-test.true c.line-item.is c.as_slice.ensures in
+    let left = next_of c.args.lines.now c.loop-line.line-index c.line-item.result c.as_slice.result.now c.loop-line-test.true c.line-item.is
+    c.as_slice.ensures in
     record {
       sink = omega (arith, c.line.ensures.sink, c.loop-line.invariant.sink);
       disk = omega (arith, c.line.ensures.disk, c.loop-line.invariant.disk);
@@ -20,10 +21,12 @@ loop-line-preserved g c =
 
 pub returns-in-Err-clause-serves : goal.returns-in-Err-clause-serves
 returns-in-Err-clause-serves g c =
-    let left = next_of c.args.lines.now c.loop-line.line-index c.line-item.result c.as_slice.result.now c.loop-line-test.true c.line-item.is c.as_slice.ensures in
+    let left = next_of c.args.lines.now c.loop-line.line-index c.line-item.result c.as_slice.result.now c.loop-line-test.true c.line-item.is
+    c.as_slice.ensures in
     let new = g.K.Sink.given c.line.new.out in
     c.loop-line.invariant.leads new (Err c.in-Err.stop)
-    (rw left (stops_at g.C.Reads.on_line c.loop-line.course c.as_slice.result.now (drop (c.loop-line.line-index + 1) c.args.lines.now) (g.K.Sink.given c.loop-line.out) new c.in-Err.stop c.in-Err.ensures.serves))
+    (rw left (stops_at g.C.Reads.on_line c.loop-line.course c.as_slice.result.now (drop (c.loop-line.line-index + 1) c.args.lines.now)
+    (g.K.Sink.given c.loop-line.out) new c.in-Err.stop c.in-Err.ensures.serves))
 
 pub returns-clause-serves : goal.returns-clause-serves
 returns-clause-serves g c =

@@ -6,12 +6,14 @@ use Rattle.script_course.proofs.readings.refuse_behind.Goals as goal
 
 pub returns-in-Ok-clause-serves : goal.returns-in-Ok-clause-serves
 returns-in-Ok-clause-serves g c =
-    refused_on (with_lines g.C.Reads.on_line (Goes [] c.args.course) c.args.lines.now) c.in-Ok.field-0 c.args.refusal.now (g.K.Sink.given c.args.out.now) (g.K.Sink.given c.each_line.new.out) (g.K.Sink.given c.refuse.new.out)
+    refused_on (with_lines g.C.Reads.on_line (Goes [] c.args.course) c.args.lines.now) c.in-Ok.field-0 c.args.refusal.now (g.K.Sink.given c.args.out.now)
+    (g.K.Sink.given c.each_line.new.out) (g.K.Sink.given c.refuse.new.out)
     c.refuse.result c.in-Ok.ensures.serves c.refuse.ensures.serves
 
 pub returns-in-Err-clause-serves : goal.returns-in-Err-clause-serves
 returns-in-Err-clause-serves g c =
-    refused_cut (with_lines g.C.Reads.on_line (Goes [] c.args.course) c.args.lines.now) c.args.refusal.now (g.K.Sink.given c.args.out.now) (g.K.Sink.given c.each_line.new.out) c.in-Err.stop c.in-Err.ensures.serves
+    refused_cut (with_lines g.C.Reads.on_line (Goes [] c.args.course) c.args.lines.now) c.args.refusal.now (g.K.Sink.given c.args.out.now)
+    (g.K.Sink.given c.each_line.new.out) c.in-Err.stop c.in-Err.ensures.serves
 
 pub returns-in-Ok-clause-left : goal.returns-in-Ok-clause-left
 returns-in-Ok-clause-left g c =
@@ -19,4 +21,5 @@ returns-in-Ok-clause-left g c =
     let new = g.K.Sink.given c.refuse.new.out in
     let disk = c.each_line.new.disk in
     any_err c.refuse.result (λ why. g.C.Reads.left c.args.course why new disk)
-    (λ why. c.in-Ok.ensures.back why new disk (g.met.C.Reads.leaves c.in-Ok.field-0 why c.args.refusal.now mid new disk c.in-Ok.ensures.held c.refuse.ensures.front))
+    (λ why. c.in-Ok.ensures.back why new disk (g.met.C.Reads.leaves c.in-Ok.field-0 why c.args.refusal.now mid new disk c.in-Ok.ensures.held
+    c.refuse.ensures.front))

@@ -9,4 +9,5 @@ use Rattle.serial_check.specs.Orders.{is_written}
 use Rattle.serial_check.proofs.orders.by_number.Given as goal
 
 abbrev pub invariant-loop-request : goal.invariant-loop-request
-invariant-loop-request l = (token : List ℕ) → option_or (option_copied (tree.get (slice_cmp nat_cmp) l.all token)) (find (is_written token) (drop l.request-index l.list)) ≡ find (is_written token) l.list
+invariant-loop-request l = (token : List ℕ) → option_or (option_copied (tree.get (slice_cmp nat_cmp) l.all token))
+    (find (is_written token) (drop l.request-index l.list)) ≡ find (is_written token) l.list

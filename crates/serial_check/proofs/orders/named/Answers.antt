@@ -18,14 +18,17 @@ loop-token-preserved c =
     let token = (get_or tokens i nothing).now in
     let named = map deref c.loop-token.order.items in
     let request = c.in-Some.request.now in
-    let found : unnamed list named token ≡ Some request = sym (c.loop-token.invariant.left token) ∙ sym c.in_ok-request.ensures.found ∙ ap option_copied c.in-Some.is in
-    let pushed : map deref c.push.new.self.items ≡ named ++ request ∷ [] = ap (map deref) c.in_ok-push-in-Some.ensures.items ∙ map-append deref c.loop-token.order.items (c.in-Some.request ∷ []) in
+    let found : unnamed list named token ≡ Some request = sym (c.loop-token.invariant.left token) ∙ sym c.in_ok-request.ensures.found
+    ∙ ap option_copied c.in-Some.is in
+    let pushed : map deref c.push.new.self.items ≡ named ++ request ∷ [] = ap (map deref) c.in_ok-push-in-Some.ensures.items
+    ∙ map-append deref c.loop-token.order.items (c.in-Some.request ∷ []) in
     record {
       tokens = ap (λ order. named_after list order (map deref (drop (i + 1) tokens))) pushed
           ∙ goes_on list named request token (map deref (drop (i + 1) tokens)) found
           ∙ ap (λ rest. named_after list named (map deref rest)) (sym (drop_more tokens i nothing c.loop-token-test.true))
           ∙ c.loop-token.invariant.tokens;
-      left = λ other. taken list named request token other _ found (c.in_ok-request.ensures.left other ∙ ap (λ was. if bytes_eq token other then None else was) (c.loop-token.invariant.left other))
+      left = λ other. taken list named request token other _ found (c.in_ok-request.ensures.left other
+          ∙ ap (λ was. if bytes_eq token other then None else was) (c.loop-token.invariant.left other))
           ∙ ap (λ order. unnamed list order other) (sym pushed);
     }
 

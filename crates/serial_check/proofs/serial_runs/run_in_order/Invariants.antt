@@ -11,6 +11,8 @@ use Rattle.serial_check.proofs.serial_runs.run_in_order.Given as goal
 
 abbrev pub invariant-loop-request : goal.invariant-loop-request
 invariant-loop-request l = record {
-  ends : (q : ℕ) → option_or (end_in (run_of l.catalog) l.tables (map deref (drop l.request-index l.order)) q) (tree.get nat_cmp l.ends q) ≡ end_in (run_of l.catalog) l.fn.tables (map deref l.order) q;
-  rows : serial_map is_done (run_of l.catalog) l.tables (map deref (drop l.request-index l.order)) ≡ serial_map is_done (run_of l.catalog) l.fn.tables (map deref l.order);
+  ends : (q : ℕ) → option_or (end_in (run_of l.catalog) l.tables (map deref (drop l.request-index l.order)) q) (tree.get nat_cmp l.ends q) ≡ end_in
+      (run_of l.catalog) l.fn.tables (map deref l.order) q;
+  rows : serial_map is_done (run_of l.catalog) l.tables (map deref (drop l.request-index l.order)) ≡ serial_map is_done (run_of l.catalog) l.fn.tables
+      (map deref l.order);
 }

@@ -31,7 +31,8 @@ pub returns-clause-turned : goal.returns-clause-turned
 returns-clause-turned g c =
     let on : is_stale c.in-Some.store ≡ true = grind (arith, c.is_stale.ensures, c.if-not-is_stale.false) in
     let due : stale_by c.args.live.now.store ≡ true = ap (λ (s : Option Kept). stale_by s) c.in-Some.is ∙ on in
-    turned_is c.args.live.now c.first.result.now c.first.ensures.first c.in-Some.store c.in-Some.is c.rotate.result c.rotate.new.store (stale_by c.args.live.now.store) due c.rotate.ensures.turned
+    turned_is c.args.live.now c.first.result.now c.first.ensures.first c.in-Some.store c.in-Some.is c.rotate.result c.rotate.new.store
+    (stale_by c.args.live.now.store) due c.rotate.ensures.turned
 
 pub returns-clause-images : goal.returns-clause-images
 returns-clause-images g c k later h =

@@ -32,18 +32,23 @@ rotate-laid-requires-clause-carried g c =
 
 pub returns-in-Ok-clause-holds : goal.returns-in-Ok-clause-holds
 returns-in-Ok-clause-holds g c =
-    rotate_held c.args.store.now c.args.engine.now c.args.config.now c.catalog.result.now c.tables.result.now c.carried.result.now c.batches-batches.result c.requests-requests.result
+    rotate_held c.args.store.now c.args.engine.now c.args.config.now c.catalog.result.now c.tables.result.now c.carried.result.now c.batches-batches.result
+    c.requests-requests.result
     c.catalog.ensures c.tables.ensures c.carried.ensures c.batches-batches.ensures c.requests-requests.ensures
     (g.D.Disk.history c.rotate-laid.new.disk) c.rotate-laid.new.self c.in-Ok.ensures.stands
 
 pub returns-in-Ok-clause-images : goal.returns-in-Ok-clause-images
 returns-in-Ok-clause-images g c k later h =
-    rotate_leaves c.args.store.now c.args.engine.now c.args.config.now c.catalog.result.now c.tables.result.now c.carried.result.now c.batches-batches.result c.requests-requests.result
+    rotate_leaves c.args.store.now c.args.engine.now c.args.config.now c.catalog.result.now c.tables.result.now c.carried.result.now c.batches-batches.result
+    c.requests-requests.result
     c.catalog.ensures c.tables.ensures c.carried.ensures c.batches-batches.ensures c.requests-requests.ensures
-    (g.D.Disk.history c.args.disk.now) (g.D.Disk.history c.rotate-laid.new.disk) k later h (c.rotate-laid.ensures.images c.requires.may.open_yet k later h.stands)
+    (g.D.Disk.history c.args.disk.now) (g.D.Disk.history c.rotate-laid.new.disk) k later h
+    (c.rotate-laid.ensures.images c.requires.may.open_yet k later h.stands)
 
 pub returns-in-Err-clause-images : goal.returns-in-Err-clause-images
 returns-in-Err-clause-images g c k later h =
-    rotate_leaves c.args.store.now c.args.engine.now c.args.config.now c.catalog.result.now c.tables.result.now c.carried.result.now c.batches-batches.result c.requests-requests.result
+    rotate_leaves c.args.store.now c.args.engine.now c.args.config.now c.catalog.result.now c.tables.result.now c.carried.result.now c.batches-batches.result
+    c.requests-requests.result
     c.catalog.ensures c.tables.ensures c.carried.ensures c.batches-batches.ensures c.requests-requests.ensures
-    (g.D.Disk.history c.args.disk.now) (g.D.Disk.history c.rotate-laid.new.disk) k later h (c.rotate-laid.ensures.images c.requires.may.open_yet k later h.stands)
+    (g.D.Disk.history c.args.disk.now) (g.D.Disk.history c.rotate-laid.new.disk) k later h
+    (c.rotate-laid.ensures.images c.requires.may.open_yet k later h.stands)

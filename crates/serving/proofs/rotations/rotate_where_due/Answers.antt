@@ -11,17 +11,21 @@ returns-then-not-rotation_due-clause-images g c k later h =
 pub returns-clause-holds : goal.returns-clause-holds
 returns-clause-holds g c =
     let on : c.rotation_due.result ≡ true = grind (arith, c.if-not-rotation_due.false) in
-    let due = due_here c.args.live.now c.first-engine.result.now c.first-engine.ensures.first c.in-Some.store c.in-Some.is c.rotation_due.result c.batches.result c.log_len.result
+    let due = due_here c.args.live.now c.first-engine.result.now c.first-engine.ensures.first c.in-Some.store c.in-Some.is c.rotation_due.result
+    c.batches.result c.log_len.result
     c.rotation_due.ensures c.batches.ensures c.log_len.ensures in
     turned_holds c.args.live.now c.first-engine.result.now c.first-engine.ensures.first c.in-Some.store c.in-Some.is c.rotate.result
-    (g.D.Disk.history c.args.disk.now) (g.D.Disk.history c.rotate.new.disk) c.rotate.new.store (due_by c.args.live.now.checkpoint (state_of c.args.live.now).batches c.args.live.now.store) (due ∙ on) c.rotate.ensures.holds
+    (g.D.Disk.history c.args.disk.now) (g.D.Disk.history c.rotate.new.disk) c.rotate.new.store
+    (due_by c.args.live.now.checkpoint (state_of c.args.live.now).batches c.args.live.now.store) (due ∙ on) c.rotate.ensures.holds
 
 pub returns-clause-turned : goal.returns-clause-turned
 returns-clause-turned g c =
     let on : c.rotation_due.result ≡ true = grind (arith, c.if-not-rotation_due.false) in
-    let due = due_here c.args.live.now c.first-engine.result.now c.first-engine.ensures.first c.in-Some.store c.in-Some.is c.rotation_due.result c.batches.result c.log_len.result
+    let due = due_here c.args.live.now c.first-engine.result.now c.first-engine.ensures.first c.in-Some.store c.in-Some.is c.rotation_due.result
+    c.batches.result c.log_len.result
     c.rotation_due.ensures c.batches.ensures c.log_len.ensures in
-    turned_is c.args.live.now c.first-engine.result.now c.first-engine.ensures.first c.in-Some.store c.in-Some.is c.rotate.result c.rotate.new.store (due_by c.args.live.now.checkpoint (state_of c.args.live.now).batches c.args.live.now.store) (due ∙ on) c.rotate.ensures.turned
+    turned_is c.args.live.now c.first-engine.result.now c.first-engine.ensures.first c.in-Some.store c.in-Some.is c.rotate.result c.rotate.new.store
+    (due_by c.args.live.now.checkpoint (state_of c.args.live.now).batches c.args.live.now.store) (due ∙ on) c.rotate.ensures.turned
 
 pub returns-clause-images : goal.returns-clause-images
 returns-clause-images g c k later h =
@@ -30,4 +34,5 @@ returns-clause-images g c k later h =
 
 pub rotate-requires-clause-may : goal.rotate-requires-clause-may
 rotate-requires-clause-may g c =
-    taken_turns c.args.live.now c.first-engine.result.now c.first-engine.ensures.first c.in-Some.store c.in-Some.is (g.D.Disk.history c.args.disk.now) c.requires.taken
+    taken_turns c.args.live.now c.first-engine.result.now c.first-engine.ensures.first c.in-Some.store c.in-Some.is
+    (g.D.Disk.history c.args.disk.now) c.requires.taken

@@ -10,17 +10,22 @@ use Rattle.store_commands.proofs.inits.close.Goals as goal
 
 pub make-requires-clause-rows : goal.make-requires-clause-rows
 make-requires-clause-rows g c =
-    closed_under c.args.last.place.head c.in-Ok.place.head c.args.last.tables c.requires.fitting (c.closes.ensures c.args.last.place c.in-Ok.place c.in-Ok.ensures)
+    closed_under c.args.last.place.head c.in-Ok.place.head c.args.last.tables c.requires.fitting
+    (c.closes.ensures c.args.last.place c.in-Ok.place c.in-Ok.ensures)
 
 pub returns-in-Err-Memory-clause-ends : goal.returns-in-Err-Memory-clause-ends
 returns-in-Err-Memory-clause-ends g c =
-    ends_untouched (λ taken. on_end c.args.settings.now taken c.args.last) (g.D.Disk.history c.args.disk.now) (g.K.Sink.given c.args.out.now) (g.K.Sink.given c.args.out.now) _
+    ends_untouched (λ taken. on_end c.args.settings.now taken c.args.last) (g.D.Disk.history c.args.disk.now) (g.K.Sink.given c.args.out.now)
+    (g.K.Sink.given c.args.out.now) _
     (λ taken. front_none (g.K.Sink.given c.args.out.now) (on_end c.args.settings.now taken c.args.last).bytes)
 
 pub returns-clause-ends : goal.returns-clause-ends
 returns-clause-ends g c =
-    let all : (taken : Bool) → Finishes (on_end c.args.settings.now taken c.args.last) (g.K.Sink.given c.args.out.now) (g.K.Sink.given c.refuse.new.out) c.refuse.result = λ taken. search rules in
-    ends_untouched (λ taken. on_end c.args.settings.now taken c.args.last) (g.D.Disk.history c.args.disk.now) (g.K.Sink.given c.args.out.now) (g.K.Sink.given c.refuse.new.out) c.refuse.result all
+    let all : (taken : Bool) → Finishes (on_end c.args.settings.now taken c.args.last) (g.K.Sink.given c.args.out.now)
+    (g.K.Sink.given c.refuse.new.out) c.refuse.result = λ taken. search rules in
+    ends_untouched (λ taken. on_end c.args.settings.now taken c.args.last) (g.D.Disk.history c.args.disk.now) (g.K.Sink.given c.args.out.now)
+    (g.K.Sink.given c.refuse.new.out) c.refuse.result all
 
 pub returns-clause-ungiven : goal.returns-clause-ungiven
-returns-clause-ungiven g c = ungiven_never (Rose (g.K.Sink.faults c.args.out.now) (g.K.Sink.faults c.refuse.new.out)) (g.K.Sink.given c.args.out.now) (g.K.Sink.given c.refuse.new.out) c.refuse.result c.refuse.ensures.cause
+returns-clause-ungiven g c = ungiven_never (Rose (g.K.Sink.faults c.args.out.now) (g.K.Sink.faults c.refuse.new.out)) (g.K.Sink.given c.args.out.now)
+    (g.K.Sink.given c.refuse.new.out) c.refuse.result c.refuse.ensures.cause

@@ -14,22 +14,29 @@ returns-in_default-clause-inits g c =
 
 pub returns-in-Ok-read_through-clause-inits : goal.returns-in-Ok-read_through-clause-inits
 returns-in-Ok-read_through-clause-inits g c =
-    inits_on c.args.settings.now (g.D.Disk.history c.args.disk.now) c.in-Ok.start c.in-Ok.ensures (g.S.Source.left c.args.input.now) (g.S.Source.left c.read_through.new.input) (g.K.Sink.given c.args.out.now)
+    inits_on c.args.settings.now (g.D.Disk.history c.args.disk.now) c.in-Ok.start c.in-Ok.ensures (g.S.Source.left c.args.input.now)
+    (g.S.Source.left c.read_through.new.input) (g.K.Sink.given c.args.out.now)
     (g.D.Disk.history c.close.new.disk) (g.K.Sink.given c.read_through.new.out) (g.K.Sink.given c.close.new.out) c.in-Ok-read_through.last c.close.result
     c.in-Ok-read_through.ensures.comes c.close.ensures.read c.close.ensures.ends
 
 pub returns-in-Ok-read_through-clause-made : goal.returns-in-Ok-read_through-clause-made
 returns-in-Ok-read_through-clause-made g c done =
-    is_made c.args.settings.now (g.D.Disk.history c.args.disk.now) c.in-Ok.start c.in-Ok.ensures (g.S.Source.left c.args.input.now) (g.S.Source.left c.read_through.new.input) (g.K.Sink.given c.args.out.now)
-    (g.D.Disk.history c.close.new.disk) (g.K.Sink.given c.read_through.new.out) c.in-Ok-read_through.last c.in-Ok-read_through.ensures.comes (c.close.ensures.made done)
+    is_made c.args.settings.now (g.D.Disk.history c.args.disk.now) c.in-Ok.start c.in-Ok.ensures (g.S.Source.left c.args.input.now)
+    (g.S.Source.left c.read_through.new.input) (g.K.Sink.given c.args.out.now)
+    (g.D.Disk.history c.close.new.disk) (g.K.Sink.given c.read_through.new.out) c.in-Ok-read_through.last c.in-Ok-read_through.ensures.comes
+    (c.close.ensures.made done)
 
 pub returns-in-Err-clause-inits : goal.returns-in-Err-clause-inits
 returns-in-Err-clause-inits g c =
-    inits_cut c.args.settings.now (g.D.Disk.history c.args.disk.now) c.in-Ok.start c.in-Ok.ensures (g.S.Source.left c.args.input.now) (g.S.Source.left c.read_through.new.input) (g.K.Sink.given c.args.out.now)
+    inits_cut c.args.settings.now (g.D.Disk.history c.args.disk.now) c.in-Ok.start c.in-Ok.ensures (g.S.Source.left c.args.input.now)
+    (g.S.Source.left c.read_through.new.input) (g.K.Sink.given c.args.out.now)
     (g.K.Sink.given c.read_through.new.out) c.in-Err.stop c.in-Err.ensures.comes
 
 pub returns-in-Ok-read_through-clause-ungiven : goal.returns-in-Ok-read_through-clause-ungiven
 returns-in-Ok-read_through-clause-ungiven g c =
-    ungiven_on (g.S.Source.left c.args.input.now) (g.K.Sink.given c.args.out.now) (g.K.Sink.given c.read_through.new.out) (g.K.Sink.given c.close.new.out) c.in-Ok-read_through.last c.close.result
-    (subst (λ (d : Draft). IfSome (g.S.Source.left c.args.input.now) (λ text. Reaches (told_whole on_line no_line d text) (g.K.Sink.given c.args.out.now) (g.K.Sink.given c.read_through.new.out) (Ok c.in-Ok-read_through.last))) c.in-Ok.ensures c.in-Ok-read_through.ensures.comes.0)
+    ungiven_on (g.S.Source.left c.args.input.now) (g.K.Sink.given c.args.out.now) (g.K.Sink.given c.read_through.new.out)
+    (g.K.Sink.given c.close.new.out) c.in-Ok-read_through.last c.close.result
+    (subst (λ (d : Draft). IfSome (g.S.Source.left c.args.input.now)
+    (λ text. Reaches (told_whole on_line no_line d text) (g.K.Sink.given c.args.out.now) (g.K.Sink.given c.read_through.new.out)
+    (Ok c.in-Ok-read_through.last))) c.in-Ok.ensures c.in-Ok-read_through.ensures.comes.0)
     c.close.ensures.ungiven

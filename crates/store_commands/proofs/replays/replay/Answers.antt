@@ -16,7 +16,8 @@ replay_found-requires-clause-ready g c κs within = ready_of _ (checkpoint_in c.
 
 pub replay_found-requires-clause-fit : goal.replay_found-requires-clause-fit
 replay_found-requires-clause-fit g c κs within =
-    runnable (checkpoint_in c.in-Ok.found.image) c.in-Ok.found.image.batches c.in-Ok.found.image.requests c.in-Ok.ensures.later.0 (batches_in c.in-Ok.found.later.items) c.in-Ok.ensures.in_order.fallback
+    runnable (checkpoint_in c.in-Ok.found.image) c.in-Ok.found.image.batches c.in-Ok.found.image.requests c.in-Ok.ensures.later.0
+    (batches_in c.in-Ok.found.later.items) c.in-Ok.ensures.in_order.fallback
     c.in-Ok.ensures.later.1
 
 pub returns-in-Err-clause-output : goal.returns-in-Err-clause-output
@@ -25,26 +26,32 @@ returns-in-Err-clause-output g c images found reads reopens =
     let mid = g.D.Disk.history c.attach.new.disk in
     c.tell_refused.ensures.told (out_of c.args.settings.now images found)
     (out_is c.args.settings.now images old mid c.in-Err.refused found
-    (reads_left mid images (reads_on old mid images c.attach.ensures.reads reads) (λ file. g.met.D.Disk.reads c.attach.new.disk mid.now file)) c.in-Err.ensures.refused reopens)
+    (reads_left mid images (reads_on old mid images c.attach.ensures.reads reads) (λ file. g.met.D.Disk.reads c.attach.new.disk mid.now file))
+    c.in-Err.ensures.refused reopens)
 
 pub returns-in-Err-clause-cause : goal.returns-in-Err-clause-cause
 returns-in-Err-clause-cause g c =
-    attach_cause (g.D.Disk.history c.args.disk.now) (g.D.Disk.history c.attach.new.disk) _ c.in-Err.refused c.tell_refused.result c.in-Err.ensures.refused c.tell_refused.ensures.cause
+    attach_cause (g.D.Disk.history c.args.disk.now) (g.D.Disk.history c.attach.new.disk) _ c.in-Err.refused c.tell_refused.result c.in-Err.ensures.refused
+    c.tell_refused.ensures.cause
 
 pub returns-in-Ok-clause-output : goal.returns-in-Ok-clause-output
 returns-in-Ok-clause-output g c images found reads reopens =
     let old = g.D.Disk.history c.args.disk.now in
     let mid = g.D.Disk.history c.attach.new.disk in
     let there = reads_on old mid images c.attach.ensures.reads reads in
-    let same = found_is mid images there (λ file. g.met.D.Disk.reads c.attach.new.disk mid.now file) _ (checkpoint_in c.in-Ok.found.image) (batches_in c.in-Ok.found.later.items) found
+    let same = found_is mid images there (λ file. g.met.D.Disk.reads c.attach.new.disk mid.now file) _ (checkpoint_in c.in-Ok.found.image)
+    (batches_in c.in-Ok.found.later.items) found
     c.in-Ok.ensures.stands reopens in
-    found_finishes c.args.settings.now images mid (checkpoint_in c.in-Ok.found.image) (batches_in c.in-Ok.found.later.items) found (g.K.Sink.given c.args.out.now) (g.K.Sink.given c.replay_found.new.out)
+    found_finishes c.args.settings.now images mid (checkpoint_in c.in-Ok.found.image) (batches_in c.in-Ok.found.later.items) found
+    (g.K.Sink.given c.args.out.now) (g.K.Sink.given c.replay_found.new.out)
     c.replay_found.result there same c.replay_found.ensures.output
 
 pub returns-in-Ok-clause-images : goal.returns-in-Ok-clause-images
 returns-in-Ok-clause-images g c =
-    still_leaves (g.D.Disk.history c.args.disk.now) (g.D.Disk.history c.attach.new.disk) (g.D.Disk.history c.replay_found.new.disk) c.attach.ensures.images c.replay_found.ensures.still
+    still_leaves (g.D.Disk.history c.args.disk.now) (g.D.Disk.history c.attach.new.disk) (g.D.Disk.history c.replay_found.new.disk) c.attach.ensures.images
+    c.replay_found.ensures.still
 
 pub returns-in-Ok-clause-cause : goal.returns-in-Ok-clause-cause
 returns-in-Ok-clause-cause g c =
-    replay_cause (g.D.Disk.history c.args.disk.now) (g.D.Disk.history c.attach.new.disk) (g.D.Disk.history c.replay_found.new.disk) _ c.replay_found.result c.attach.ensures.images.faults c.replay_found.ensures.cause
+    replay_cause (g.D.Disk.history c.args.disk.now) (g.D.Disk.history c.attach.new.disk) (g.D.Disk.history c.replay_found.new.disk) _ c.replay_found.result
+    c.attach.ensures.images.faults c.replay_found.ensures.cause

@@ -13,7 +13,8 @@ use Rattle.store_commands.proofs.replays.replay_found.Goals as goal
 
 pub replay_later-requires-clause-fit : goal.replay_later-requires-clause-fit
 replay_later-requires-clause-fit g c κs within =
-    fit_from (plan_of c.in-Ok.live) c.args.found.image.catalog (state_of c.in-Ok.live) (state_at (checkpoint_in c.args.found.image)) (batches_in c.args.found.later.items) c.in-Ok.ensures.plan c.in-Ok.ensures.state
+    fit_from (plan_of c.in-Ok.live) c.args.found.image.catalog (state_of c.in-Ok.live) (state_at (checkpoint_in c.args.found.image))
+    (batches_in c.args.found.later.items) c.in-Ok.ensures.plan c.in-Ok.ensures.state
     c.requires.fit
 
 pub returns-in-Ok-clause-output : goal.returns-in-Ok-clause-output
@@ -21,6 +22,8 @@ returns-in-Ok-clause-output g c bytes reads =
     let c0 = checkpoint_in c.args.found.image in
     let old = g.D.Disk.history c.args.disk.now in
     subst (λ (out : Out). Finishes out (g.K.Sink.given c.args.out.now) (g.K.Sink.given c.replay_later.new.out) c.replay_later.result)
-    (replayed_from bytes (batches_in c.args.found.later.items) (plan_of c.in-Ok.live) c.args.found.image.catalog c.in-Ok.live.each (is_each c.args.settings.now.listing) c.log_of-log.result (log_in c0)
-    (state_of c.in-Ok.live) (state_at c0) c.in-Ok.ensures.plan (c.in-Ok.ensures.each ∙ ap (λ (e : Engines). e.each) c.engines_of-engines.ensures) c.log_of-log.ensures.log c.in-Ok.ensures.state)
+    (replayed_from bytes (batches_in c.args.found.later.items) (plan_of c.in-Ok.live) c.args.found.image.catalog c.in-Ok.live.each
+    (is_each c.args.settings.now.listing) c.log_of-log.result (log_in c0)
+    (state_of c.in-Ok.live) (state_at c0) c.in-Ok.ensures.plan (c.in-Ok.ensures.each ∙ ap (λ (e : Engines). e.each) c.engines_of-engines.ensures)
+    c.log_of-log.ensures.log c.in-Ok.ensures.state)
     (c.replay_later.ensures.output bytes (read_from old c.log_of-log.result (log_in c0) bytes c.log_of-log.ensures.log reads))

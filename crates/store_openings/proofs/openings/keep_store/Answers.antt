@@ -5,17 +5,20 @@ use Rattle.store_openings.proofs.openings.keep_store.Goals as goal
 
 pub returns-in-Ok-clause-kept : goal.returns-in-Ok-clause-kept
 returns-in-Ok-clause-kept g c =
-    kept c.args.live c.args.store c.args.checkpoint (g.D.Disk.history c.args.disk.now) (g.D.Disk.history c.renew_where_stale.new.disk) c.requires.runnable c.requires.store
+    kept c.args.live c.args.store c.args.checkpoint (g.D.Disk.history c.args.disk.now) (g.D.Disk.history c.renew_where_stale.new.disk) c.requires.runnable
+    c.requires.store
     c.renew_where_stale.new.live c.in-Ok.ensures.turned c.in-Ok.ensures.logging
 
 pub returns-in-Ok-clause-holds : goal.returns-in-Ok-clause-holds
 returns-in-Ok-clause-holds g c k later h =
-    turned_some (is_stale c.args.store) (g.D.Disk.history c.renew_where_stale.new.disk) (plan_of c.args.live) (state_of c.args.live) c.renew_where_stale.new.live.store k later
+    turned_some (is_stale c.args.store) (g.D.Disk.history c.renew_where_stale.new.disk) (plan_of c.args.live)
+    (state_of c.args.live) c.renew_where_stale.new.live.store k later
     (c.in-Ok.ensures.holds k later h)
 
 pub returns-in-Err-clause-refused : goal.returns-in-Err-clause-refused
 returns-in-Err-clause-refused g c =
-    not_kept (g.D.Disk.history c.args.disk.now) (g.D.Disk.history c.renew_where_stale.new.disk) c.args.store c.in-Err.why c.not_rotated.result c.in-Err.ensures.cause c.not_rotated.ensures
+    not_kept (g.D.Disk.history c.args.disk.now) (g.D.Disk.history c.renew_where_stale.new.disk) c.args.store c.in-Err.why c.not_rotated.result
+    c.in-Err.ensures.cause c.not_rotated.ensures
 
 pub not_rotated-requires : goal.not_rotated-requires
 not_rotated-requires g c = rotating_of c.in-Err.why _ c.in-Err.ensures.cause

@@ -17,7 +17,8 @@ pub returns-in-Err-clause-refused : goal.returns-in-Err-clause-refused
 returns-in-Err-clause-refused g c images found reads reopens =
     let old = g.D.Disk.history c.args.disk.now in
     let mid = g.D.Disk.history c.attach.new.disk in
-    attach_refusal mid images (reads_on old mid images c.attach.ensures.reads reads) (λ file. g.met.D.Disk.reads c.attach.new.disk mid.now file) old c.in-Err.refused c.not_attached.result found
+    attach_refusal mid images (reads_on old mid images c.attach.ensures.reads reads) (λ file. g.met.D.Disk.reads c.attach.new.disk mid.now file) old
+    c.in-Err.refused c.not_attached.result found
     c.in-Err.ensures.refused c.not_attached.ensures reopens
 
 pub returns-in-Err-clause-images : goal.returns-in-Err-clause-images
@@ -30,7 +31,8 @@ returns-in-Err-clause-unwritten g c =
 
 pub returns-in-Err-clause-cause : goal.returns-in-Err-clause-cause
 returns-in-Err-clause-cause g c =
-    attach_fault (g.D.Disk.history c.args.disk.now) (g.D.Disk.history c.attach.new.disk) c.in-Err.refused c.not_attached.result c.in-Err.ensures.refused c.not_attached.ensures
+    attach_fault (g.D.Disk.history c.args.disk.now) (g.D.Disk.history c.attach.new.disk) c.in-Err.refused c.not_attached.result c.in-Err.ensures.refused
+    c.not_attached.ensures
 
 pub returns-in-Ok-clause-opened : goal.returns-in-Ok-clause-opened
 returns-in-Ok-clause-opened g c =
@@ -40,7 +42,8 @@ returns-in-Ok-clause-opened g c =
     let later = batches_in c.in-Ok.found.later.items in
     ok_more c.open_found.result (λ live f images found reads reopens.
     opened_as images c.args.engines.now image later found live f.found
-    (found_is mid images (reads_on old mid images c.attach.ensures.reads reads) (λ file. g.met.D.Disk.reads c.attach.new.disk mid.now file) c.in-Ok.store image later found
+    (found_is mid images (reads_on old mid images c.attach.ensures.reads reads) (λ file. g.met.D.Disk.reads c.attach.new.disk mid.now file) c.in-Ok.store image
+    later found
     c.in-Ok.ensures.stands reopens)) c.open_found.ensures.opened
 
 pub returns-in-Ok-clause-refused : goal.returns-in-Ok-clause-refused
@@ -85,7 +88,8 @@ returns-in-Ok-clause-holds g c =
     let new = g.D.Disk.history c.open_found.new.disk in
     ok_both c.open_found.result (λ live f h told.
     let held = h (c.in-Ok.ensures.stands (c.attach.ensures.told told)) in
-    (held.0, held.1, subst (λ (s : State). Holds new (plan_of live) s live.store held.0 held.1) (sym f.settings) held.2)) c.open_found.ensures.opened c.open_found.ensures.holds
+    (held.0, held.1, subst (λ (s : State). Holds new (plan_of live) s live.store held.0 held.1) (sym f.settings) held.2)) c.open_found.ensures.opened
+    c.open_found.ensures.holds
 
 pub returns-in-Ok-clause-images : goal.returns-in-Ok-clause-images
 returns-in-Ok-clause-images g c images found reads reopens =
@@ -101,7 +105,8 @@ returns-in-Ok-clause-images g c images found reads reopens =
 
 pub returns-in-Ok-clause-unwritten : goal.returns-in-Ok-clause-unwritten
 returns-in-Ok-clause-unwritten g c =
-    err_more c.open_found.result (λ why h. unwritten_then (g.D.Disk.history c.args.disk.now) (g.D.Disk.history c.attach.new.disk) (g.D.Disk.history c.open_found.new.disk) c.attach.ensures.images why h)
+    err_more c.open_found.result (λ why h. unwritten_then (g.D.Disk.history c.args.disk.now) (g.D.Disk.history c.attach.new.disk)
+    (g.D.Disk.history c.open_found.new.disk) c.attach.ensures.images why h)
     c.open_found.ensures.unwritten
 
 pub returns-in-Ok-clause-disk : goal.returns-in-Ok-clause-disk
@@ -109,5 +114,6 @@ returns-in-Ok-clause-disk g c = ok_more c.open_found.result (λ live le. omega (
 
 pub returns-in-Ok-clause-cause : goal.returns-in-Ok-clause-cause
 returns-in-Ok-clause-cause g c =
-    err_more c.open_found.result (λ why h. found_fault (g.D.Disk.history c.args.disk.now) (g.D.Disk.history c.attach.new.disk) (g.D.Disk.history c.open_found.new.disk) c.in-Ok.store
+    err_more c.open_found.result (λ why h. found_fault (g.D.Disk.history c.args.disk.now) (g.D.Disk.history c.attach.new.disk)
+    (g.D.Disk.history c.open_found.new.disk) c.in-Ok.store
     (checkpoint_in c.in-Ok.found.image) (batches_in c.in-Ok.found.later.items) why c.attach.ensures.images.faults h) c.open_found.ensures.refused

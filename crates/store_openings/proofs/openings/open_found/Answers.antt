@@ -16,17 +16,20 @@ rerun_found-requires-clause-ready g c κs within = ready_of (slot_in c.args.stor
 
 pub rerun_found-requires-clause-fit : goal.rerun_found-requires-clause-fit
 rerun_found-requires-clause-fit g c κs within =
-    runnable (checkpoint_in c.args.found.image) c.args.found.image.batches c.args.found.image.requests c.requires.later.0 (batches_in c.args.found.later.items) c.requires.in_order.fallback c.requires.later.1
+    runnable (checkpoint_in c.args.found.image) c.args.found.image.batches c.args.found.image.requests c.requires.later.0
+    (batches_in c.args.found.later.items) c.requires.in_order.fallback c.requires.later.1
 
 pub keep_store-requires-clause-store : goal.keep_store-requires-clause-store
 keep_store-requires-clause-store g c =
     let same : g.D.Disk.history c.rerun_found.new.disk ≡ g.D.Disk.history c.args.disk.now = ap g.D.Disk.history c.in-Ok.ensures.untouched in
-    store_of (g.D.Disk.history c.rerun_found.new.disk) c.args.store (checkpoint_in c.args.found.image) (batches_in c.args.found.later.items) (state_of c.in-Ok.live) c.in-Ok.ensures.found.state
+    store_of (g.D.Disk.history c.rerun_found.new.disk) c.args.store (checkpoint_in c.args.found.image) (batches_in c.args.found.later.items)
+    (state_of c.in-Ok.live) c.in-Ok.ensures.found.state
     c.requires.in_order c.requires.known (subst (λ (h : History). Rests h c.args.store.files) (sym same) c.requires.rests) c.requires.open c.requires.empty
 
 pub returns-in-Ok-clause-opened : goal.returns-in-Ok-clause-opened
 returns-in-Ok-clause-opened g c =
-    ok_more c.keep_store.result (λ next k. opened_from (g.D.Disk.history c.keep_store.new.disk) c.args.engines.now (checkpoint_in c.args.found.image) (batches_in c.args.found.later.items) c.in-Ok.live next
+    ok_more c.keep_store.result (λ next k. opened_from (g.D.Disk.history c.keep_store.new.disk) c.args.engines.now (checkpoint_in c.args.found.image)
+    (batches_in c.args.found.later.items) c.in-Ok.live next
     c.in-Ok.ensures.found k) c.keep_store.ensures.kept
 
 pub returns-in-Ok-clause-holds : goal.returns-in-Ok-clause-holds
@@ -50,7 +53,8 @@ returns-in-Ok-clause-images g c stands =
     let later = batches_in c.args.found.later.items in
     let same : mid ≡ old = ap g.D.Disk.history c.in-Ok.ensures.untouched in
     let all = c.keep_store.ensures.images image later
-    (held_found mid c.args.store c.args.engines.now image later c.in-Ok.live c.in-Ok.ensures.found (subst (λ (d : History). Stands d c.args.store image later) (sym same) stands)) in
+    (held_found mid c.args.store c.args.engines.now image later c.in-Ok.live c.in-Ok.ensures.found
+    (subst (λ (d : History). Stands d c.args.store image later) (sym same) stands)) in
     run_leaves old new c.args.engines.now image later c.in-Ok.live c.in-Ok.ensures.found
     (subst (λ (d : History). LeavesAll d new (ReopensTo (plan_of c.in-Ok.live) (state_of c.in-Ok.live))) same all)
 
@@ -58,7 +62,8 @@ pub returns-in-Ok-clause-unwritten : goal.returns-in-Ok-clause-unwritten
 returns-in-Ok-clause-unwritten g c =
     let new = g.D.Disk.history c.keep_store.new.disk in
     let same : g.D.Disk.history c.rerun_found.new.disk ≡ g.D.Disk.history c.args.disk.now = ap g.D.Disk.history c.in-Ok.ensures.untouched in
-    err_more c.keep_store.result (λ why h. subst (λ (d : History). LeavesUnwritten d new why) same (kept_unwritten (g.D.Disk.history c.rerun_found.new.disk) new c.args.store why h)) c.keep_store.ensures.refused
+    err_more c.keep_store.result (λ why h. subst (λ (d : History). LeavesUnwritten d new why) same
+    (kept_unwritten (g.D.Disk.history c.rerun_found.new.disk) new c.args.store why h)) c.keep_store.ensures.refused
 
 pub returns-in-Ok-clause-disk : goal.returns-in-Ok-clause-disk
 returns-in-Ok-clause-disk g c =
@@ -76,7 +81,8 @@ returns-in-Ok-clause-refused g c =
 
 pub returns-in-Err-clause-images : goal.returns-in-Err-clause-images
 returns-in-Err-clause-images g c stands =
-    left_leaves (g.D.Disk.history c.args.disk.now) (g.D.Disk.history c.rerun_found.new.disk) (checkpoint_in c.args.found.image) (batches_in c.args.found.later.items) c.rerun_found.ensures.still
+    left_leaves (g.D.Disk.history c.args.disk.now) (g.D.Disk.history c.rerun_found.new.disk) (checkpoint_in c.args.found.image)
+    (batches_in c.args.found.later.items) c.rerun_found.ensures.still
 
 pub returns-in-Err-clause-unwritten : goal.returns-in-Err-clause-unwritten
 returns-in-Err-clause-unwritten g c =
@@ -85,5 +91,6 @@ returns-in-Err-clause-unwritten g c =
 
 pub returns-in-Err-clause-refused : goal.returns-in-Err-clause-refused
 returns-in-Err-clause-refused g c =
-    not_run_found (g.D.Disk.history c.args.disk.now) (g.D.Disk.history c.rerun_found.new.disk) c.args.store (checkpoint_in c.args.found.image) (batches_in c.args.found.later.items) c.in-Err.why
+    not_run_found (g.D.Disk.history c.args.disk.now) (g.D.Disk.history c.rerun_found.new.disk) c.args.store (checkpoint_in c.args.found.image)
+    (batches_in c.args.found.later.items) c.in-Err.why
     c.in-Err.ensures.refused

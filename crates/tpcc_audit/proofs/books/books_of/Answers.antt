@@ -16,8 +16,11 @@ loop-key-preserved c =
     let rows = c.args.rows.now in
     let below : l.key-index < length rows = search rules in
     record {
-      kept = subst (Keeps c.note.new.self) (sym (told-more fact_of deref_pair rows l.key-index c.loop-key-item.result c.fact_of.result below (c.fact_of.ensures ∙ ap (λ r. fact_of (deref_pair r)) c.loop-key-item.is)))
-          (kept-more l.kept c.note.new.self (map fact_of (map deref_pair (take l.key-index rows))) c.fact_of.result c.in_ok-note.ensures.noted l.invariant.kept);
+      kept = subst (Keeps c.note.new.self)
+          (sym (told-more fact_of deref_pair rows l.key-index c.loop-key-item.result c.fact_of.result below (c.fact_of.ensures
+          ∙ ap (λ r. fact_of (deref_pair r)) c.loop-key-item.is)))
+          (kept-more l.kept c.note.new.self (map fact_of (map deref_pair (take l.key-index rows))) c.fact_of.result c.in_ok-note.ensures.noted
+          l.invariant.kept);
       bounded = c.in_ok-note.ensures.bounded l.key-index l.invariant.bounded;
     }
 

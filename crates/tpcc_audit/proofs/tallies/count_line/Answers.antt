@@ -12,4 +12,5 @@ returns-clause-tallies c = λ q.
 
 pub returns-clause-within : goal.returns-clause-within
 returns-clause-within c = λ n q h.
-    set-within n c.args.at q (with_line (tally_in c.args.tallies.now q)) (tally_in c.args.tallies.now q) _ (returns-clause-tallies c q) (line-within n (tally_in c.args.tallies.now q) h) h
+    set-within n c.args.at q (with_line (tally_in c.args.tallies.now q)) (tally_in c.args.tallies.now q) _ (returns-clause-tallies c q)
+    (line-within n (tally_in c.args.tallies.now q) h) h

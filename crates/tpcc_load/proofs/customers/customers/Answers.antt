@@ -27,7 +27,8 @@ loop-place-preserved c =
     let drawn = c.drawn_person-person.ensures ∙ ap (person s (n + 1)) inv.0 in
     let more = over-more n (person s) c.args.draws.now in
     let longer : length c.push.new.self.items ≡ n + 1 = search (rules, inv) in
-    let all : before.0 ++ c.drawn_person-person.result ∷ [] ≡ (over (n + 1) (person s) c.args.draws.now).0 = ap (λ x. before.0 ++ x.0) drawn ∙ sym (ap (λ x. x.0) more) in (
+    let all : before.0 ++ c.drawn_person-person.result ∷ [] ≡ (over (n + 1) (person s) c.args.draws.now).0 = ap (λ x. before.0 ++ x.0) drawn
+    ∙ sym (ap (λ x. x.0) more) in (
       ap (λ x. x.1) drawn ∙ sym (ap (λ x. x.1) more),
       c.in_ok-lay.ensures ∙ ap (λ t. laid t (f c.drawn_person-person.result ∷ [])) inv.1
           ∙ mapped-more c.args.tables.now f before.0 c.drawn_person-person.result ∙ ap (λ xs. laid c.args.tables.now (map f xs)) all,

@@ -47,4 +47,5 @@ returns-clause-fit c =
 pub returns-clause-further : goal.returns-clause-further
 returns-clause-further c =
     let s = c.args.settings.now in
-    subst (IsPast c.args.draws.now) (sym c.loop.invariant.1) (advances-times c.loop.counter (request s c.args.number) (request-advances s c.args.number) c.args.draws.now)
+    subst (IsPast c.args.draws.now) (sym c.loop.invariant.1)
+    (advances-times c.loop.counter (request s c.args.number) (request-advances s c.args.number) c.args.draws.now)

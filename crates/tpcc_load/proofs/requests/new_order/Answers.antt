@@ -19,12 +19,14 @@ returns-in_err-call-clause-further c =
 
 pub returns-clause-call : goal.returns-clause-call
 returns-clause-call c =
-    c.in_ok-call.ensures ∙ ap (λ x. x.0) (order-is c.args.settings.now c.args.number c.order_start-start.result c.in_ok-lines.lines c.args.draws.now c.order_start-start.new.draws c.lines.new.draws
+    c.in_ok-call.ensures ∙ ap (λ x. x.0) (order-is c.args.settings.now c.args.number c.order_start-start.result c.in_ok-lines.lines c.args.draws.now
+    c.order_start-start.new.draws c.lines.new.draws
     c.order_start-start.ensures.drawn c.in_ok-lines.ensures.lines c.in_ok-lines.ensures.past)
 
 pub returns-clause-past : goal.returns-clause-past
 returns-clause-past c =
-    ap (λ x. x.1) (order-is c.args.settings.now c.args.number c.order_start-start.result c.in_ok-lines.lines c.args.draws.now c.order_start-start.new.draws c.lines.new.draws
+    ap (λ x. x.1) (order-is c.args.settings.now c.args.number c.order_start-start.result c.in_ok-lines.lines c.args.draws.now c.order_start-start.new.draws
+    c.lines.new.draws
     c.order_start-start.ensures.drawn c.in_ok-lines.ensures.lines c.in_ok-lines.ensures.past)
 
 pub returns-clause-further : goal.returns-clause-further

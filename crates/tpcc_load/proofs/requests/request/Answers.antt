@@ -8,7 +8,8 @@ pub returns-in_err-call-clause-further : goal.returns-in_err-call-clause-further
 returns-in_err-call-clause-further c = past-trans c.args.draws.now c.random.new.draws _ (1, ap (λ x. x.1) c.random.ensures.drawn) c.in_err-call.ensures.further
 
 pub returns-then-random-lt45-clause-further : goal.returns-then-random-lt45-clause-further
-returns-then-random-lt45-clause-further c = past-trans c.args.draws.now c.random.new.draws _ (1, ap (λ x. x.1) c.random.ensures.drawn) c.in_ok-call.ensures.further
+returns-then-random-lt45-clause-further c = past-trans c.args.draws.now c.random.new.draws _
+    (1, ap (λ x. x.1) c.random.ensures.drawn) c.in_ok-call.ensures.further
 
 pub returns-in_err-call-2-clause-further : goal.returns-in_err-call-2-clause-further
 returns-in_err-call-2-clause-further c =

@@ -23,7 +23,8 @@ append-requires-clause-payload g c =
 
 pub returns-in_err-payload-clause-images : goal.returns-in_err-payload-clause-images
 returns-in_err-payload-clause-images g c none k later stands may =
-    kept_leaves (g.D.Disk.history c.args.disk.now) c.args.self.now k later stands (λ images. Reopens images (Found k (added later c.args.rule c.args.fallback c.args.calls.now)))
+    kept_leaves (g.D.Disk.history c.args.disk.now) c.args.self.now k later stands
+    (λ images. Reopens images (Found k (added later c.args.rule c.args.fallback c.args.calls.now)))
 
 pub returns-in_err-append-clause-images : goal.returns-in_err-append-clause-images
 returns-in_err-append-clause-images g c none k later stands may =
@@ -35,7 +36,8 @@ returns-in_err-append-clause-images g c none k later stands may =
 
 pub returns-in_err-append-clause-refused : goal.returns-in_err-append-clause-refused
 returns-in_err-append-clause-refused g c =
-    let cause = write_refused g.D.Disk.history c.args.disk.now c.append.new.disk c.self.inside.files c.append.new.self c.args.self.now (ap (λ (s : Kept). s.files) c.self.view_is) c.in_err-append.field-0.0 c.in_err-append.ensures.refused in
+    let cause = write_refused g.D.Disk.history c.args.disk.now c.append.new.disk c.self.inside.files c.append.new.self c.args.self.now
+    (ap (λ (s : Kept). s.files) c.self.view_is) c.in_err-append.field-0.0 c.in_err-append.ensures.refused in
     search rules
 
 pub returns-clause-images : goal.returns-clause-images
@@ -62,5 +64,6 @@ returns-clause-known g c =
 pub returns-clause-faults : goal.returns-clause-faults
 returns-clause-faults g c =
     let none = c.in_ok-append.ensures.open in
-    let rests = subst (λ (f : Stored). f.closed ≡ None → Rests (g.D.Disk.history c.args.disk.now) f) (sym (ap (λ (s : Kept). s.files) c.self.view_is)) c.requires.rests none in
+    let rests = subst (λ (f : Stored). f.closed ≡ None → Rests (g.D.Disk.history c.args.disk.now) f)
+    (sym (ap (λ (s : Kept). s.files) c.self.view_is)) c.requires.rests none in
     (c.append.ensures.images none rests.body rests.log rests.holds).faults

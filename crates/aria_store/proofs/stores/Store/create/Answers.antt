@@ -24,7 +24,8 @@ returns-in_err-files-clause-refused g c =
     let a = g.D.Disk.history c.args.disk.now in
     let z = g.D.Disk.history c.create.new.disk in
     let cause : CreateCause a z c.args.over (as_store c.in_err-files.field-0.0) =
-    create_refused a (g.D.Disk.history c.may_write.new.disk) z c.args.over c.in_err-files.field-0.0 c.may_write.ensures.still.faults c.in_err-files.ensures.refused in
+    create_refused a (g.D.Disk.history c.may_write.new.disk) z c.args.over c.in_err-files.field-0.0 c.may_write.ensures.still.faults
+    c.in_err-files.ensures.refused in
     search rules
 
 pub returns-clause-unwritten : goal.returns-clause-unwritten
@@ -40,5 +41,6 @@ returns-clause-stands g c =
     let text = subst (λ (l : List ℕ). IsBodyFor image.head l (image.plan, image.rows, image.held)) (sym c.deref.ensures.value) held in
     let files : c.in_ok-files.files ≡ record { head = head_in c.args.image.now; at = 0; batches = 0; closed = None } =
     c.in_ok-files.ensures.files ∙ ap (λ (h : Head). record { head = h; at = 0; batches = 0; closed = None }) c.head.ensures in
-    let holds = subst (λ (h : Head). Holds (g.D.Disk.history c.create.new.disk) 1 h c.deref.result.now (Ends [] 0)) c.head.ensures c.in_ok-files.ensures.holds in
+    let holds = subst (λ (h : Head). Holds (g.D.Disk.history c.create.new.disk) 1 h c.deref.result.now (Ends [] 0)) c.head.ensures
+    c.in_ok-files.ensures.holds in
     create_stands (g.D.Disk.history c.create.new.disk) c.in_ok-files.files image c.deref.result.now files c.requires.generation text holds

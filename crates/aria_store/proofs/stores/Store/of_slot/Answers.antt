@@ -13,7 +13,8 @@ returns-in_err-later-clause-refused g c =
     let s = g.D.Disk.history c.load_taken.new.disk in
     let cause = later_refused a s (g.D.Disk.history c.read_later.new.disk) c.load_taken.ensures.still
     c.read_later.ensures.still c.requires.settled c.args.slot c.args.head c.requires.chosen
-    (checkpoint_in c.in_ok-image.image) c.in_ok-image.ensures.reads a c.load_taken.ensures.still.faults c.in_err-later.field-0.0 c.in_err-later.ensures.refused in
+    (checkpoint_in c.in_ok-image.image) c.in_ok-image.ensures.reads a c.load_taken.ensures.still.faults c.in_err-later.field-0.0
+    c.in_err-later.ensures.refused in
     search rules
 
 pub known-requires : goal.known-requires
@@ -26,7 +27,8 @@ returns-clause-stands g c =
     let a = g.D.Disk.history c.args.disk.now in
     let s = g.D.Disk.history c.load_taken.new.disk in
     let rule = c.settings_after-rule.ensures.rule ∙ ap (λ (l : List Logged). rule_after c.in_ok-image.image.rule (batches_in l)) c.as_slice.ensures.value in
-    let fallback = c.settings_after-rule.ensures.fallback ∙ ap (λ (l : List Logged). fallback_after c.in_ok-image.image.fallback (batches_in l)) c.as_slice.ensures.value in
+    let fallback = c.settings_after-rule.ensures.fallback ∙ ap (λ (l : List Logged). fallback_after c.in_ok-image.image.fallback (batches_in l))
+    c.as_slice.ensures.value in
     rw c.known.ensures
     (attach_stands a s (g.D.Disk.history c.read_later.new.disk) c.load_taken.ensures.still c.read_later.ensures.still c.requires.settled
     c.args.slot c.args.head c.requires.chosen (checkpoint_in c.in_ok-image.image) c.in_ok-image.ensures.reads c.in_ok-image.ensures.head
@@ -55,7 +57,8 @@ returns-clause-known g c =
     let a = g.D.Disk.history c.args.disk.now in
     let s = g.D.Disk.history c.load_taken.new.disk in
     let rule = c.settings_after-rule.ensures.rule ∙ ap (λ (l : List Logged). rule_after c.in_ok-image.image.rule (batches_in l)) c.as_slice.ensures.value in
-    let fallback = c.settings_after-rule.ensures.fallback ∙ ap (λ (l : List Logged). fallback_after c.in_ok-image.image.fallback (batches_in l)) c.as_slice.ensures.value in
+    let fallback = c.settings_after-rule.ensures.fallback ∙ ap (λ (l : List Logged). fallback_after c.in_ok-image.image.fallback (batches_in l))
+    c.as_slice.ensures.value in
     rw c.known.ensures
     (attach_known a s (g.D.Disk.history c.read_later.new.disk) c.load_taken.ensures.still c.read_later.ensures.still c.requires.settled
     c.args.slot c.args.head c.requires.chosen (checkpoint_in c.in_ok-image.image) c.in_ok-image.ensures.reads c.in_ok-image.ensures.head

@@ -23,7 +23,9 @@ rotate-requires-clause-batches g c =
 pub returns-in_err-body-clause-images : goal.returns-in_err-body-clause-images
 returns-in_err-body-clause-images g c none k later stands =
     let v : Values = (c.args.catalog.now, c.args.tables.now, c.args.held.now) in
-    kept_leaves (g.D.Disk.history c.args.disk.now) c.args.self.now k later stands (λ images. Reopens images (Found (next_checkpoint c.args.self.now c.args.config.now.rule c.args.config.now.fallback c.args.batches c.args.requests v) []))
+    kept_leaves (g.D.Disk.history c.args.disk.now) c.args.self.now k later stands
+    (λ images. Reopens images (Found (next_checkpoint c.args.self.now c.args.config.now.rule c.args.config.now.fallback c.args.batches c.args.requests v)
+    []))
 
 pub returns-in_err-rotate-clause-images : goal.returns-in_err-rotate-clause-images
 returns-in_err-rotate-clause-images g c none k later stands =
@@ -36,7 +38,8 @@ returns-in_err-rotate-clause-images g c none k later stands =
 
 pub returns-in_err-rotate-clause-refused : goal.returns-in_err-rotate-clause-refused
 returns-in_err-rotate-clause-refused g c =
-    let cause = write_refused g.D.Disk.history c.args.disk.now c.rotate.new.disk c.self.inside.files c.rotate.new.self c.args.self.now (ap (λ (s : Kept). s.files) c.self.view_is) c.in_err-rotate.field-0.0 c.in_err-rotate.ensures.refused in
+    let cause = write_refused g.D.Disk.history c.args.disk.now c.rotate.new.disk c.self.inside.files c.rotate.new.self c.args.self.now
+    (ap (λ (s : Kept). s.files) c.self.view_is) c.in_err-rotate.field-0.0 c.in_err-rotate.ensures.refused in
     search rules
 
 pub returns-clause-images : goal.returns-clause-images
@@ -65,5 +68,6 @@ returns-clause-known g c =
 pub returns-clause-faults : goal.returns-clause-faults
 returns-clause-faults g c =
     let none = c.in_ok-rotate.ensures.open in
-    let rests = subst (λ (f : Stored). f.closed ≡ None → Rests (g.D.Disk.history c.args.disk.now) f) (sym (ap (λ (s : Kept). s.files) c.self.view_is)) c.requires.rests none in
+    let rests = subst (λ (f : Stored). f.closed ≡ None → Rests (g.D.Disk.history c.args.disk.now) f)
+    (sym (ap (λ (s : Kept). s.files) c.self.view_is)) c.requires.rests none in
     (c.rotate.ensures.images none rests.body rests.log rests.holds).faults

@@ -24,7 +24,8 @@ loop-line-preserved c =
     ∙ ap (λ (x : Line). x ∷ drop (suc i) c.args.lines.now) (sym c.line-item.is)
     ∙ ap (λ k. line ∷ drop k c.args.lines.now) (sym (add-one i)) in
     record {
-      room = subst (λ (t : Tally). HasRoom t (n - (i + 1))) (sym c.noted-tally.ensures) (room_on c.loop-line.tally line.reply (n - i) (n - (i + 1)) left c.loop-line.invariant.room);
+      room = subst (λ (t : Tally). HasRoom t (n - (i + 1))) (sym c.noted-tally.ensures)
+          (room_on c.loop-line.tally line.reply (n - i) (n - (i + 1)) left c.loop-line.invariant.room);
       leads = ap (λ (t : Tally). with_lines t (drop (i + 1) c.args.lines.now)) c.noted-tally.ensures
           ∙ noted_on c.loop-line.tally line (drop (i + 1) c.args.lines.now) (drop i c.args.lines.now) cut
           ∙ c.loop-line.invariant.leads;

@@ -19,5 +19,6 @@ invariant_of-result c =
     let counted : c.len-2.result ≡ length c.push.new.self.items = search rules in
     let number : c.len-2.result ≡ length ends + 1 = counted ∙ ap length c.in_ok-push.ensures.items ∙ length-append ends (c.args.place.lines ∷ []) in
     ran_on (doing_of c.args.place c.args.self) (doing_of c.args.place next) c.requires refl c.new.ensures.items
-    (pushed _ c.args.self.script.items c.push-2.new.self.items (c.len-2.result, c.args.self.calls) (length ends + 1, c.args.self.calls.items) c.in_ok-push-2.ensures.items
+    (pushed _ c.args.self.script.items c.push-2.new.self.items (c.len-2.result, c.args.self.calls)
+    (length ends + 1, c.args.self.calls.items) c.in_ok-push-2.ensures.items
     (ap (λ (n : ℕ). (n, c.args.self.calls.items)) number)) c.in_ok-push.ensures.items

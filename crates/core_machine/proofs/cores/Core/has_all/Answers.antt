@@ -11,4 +11,7 @@ loop-place-preserved c = λ p lt. ⊎_elim
     (cases_lt p c.loop-place.place)
 
 pub returns : goal.returns
-returns c = (early c.args.self.now.phase c.in_default.not-Settled, all_of_each c.args.self.now (λ p lt. c.loop-place.invariant p (omega (arith, lt, c.loop-place-test.false))))
+returns c = (
+  early c.args.self.now.phase c.in_default.not-Settled,
+  all_of_each c.args.self.now (λ p lt. c.loop-place.invariant p (omega (arith, lt, c.loop-place-test.false))),
+)

@@ -9,4 +9,5 @@ returns-then-get-number c = stays c.args.self.now c.args.key.now c.args.number (
 
 pub returns : goal.returns
 returns c = falls_to c.args.self.now (record { map = c.insert.new.self }) c.args.key.now c.args.number (omega (arith, c.if-get-number.false, c.get.ensures))
-    (λ q. c.in_ok-insert.ensures.updates.0 q ∙ (λ j. cond (is_at (derived_cmp (c.in_ok-duplicate.ensures j)) q) (Some c.args.number) (get derived_cmp c.args.self.now.map q)))
+    (λ q. c.in_ok-insert.ensures.updates.0 q
+    ∙ (λ j. cond (is_at (derived_cmp (c.in_ok-duplicate.ensures j)) q) (Some c.args.number) (get derived_cmp c.args.self.now.map q)))

@@ -10,4 +10,5 @@ invariant_of-replicas c = subst (λ (l : List Between). AreAlike l) (sym c.in_ok
     (alike_copies c.args.first c.in_ok-copies.copies.items c.in_ok-copies.ensures.same (omega (arith, c.in_ok-copies.ensures.count, c.requires)))
 
 pub returns-clause-copies : goal.returns-clause-copies
-returns-clause-copies c = subst (λ (l : List Between). All (λ copy. copy ≡ unmarked c.args.first) (drop 1 l)) (sym c.in_ok-engines.ensures) c.in_ok-copies.ensures.same
+returns-clause-copies c = subst (λ (l : List Between). All (λ copy. copy ≡ unmarked c.args.first) (drop 1 l))
+    (sym c.in_ok-engines.ensures) c.in_ok-copies.ensures.same

@@ -20,25 +20,30 @@ take_apart-requires g c =
 
 pub invariant_of-replicas : goal.invariant_of-replicas
 invariant_of-replicas g c =
-    (told c.args.config.now c.args.new.items c.from_vec.result c.args.self c.self.inside.engines.items c.in_ok-engines.engines.items c.in_ok-rans.rans.items c.in_ok-engines.answer
+    (told c.args.config.now c.args.new.items c.from_vec.result c.args.self c.self.inside.engines.items c.in_ok-engines.engines.items c.in_ok-rans.rans.items
+    c.in_ok-engines.answer
     c.from_vec.ensures c.self.view_is c.self.invariant c.in_ok-rans.ensures c.in_ok-engines.ensures.engines c.in_ok-engines.ensures.answer).alike
 
 pub returns-clause-each : goal.returns-clause-each
 returns-clause-each g c =
-    (told c.args.config.now c.args.new.items c.from_vec.result c.args.self c.self.inside.engines.items c.in_ok-engines.engines.items c.in_ok-rans.rans.items c.in_ok-engines.answer
+    (told c.args.config.now c.args.new.items c.from_vec.result c.args.self c.self.inside.engines.items c.in_ok-engines.engines.items c.in_ok-rans.rans.items
+    c.in_ok-engines.answer
     c.from_vec.ensures c.self.view_is c.self.invariant c.in_ok-rans.ensures c.in_ok-engines.ensures.engines c.in_ok-engines.ensures.answer).each
 
 pub returns-clause-answer : goal.returns-clause-answer
 returns-clause-answer g c =
-    (told c.args.config.now c.args.new.items c.from_vec.result c.args.self c.self.inside.engines.items c.in_ok-engines.engines.items c.in_ok-rans.rans.items c.in_ok-engines.answer
+    (told c.args.config.now c.args.new.items c.from_vec.result c.args.self c.self.inside.engines.items c.in_ok-engines.engines.items c.in_ok-rans.rans.items
+    c.in_ok-engines.answer
     c.from_vec.ensures c.self.view_is c.self.invariant c.in_ok-rans.ensures c.in_ok-engines.ensures.engines c.in_ok-engines.ensures.answer).answer
 
 pub returns-clause-serial : goal.returns-clause-serial
 returns-clause-serial g c =
-    (told c.args.config.now c.args.new.items c.from_vec.result c.args.self c.self.inside.engines.items c.in_ok-engines.engines.items c.in_ok-rans.rans.items c.in_ok-engines.answer
+    (told c.args.config.now c.args.new.items c.from_vec.result c.args.self c.self.inside.engines.items c.in_ok-engines.engines.items c.in_ok-rans.rans.items
+    c.in_ok-engines.answer
     c.from_vec.ensures c.self.view_is c.self.invariant c.in_ok-rans.ensures c.in_ok-engines.ensures.engines c.in_ok-engines.ensures.answer).serial
 
 pub returns-clause-progress : goal.returns-clause-progress
 returns-clause-progress g c =
-    (told c.args.config.now c.args.new.items c.from_vec.result c.args.self c.self.inside.engines.items c.in_ok-engines.engines.items c.in_ok-rans.rans.items c.in_ok-engines.answer
+    (told c.args.config.now c.args.new.items c.from_vec.result c.args.self c.self.inside.engines.items c.in_ok-engines.engines.items c.in_ok-rans.rans.items
+    c.in_ok-engines.answer
     c.from_vec.ensures c.self.view_is c.self.invariant c.in_ok-rans.ensures c.in_ok-engines.ensures.engines c.in_ok-engines.ensures.answer).progress

@@ -19,12 +19,14 @@ use Rattle.run_commands.proofs.scripts.Script.serve.Goals as goal
 
 pub with-requires-clause-may : goal.with-requires-clause-may
 with-requires-clause-may g c κs within =
-    may_follow c.self.inside.place c.self.inside.work c.counts-counts.result c.args.line.now c.counts-counts.ensures c.in-Ok.asked.0 c.in-Ok.asked.1 c.self.invariant c.in-Ok.ensures
+    may_follow c.self.inside.place c.self.inside.work c.counts-counts.result c.args.line.now c.counts-counts.ensures c.in-Ok.asked.0 c.in-Ok.asked.1
+    c.self.invariant c.in-Ok.ensures
 
 pub with-requires-clause-open : goal.with-requires-clause-open
 with-requires-clause-open g c κs within =
     let disk = g.D.Disk.history c.args.disk.now in
-    ask_open c.self.inside.place c.in-Ok.asked.0 c.self.inside.work c.self.invariant c.counts-counts.result c.counts-counts.ensures c.args.line.now c.in-Ok.asked.1 c.in-Ok.ensures disk
+    ask_open c.self.inside.place c.in-Ok.asked.0 c.self.inside.work c.self.invariant c.counts-counts.result c.counts-counts.ensures c.args.line.now
+    c.in-Ok.asked.1 c.in-Ok.ensures disk
     (subst (λ (s : Running). IsOpen disk s) (sym c.self.view_is) c.requires.open)
 
 pub with-requires-clause-short : goal.with-requires-clause-short
@@ -38,7 +40,8 @@ returns-in-Ok-clause-serves g c =
     let work = c.self.inside.work in
     let line = c.args.line.now in
     let same : on_line (doing_of place work) line ≡ on_line c.args.self.doing line = ap (λ (s : Running). on_line s.doing line) c.self.view_is in
-    moved_to (on_line c.args.self.doing line) (done (doing_of c.in-Ok.asked.0 work) c.in-Ok.asked.1) (g.K.Sink.given c.args.out.now) (g.K.Sink.given c.with.new.out) (doing_result c.with.result)
+    moved_to (on_line c.args.self.doing line) (done (doing_of c.in-Ok.asked.0 work) c.in-Ok.asked.1) (g.K.Sink.given c.args.out.now)
+    (g.K.Sink.given c.with.new.out) (doing_result c.with.result)
     (sym same ∙ line_is place work c.counts-counts.result line c.counts-counts.ensures (Ok c.in-Ok.asked) c.in-Ok.ensures) c.with.ensures.serves
 
 pub returns-in-Ok-clause-keeps : goal.returns-in-Ok-clause-keeps
@@ -53,12 +56,15 @@ returns-in-Ok-clause-keeps g c = λ first.
     let new = g.D.Disk.history c.with.new.disk in
     let ga = g.K.Sink.given c.args.out.now in
     let gb = g.K.Sink.given c.with.new.out in
-    let moves : on_line (doing_of place work) line ≡ done (doing_of after work) asks = line_is place work counts line c.counts-counts.ensures (Ok c.in-Ok.asked) c.in-Ok.ensures in
-    let serves = moved_to (on_line (doing_of place work) line) (done (doing_of after work) asks) ga gb (doing_result c.with.result) moves c.with.ensures.serves in
+    let moves : on_line (doing_of place work) line ≡ done (doing_of after work) asks =
+    line_is place work counts line c.counts-counts.ensures (Ok c.in-Ok.asked) c.in-Ok.ensures in
+    let serves = moved_to (on_line (doing_of place work) line) (done (doing_of after work) asks) ga gb
+    (doing_result c.with.result) moves c.with.ensures.serves in
     subst (λ (s : Running). HoldsScript first old s → KeepsTurns first (Line line ∷ []) s old new ga gb c.with.result) c.self.view_is (λ h.
     let held = ask_holds place after work c.self.invariant counts c.counts-counts.ensures line asks c.in-Ok.ensures first old h in
     line_kept place after work c.self.invariant counts c.counts-counts.ensures line asks c.in-Ok.ensures first old h new ga gb c.with.result serves
-    (c.with.ensures.keeps held.c held.later (doing_of place work) line held.holds refl moves) (c.with.ensures.stays first held) (c.with.ensures.held first held (doing_of place work) refl))
+    (c.with.ensures.keeps held.c held.later (doing_of place work) line held.holds refl moves) (c.with.ensures.stays first held)
+    (c.with.ensures.held first held (doing_of place work) refl))
 
 pub returns-in-Err-Memory-clause-keeps : goal.returns-in-Err-Memory-clause-keeps
 returns-in-Err-Memory-clause-keeps g c = λ first h.
@@ -76,4 +82,5 @@ returns-in-Err-Line-clause-keeps g c = λ first.
     let at : refusal.line ≡ line_after place.lines = search rules in
     let is = refused_by place work c.counts-counts.result c.args.line.now c.counts-counts.ensures refusal said at in
     subst (λ (s : Running). HoldsScript first disk s → KeepsTurns first (Line c.args.line.now ∷ []) s disk disk ga gb c.refuse.result) c.self.view_is
-    (λ h. line_refused first c.args.line.now (running_of place work) (refusal_text refusal) disk ga gb c.refuse.result is (refused_doing (refusal_text refusal) ga gb c.refuse.result c.refuse.ensures.serves) h)
+    (λ h. line_refused first c.args.line.now (running_of place work) (refusal_text refusal) disk ga gb c.refuse.result is
+    (refused_doing (refusal_text refusal) ga gb c.refuse.result c.refuse.ensures.serves) h)

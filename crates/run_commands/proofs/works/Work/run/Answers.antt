@@ -31,7 +31,8 @@ returns-in-Some-clause-serves g c =
     let new = g.K.Sink.given c.serve_batch-next.new.out in
     let calls = c.args.self.calls.items in
     let next : Work = record { calls = c.new.result; base = base.Runs c.in-Some.live; replicas = c.args.self.replicas; each = c.args.self.each } in
-    let told = told_all (next_text c.in-Ok.live calls) (IsNext c.in-Ok.live calls) old new c.serve_batch-next.result c.in-Some.live c.in-Some.is c.serve_batch-next.ensures.tells in (
+    let told = told_all (next_text c.in-Ok.live calls) (IsNext c.in-Ok.live calls) old new c.serve_batch-next.result c.in-Some.live c.in-Some.is
+    c.serve_batch-next.ensures.tells in (
       behind_is c.args.place c.args.self c.in-Ok.live c.in-Ok.ensures next c.in-Some.live told.1 c.new.ensures.items refl refl,
       subst (λ (text : List ℕ). Appends old new text) (text_is c.args.place c.args.self c.in-Ok.live c.in-Ok.ensures) told.0,
     )
@@ -43,7 +44,8 @@ returns-in-None-clause-serves g c =
     let calls = c.args.self.calls.items in
     let next = behind_batch (doing_of c.args.place c.args.self) in
     subst (λ (text : List ℕ). Serves (Goes text next) old new (Err c.why_stopped.result)) (text_is c.args.place c.args.self c.in-Ok.live c.in-Ok.ensures)
-    (cut_serves (next_text c.in-Ok.live calls) (IsNext c.in-Ok.live calls) old new next c.serve_batch-next.result c.why_stopped.result c.in-None.is c.serve_batch-next.ensures.tells c.why_stopped.ensures)
+    (cut_serves (next_text c.in-Ok.live calls) (IsNext c.in-Ok.live calls) old new next c.serve_batch-next.result c.why_stopped.result c.in-None.is
+    c.serve_batch-next.ensures.tells c.why_stopped.ensures)
 
 pub serve_batch-next-requires-clause-logs : goal.serve_batch-next-requires-clause-logs
 serve_batch-next-requires-clause-logs g c κs within =
@@ -55,14 +57,16 @@ returns-in-Some-clause-open g c =
     let disk = g.D.Disk.history c.serve_batch-next.new.disk in
     let next : Work = record { calls = c.new.result; base = base.Runs c.in-Some.live; replicas = c.args.self.replicas; each = c.args.self.each } in
     open_behind disk c.args.place next c.in-Some.live refl c.new.ensures.items
-    (if_told (next_text c.in-Ok.live calls) (IsNext c.in-Ok.live calls) (g.K.Sink.given c.args.out.now) (g.K.Sink.given c.serve_batch-next.new.out) (IsLogging disk)
+    (if_told (next_text c.in-Ok.live calls) (IsNext c.in-Ok.live calls) (g.K.Sink.given c.args.out.now) (g.K.Sink.given c.serve_batch-next.new.out)
+    (IsLogging disk)
     c.serve_batch-next.result c.in-Some.live c.in-Some.is c.serve_batch-next.ensures.tells c.serve_batch-next.ensures.logging)
 
 pub returns-in-Some-clause-keeps : goal.returns-in-Some-clause-keeps
 returns-in-Some-clause-keeps g c = λ ck later before line h same is.
     let old = g.D.Disk.history c.args.disk.now in
     let hl = begun_holds c.args.place c.args.self c.in-Ok.live c.in-Ok.ensures old ck later h in
-    ran_told c.args.place c.args.self c.in-Ok.live c.in-Ok.ensures line before same is old (g.D.Disk.history c.serve_batch-next.new.disk) (g.K.Sink.given c.args.out.now)
+    ran_told c.args.place c.args.self c.in-Ok.live c.in-Ok.ensures line before same is old (g.D.Disk.history c.serve_batch-next.new.disk)
+    (g.K.Sink.given c.args.out.now)
     (g.K.Sink.given c.serve_batch-next.new.out) c.serve_batch-next.result c.serve_batch-next.ensures.tells (c.serve_batch-next.ensures.images ck later hl)
     (c.serve_batch-next.ensures.answered ck later hl) c.in-Some.live c.in-Some.is
 
@@ -70,7 +74,8 @@ pub returns-in-None-clause-keeps : goal.returns-in-None-clause-keeps
 returns-in-None-clause-keeps g c = λ ck later before line h same is.
     let old = g.D.Disk.history c.args.disk.now in
     let hl = begun_holds c.args.place c.args.self c.in-Ok.live c.in-Ok.ensures old ck later h in
-    ran_cut c.args.place c.args.self c.in-Ok.live c.in-Ok.ensures line before same is old (g.D.Disk.history c.serve_batch-next.new.disk) (g.K.Sink.given c.args.out.now)
+    ran_cut c.args.place c.args.self c.in-Ok.live c.in-Ok.ensures line before same is old (g.D.Disk.history c.serve_batch-next.new.disk)
+    (g.K.Sink.given c.args.out.now)
     (g.K.Sink.given c.serve_batch-next.new.out) c.serve_batch-next.result c.serve_batch-next.ensures.tells (c.serve_batch-next.ensures.images ck later hl)
     (c.serve_batch-next.ensures.answered ck later hl) c.in-None.is
 
@@ -80,7 +85,8 @@ returns-in_default-clause-keeps g c = λ ck later before line h same is.
     let plan = plan_in c.args.place.head in
     let held = held_of (running_of c.args.place c.args.self) in
     let now = g.K.Sink.given c.args.out.now in
-    keeps_none on_turn held_then plan (Line line ∷ []) before held disk now (Appends-nil now) (held_leaves_all disk plan held (store_in c.args.self.base) ck later h)
+    keeps_none on_turn held_then plan (Line line ∷ []) before held disk now (Appends-nil now)
+    (held_leaves_all disk plan held (store_in c.args.self.base) ck later h)
 
 pub returns-in-Some-clause-stays : goal.returns-in-Some-clause-stays
 returns-in-Some-clause-stays g c = λ first h.
@@ -94,7 +100,8 @@ returns-in-Some-clause-stays g c = λ first h.
     let tells = c.serve_batch-next.ensures.tells in
     let r = c.serve_batch-next.result in
     let told = told_all (next_text live calls) (IsNext live calls) ga gb r c.in-Some.live c.in-Some.is tells in
-    let kept = if_told (next_text live calls) (IsNext live calls) ga gb (λ (n : Live). n.store ≡ next_store live calls) r c.in-Some.live c.in-Some.is tells c.serve_batch-next.ensures.store in
+    let kept = if_told (next_text live calls) (IsNext live calls) ga gb (λ (n : Live). n.store ≡ next_store live calls) r c.in-Some.live c.in-Some.is tells
+    c.serve_batch-next.ensures.store in
     let turns = if_told (next_text live calls) (IsNext live calls) ga gb
     (λ (n : Live). (ck : Checkpoint) (later : List Batch) → Holds old (plan_of live) (stored_state live) live.store ck later
     → HoldsTurned (next_due live calls) new (plan_of live) (next_state live calls) n.store ck (added later live.config.rule live.config.fallback calls))
@@ -111,7 +118,8 @@ returns-in-Some-clause-held g c = λ first h before same.
     let tells = c.serve_batch-next.ensures.tells in
     let r = c.serve_batch-next.result in
     let told = told_all (next_text live calls) (IsNext live calls) ga gb r c.in-Some.live c.in-Some.is tells in
-    let kept = if_told (next_text live calls) (IsNext live calls) ga gb (λ (n : Live). n.store ≡ next_store live calls) r c.in-Some.live c.in-Some.is tells c.serve_batch-next.ensures.store in
+    let kept = if_told (next_text live calls) (IsNext live calls) ga gb (λ (n : Live). n.store ≡ next_store live calls) r c.in-Some.live c.in-Some.is tells
+    c.serve_batch-next.ensures.store in
     ran_held c.args.place c.args.self live c.in-Ok.ensures c.in-Some.live told.1 kept next refl before same
 
 pub returns-in-Some-clause-disk : goal.returns-in-Some-clause-disk
@@ -119,5 +127,6 @@ returns-in-Some-clause-disk g c =
     let old = g.D.Disk.history c.args.disk.now in
     let new = g.D.Disk.history c.serve_batch-next.new.disk in
     let calls = c.args.self.calls.items in
-    if_told (next_text c.in-Ok.live calls) (IsNext c.in-Ok.live calls) (g.K.Sink.given c.args.out.now) (g.K.Sink.given c.serve_batch-next.new.out) (λ (n : Live). old.faults ≤ new.faults)
+    if_told (next_text c.in-Ok.live calls) (IsNext c.in-Ok.live calls) (g.K.Sink.given c.args.out.now) (g.K.Sink.given c.serve_batch-next.new.out)
+    (λ (n : Live). old.faults ≤ new.faults)
     c.serve_batch-next.result c.in-Some.live c.in-Some.is c.serve_batch-next.ensures.tells c.serve_batch-next.ensures.disk

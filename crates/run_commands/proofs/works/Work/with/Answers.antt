@@ -22,7 +22,8 @@ pub returns-then-runs_batch-clause-serves : goal.returns-then-runs_batch-clause-
 returns-then-runs_batch-clause-serves g c =
     let on : runs_batch c.args.deed ≡ true = sym c.runs_batch.ensures ∙ c.if-runs_batch.true in
     let d = doing_of c.args.place c.args.self in
-    moved_to (done d c.args.deed) (Goes (text_of d) (behind_batch d)) (g.K.Sink.given c.args.out.now) (g.K.Sink.given c.run.new.out) (doing_result c.run.result) (run_done d c.args.deed on) c.run.ensures.serves
+    moved_to (done d c.args.deed) (Goes (text_of d) (behind_batch d)) (g.K.Sink.given c.args.out.now) (g.K.Sink.given c.run.new.out)
+    (doing_result c.run.result) (run_done d c.args.deed on) c.run.ensures.serves
 
 pub returns-then-runs_batch-clause-keeps : goal.returns-then-runs_batch-clause-keeps
 returns-then-runs_batch-clause-keeps g c = λ ck later before line h same is.
@@ -32,7 +33,8 @@ returns-then-runs_batch-clause-keeps g c = λ ck later before line h same is.
 pub returns-clause-open : goal.returns-clause-open
 returns-clause-open g c =
     let off : runs_batch c.args.deed ≡ false = sym c.runs_batch.ensures ∙ c.if-runs_batch.false in
-    quiet_opens (g.D.Disk.history c.args.disk.now) (doing_of c.args.place c.args.self) (store_in c.args.self.base) (checkpoint_in c.args.self.base) c.requires.open (g.K.Sink.given c.args.out.now) (g.K.Sink.given c.quietly.new.out)
+    quiet_opens (g.D.Disk.history c.args.disk.now) (doing_of c.args.place c.args.self) (store_in c.args.self.base)
+    (checkpoint_in c.args.self.base) c.requires.open (g.K.Sink.given c.args.out.now) (g.K.Sink.given c.quietly.new.out)
     c.args.deed off c.requires.short c.quietly.result c.quietly.ensures.store c.quietly.ensures.serves
 
 pub returns-clause-keeps : goal.returns-clause-keeps
@@ -41,7 +43,8 @@ returns-clause-keeps g c = λ ck later before line h same is.
     let disk = g.D.Disk.history c.args.disk.now in
     let plan = plan_in c.args.place.head in
     let held = held_of (running_of c.args.place c.args.self) in
-    quiet_keeps plan line before (doing_of c.args.place c.args.self) held c.args.deed off same is disk (g.K.Sink.given c.args.out.now) (g.K.Sink.given c.quietly.new.out)
+    quiet_keeps plan line before (doing_of c.args.place c.args.self) held c.args.deed off same is disk (g.K.Sink.given c.args.out.now)
+    (g.K.Sink.given c.quietly.new.out)
     (doing_result c.quietly.result) c.quietly.ensures.serves (held_leaves_all disk plan held (store_in c.args.self.base) ck later h)
 
 pub returns-clause-store : goal.returns-clause-store
@@ -50,16 +53,19 @@ returns-clause-store g c = store_on (store_in c.args.self.base) c.quietly.result
 pub returns-clause-cause : goal.returns-clause-cause
 returns-clause-cause g c =
     let disk = g.D.Disk.history c.args.disk.now in
-    causes_more (Rose (g.K.Sink.faults c.args.out.now) (g.K.Sink.faults c.quietly.new.out)) (IsSomeAnd (store_in c.args.self.base) (λ _. Rose disk.faults disk.faults)) c.quietly.result c.quietly.ensures.cause
+    causes_more (Rose (g.K.Sink.faults c.args.out.now) (g.K.Sink.faults c.quietly.new.out))
+    (IsSomeAnd (store_in c.args.self.base) (λ _. Rose disk.faults disk.faults)) c.quietly.result c.quietly.ensures.cause
 
 pub returns-clause-stays : goal.returns-clause-stays
 returns-clause-stays g c = λ first h.
     let off : runs_batch c.args.deed ≡ false = sym c.runs_batch.ensures ∙ c.if-runs_batch.false in
-    quiet_stays c.args.place c.args.self (g.K.Sink.given c.args.out.now) (g.K.Sink.given c.quietly.new.out) first (g.D.Disk.history c.args.disk.now) h c.args.deed off c.requires.may
+    quiet_stays c.args.place c.args.self (g.K.Sink.given c.args.out.now) (g.K.Sink.given c.quietly.new.out) first
+    (g.D.Disk.history c.args.disk.now) h c.args.deed off c.requires.may
     c.quietly.result c.quietly.ensures.store c.quietly.ensures.checkpoint c.quietly.ensures.serves
 
 pub returns-clause-held : goal.returns-clause-held
 returns-clause-held g c = λ first h before same.
     let off : runs_batch c.args.deed ≡ false = sym c.runs_batch.ensures ∙ c.if-runs_batch.false in
-    quiet_held c.args.place c.args.self (g.K.Sink.given c.args.out.now) (g.K.Sink.given c.quietly.new.out) first (g.D.Disk.history c.args.disk.now) h c.args.deed off c.requires.may
+    quiet_held c.args.place c.args.self (g.K.Sink.given c.args.out.now) (g.K.Sink.given c.quietly.new.out) first
+    (g.D.Disk.history c.args.disk.now) h c.args.deed off c.requires.may
     before same c.quietly.result c.quietly.ensures.store c.quietly.ensures.serves

@@ -12,4 +12,5 @@ returns-then-has-2-clause-noted c = rw (← c.self.view_is)
 
 pub returns-clause-noted : goal.returns-clause-noted
 returns-clause-noted c = rw (← c.self.view_is)
-    (seen-read _ c.self.inside.reads _ _ c.args.key (c.in_ok-add.ensures.added ∙ reads-more c.self.inside.reads c.self.inside.writes c.args.key (sym c.has.ensures ∙ c.if-has.false) (sym c.has-2.ensures ∙ c.if-has-2.false)))
+    (seen-read _ c.self.inside.reads _ _ c.args.key (c.in_ok-add.ensures.added
+    ∙ reads-more c.self.inside.reads c.self.inside.writes c.args.key (sym c.has.ensures ∙ c.if-has.false) (sym c.has-2.ensures ∙ c.if-has-2.false)))

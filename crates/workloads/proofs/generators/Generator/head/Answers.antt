@@ -8,4 +8,5 @@ pub returns-in-Ycsb-clause-fit : goal.returns-in-Ycsb-clause-fit
 returns-in-Ycsb-clause-fit c = head_fits_by c.args.self.now c.head.result (rw c.in-Ycsb.is c.head.ensures.catalog) (rw c.in-Ycsb.is c.head.ensures.tables)
 
 pub returns-in-Tpcc-clause-fit : goal.returns-in-Tpcc-clause-fit
-returns-in-Tpcc-clause-fit c = head_fits_by c.args.self.now c.head-in-Tpcc.result (rw c.in-Tpcc.is c.head-in-Tpcc.ensures.catalog) (rw c.in-Tpcc.is c.head-in-Tpcc.ensures.tables)
+returns-in-Tpcc-clause-fit c = head_fits_by c.args.self.now c.head-in-Tpcc.result (rw c.in-Tpcc.is c.head-in-Tpcc.ensures.catalog)
+    (rw c.in-Tpcc.is c.head-in-Tpcc.ensures.tables)
