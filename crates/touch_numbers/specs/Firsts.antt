@@ -36,6 +36,8 @@ module _ (given : List ℕ) (count : ℕ) (given_after : List ℕ) (count_after 
 
   -- the same of the lists of all requests
   abbrev pub NumbersAll : List (List ℕ) → List (List ℕ) → List (List ℕ) → List (List ℕ) → Type 0
-  NumbersAll reads writes reads_after writes_after = (keys : List Key) (place : Key → ℕ) (m : Numbers) (sets : List Sets) → AreAllNumbers keys place sets reads writes
+  NumbersAll reads writes reads_after writes_after = (keys : List Key) (place : Key → ℕ) (m : Numbers) (sets : List Sets)
+      → AreAllNumbers keys place sets reads writes
       → HasNumbers keys place m given count → HasNumbers keys place (with_sets m sets) given_after count_after
-      × (map (λ s. map (number_in (with_sets m sets)) (reads_of s)) sets ≡ reads_after) × (map (λ s. map (number_in (with_sets m sets)) (writes_of s)) sets ≡ writes_after)
+      × (map (λ s. map (number_in (with_sets m sets)) (reads_of s)) sets ≡ reads_after)
+      × (map (λ s. map (number_in (with_sets m sets)) (writes_of s)) sets ≡ writes_after)

@@ -35,7 +35,8 @@ impl Firsts {
         requires same { length reads.old.items ≡ length writes.old.items }
         requires reads { AllBelow (length self.old.given.items) (map (λ v. v.items) reads.old.items) }
         requires writes { AllBelow (length self.old.given.items) (map (λ v. v.items) writes.old.items) }
-        ensures { NumbersAll self.old.given.items self.old.count self.new.given.items self.new.count (map (λ v. v.items) reads.old.items) (map (λ v. v.items) writes.old.items) (map (λ v. v.items) reads.new.items) (map (λ v. v.items) writes.new.items) }
+        ensures { NumbersAll self.old.given.items self.old.count self.new.given.items self.new.count (map (λ v. v.items) reads.old.items)
+            (map (λ v. v.items) writes.old.items) (map (λ v. v.items) reads.new.items) (map (λ v. v.items) writes.new.items) }
     {
         for request in 0..reads.len() {
             let read = &mut reads[request];

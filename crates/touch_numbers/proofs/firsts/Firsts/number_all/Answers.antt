@@ -16,7 +16,8 @@ number_list-requires c =
     let within_now : i < length now = omega (arith, within, c.loop-request.invariant.reads_long) in
     let within_lists : i < length (map items first) = omega (arith, within, length-map first items) in
     below_at (length c.loop-request.self.given.items) (length c.args.self.now.given.items) (map items first) i c.index_mut-read.result.now.items within_lists
-    (list_at items now first i c.index_mut-read.result.now within_now c.index_mut-read.ensures.value c.loop-request.invariant.reads_rest) c.loop-request.invariant.long c.requires.reads
+    (list_at items now first i c.index_mut-read.result.now within_now c.index_mut-read.ensures.value c.loop-request.invariant.reads_rest)
+    c.loop-request.invariant.long c.requires.reads
 
 pub number_list-requires-in-loop-request : goal.number_list-requires-in-loop-request
 number_list-requires-in-loop-request c =
@@ -26,8 +27,10 @@ number_list-requires-in-loop-request c =
     let within : i < length first = omega (arith, c.loop-request-test.true, c.len-request-end.ensures, c.args.reads.now.ok.0, c.requires.same) in
     let within_now : i < length now = omega (arith, within, c.loop-request.invariant.writes_long) in
     let within_lists : i < length (map items first) = omega (arith, within, length-map first items) in
-    below_at (length c.number_list.new.self.given.items) (length c.args.self.now.given.items) (map items first) i c.index_mut-written.result.now.items within_lists
-    (list_at items now first i c.index_mut-written.result.now within_now c.index_mut-written.ensures.value c.loop-request.invariant.writes_rest) (c.number_list.ensures.long ∙ c.loop-request.invariant.long) c.requires.writes
+    below_at (length c.number_list.new.self.given.items) (length c.args.self.now.given.items) (map items first) i c.index_mut-written.result.now.items
+    within_lists
+    (list_at items now first i c.index_mut-written.result.now within_now c.index_mut-written.ensures.value c.loop-request.invariant.writes_rest)
+    (c.number_list.ensures.long ∙ c.loop-request.invariant.long) c.requires.writes
 
 pub loop-request-preserved : goal.loop-request-preserved
 loop-request-preserved c =
@@ -50,8 +53,10 @@ loop-request-preserved c =
     let within_writes : i < length writes_now = omega (arith, within, kept.writes_long, c.requires.same) in
     let read_is = list_at items reads_now reads i c.index_mut-read.result.now within_reads c.index_mut-read.ensures.value kept.reads_rest in
     let written_is = list_at items writes_now writes i c.index_mut-written.result.now within_writes c.index_mut-written.ensures.value kept.writes_rest in
-    let more = all_more given count before.given.items before.count middle.given.items middle.count after.given.items after.count (map items reads) (map items writes)
-    (take i (map items reads_now)) (take i (map items writes_now)) i c.index_mut-read.result.now.items c.index_mut-written.result.now.items read.items written.items
+    let more = all_more given count before.given.items before.count middle.given.items middle.count after.given.items after.count (map items reads)
+    (map items writes)
+    (take i (map items reads_now)) (take i (map items writes_now)) i c.index_mut-read.result.now.items c.index_mut-written.result.now.items read.items
+    written.items
     within_lists read_is written_is kept.so_far c.number_list.ensures.numbers c.number_list-in-loop-request.ensures.numbers in
     record {
       long = c.number_list-in-loop-request.ensures.long ∙ c.number_list.ensures.long ∙ kept.long;
@@ -59,8 +64,10 @@ loop-request-preserved c =
       writes_long = length-set writes_now i written ∙ kept.writes_long;
       reads_rest = lists_next items reads_now reads i read kept.reads_rest;
       writes_rest = lists_next items writes_now writes i written kept.writes_rest;
-      so_far = subst (λ l. AllSoFar given count after.given.items after.count (map items reads) (map items writes) (i + 1) l (take (i + 1) (map items (slice_set writes_now i written)))) (sym (lists_done items reads_now i read within_reads))
-          (subst (AllSoFar given count after.given.items after.count (map items reads) (map items writes) (i + 1) (take i (map items reads_now) ++ read.items ∷ [])) (sym (lists_done items writes_now i written within_writes)) more);
+      so_far = subst (λ l. AllSoFar given count after.given.items after.count (map items reads) (map items writes) (i + 1) l
+          (take (i + 1) (map items (slice_set writes_now i written)))) (sym (lists_done items reads_now i read within_reads))
+          (subst (AllSoFar given count after.given.items after.count (map items reads) (map items writes) (i + 1)
+          (take i (map items reads_now) ++ read.items ∷ [])) (sym (lists_done items writes_now i written within_writes)) more);
     }
 
 pub returns : goal.returns
@@ -76,4 +83,5 @@ returns c =
     let ended_reads : length (map items reads_now) ≤ i = omega (arith, ended, kept.reads_long, length-map reads_now items) in
     let ended_writes : length (map items writes_now) ≤ i = omega (arith, ended, kept.writes_long, c.requires.same, length-map writes_now items) in
     all_done c.args.self.now.given.items c.args.self.now.count c.loop-request.self.given.items c.loop-request.self.count (map items reads) (map items writes)
-    (take i (map items reads_now)) (take i (map items writes_now)) (map items reads_now) (map items writes_now) i ended_lists (take_all i (map items reads_now) ended_reads) (take_all i (map items writes_now) ended_writes) kept.so_far
+    (take i (map items reads_now)) (take i (map items writes_now)) (map items reads_now) (map items writes_now) i ended_lists
+    (take_all i (map items reads_now) ended_reads) (take_all i (map items writes_now) ended_writes) kept.so_far

@@ -9,6 +9,7 @@ invariant-loop-request l = record {
   writes_long : length l.writes.items ≡ length l.initial.writes.items;
   reads_rest : drop l.request (map (λ v. v.items) l.reads.items) ≡ drop l.request (map (λ v. v.items) l.initial.reads.items);
   writes_rest : drop l.request (map (λ v. v.items) l.writes.items) ≡ drop l.request (map (λ v. v.items) l.initial.writes.items);
-  so_far : AllSoFar l.initial.self.given.items l.initial.self.count l.self.given.items l.self.count (map (λ v. v.items) l.initial.reads.items) (map (λ v. v.items) l.initial.writes.items) l.request
+  so_far : AllSoFar l.initial.self.given.items l.initial.self.count l.self.given.items l.self.count (map (λ v. v.items) l.initial.reads.items)
+      (map (λ v. v.items) l.initial.writes.items) l.request
       (take l.request (map (λ v. v.items) l.reads.items)) (take l.request (map (λ v. v.items) l.writes.items));
 }

@@ -11,4 +11,5 @@ returns-clause-number c keys place m k at stands has =
     let number = c.index-number.result.now in
     let number_is : number ≡ get_or given c.args.touch 0 = c.index-number.ensures ∙ get_or_default_zero given c.args.touch number c.requires in
     let none : number ≡ 0 = search rules in
-    one_new given count c.args.touch number count keys place m k at stands number_is has (set given c.args.touch (count + 1)) (count + 1) none c.requires refl refl refl
+    one_new given count c.args.touch number count keys place m k at stands number_is has (set given c.args.touch (count + 1)) (count + 1) none c.requires
+    refl refl refl
