@@ -36,11 +36,7 @@ pub fn waves(alloc: Global, waiting: &[Waiting]) -> Result<Vec<u32>, Memory>
 /// The same of the requests with these TIDs, in their order, by the numbers of the keys that they declare.
 ///
 /// One pass, over a list that has the last waves of each key at its number.
-pub fn waves_numbered(
-    alloc: Global,
-    numbered: &Numbered,
-    tids: &[u32],
-) -> Result<Vec<u32>, Memory>
+pub fn waves_numbered(alloc: Global, numbered: &Numbered, tids: &[u32]) -> Result<Vec<u32>, Memory>
     requires few { length tids.now ≤ MOST_REQUESTS }
     requires tids { All (λ tid. IsTid numbered.now tid) tids.now }
     ensures { IfOk result (λ waves. waves.items ≡ waves_by numbered.now tids.now) }

@@ -8,4 +8,4 @@ use Rattle.fallback_locks.proofs.key_table.note_reads.Given as goal
 abbrev pub invariant-loop-key : goal.invariant-loop-key
 invariant-loop-key l = (q : Name)
     → with_reader l.wave (is_among key_cmp (drop l.key-index l.keys) q) (last_in l.lasts q)
-      ≡ with_reader l.wave (is_among key_cmp l.keys q) (last_in l.fn.lasts q)
+    ≡ with_reader l.wave (is_among key_cmp l.keys q) (last_in l.fn.lasts q)

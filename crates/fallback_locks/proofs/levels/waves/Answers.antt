@@ -23,7 +23,7 @@ loop-one-preserved c =
     = λ q. c.in_ok-note_writes.ensures q
     ∙ ap (with_writer wave (is_among key_cmp c.as_slice-in-loop-one.result.now q)) (c.in_ok-note_reads.ensures q)
     ∙ (λ i. with_writer wave (is_among key_cmp (c.as_slice-in-loop-one.ensures i) q)
-      (with_reader wave (is_among key_cmp (c.as_slice.ensures i) q) (table q))) in
+    (with_reader wave (is_among key_cmp (c.as_slice.ensures i) q) (table q))) in
     rw (c.in_ok-push.ensures.items)
     (so_far_more key_cmp (λ w. touchable w.declared) table (last_in c.note_writes.new.lasts) c.loop-one.one-index wave c.loop-one.waves.items c.args.waiting.now
-        one c.loop-one.invariant c.loop-one-test.true c.one-item.is c.wave_after-wave.ensures noted)
+    one c.loop-one.invariant c.loop-one-test.true c.one-item.is c.wave_after-wave.ensures noted)

@@ -30,7 +30,7 @@ loop-tid-preserved c =
     = λ q. c.note_writes.ensures.noted q
     ∙ ap (with_writer wave (is_among nat_cmp c.writes_of-writes.result.now q)) (c.note_reads.ensures.noted q)
     ∙ (λ i. with_writer wave (is_among nat_cmp (c.writes_of-writes.ensures.list i) q)
-      (with_reader wave (is_among nat_cmp (c.reads_of-reads.ensures.list i) q) (table q))) in
+    (with_reader wave (is_among nat_cmp (c.reads_of-reads.ensures.list i) q) (table q))) in
     let by : wave ≡ wave_by table (declared tid) = c.wave_after-wave.ensures
     ∙ (λ i. wave_by (last_at (c.deref.ensures.value i)) (record { reads = c.reads_of-reads.ensures.list i; writes = c.writes_of-writes.ensures.list i })) in (
       c.note_writes.ensures.length ∙ c.note_reads.ensures.length ∙ c.loop-tid.invariant.0,
@@ -42,4 +42,4 @@ pub wave_after-wave-requires-clause-low : goal.wave_after-wave-requires-clause-l
 wave_after-wave-requires-clause-low c =
     let few : c.loop-tid.tid-index < 10000 = omega (arith, c.loop-tid-test.true, c.requires.few) in
     rw (c.deref.ensures.value) (table_below nat_cmp (numbers_at c.args.numbered.now) (last_at c.loop-tid.lasts.items) c.loop-tid.tid-index
-        c.loop-tid.waves.items c.args.tids.now 10000 c.loop-tid.invariant.1 few)
+    c.loop-tid.waves.items c.args.tids.now 10000 c.loop-tid.invariant.1 few)
