@@ -1,11 +1,6 @@
 -- The wave of a request by the table of last waves.
-use Rattle.std.proofs.Common.{◌≡◌, ℕ, suc, ◌+◌, ◌<◌, ◌≤◌, List, [], ◌∷◌, ◌++◌, map, length, drop, append_assoc, append-nil, Bool, true, false, cond, Option, Some, refl, sym, ap, ◌∙◌, subst, Ordering, arith}
-use Rattle.std.specs.Ordering.{eq_by_cmp, nat_cmp}
-use Rattle.std.specs.Cmp.{unsigned_tied}
-use Rattle.std.proofs.lemmas.Bool.{eqb-true, eqb-false}
-use Rattle.std.proofs.lemmas.List.{get_or-set_other}
-use Rattle.std.proofs.lemmas.Grind.{get_or-set_at}
-use Rattle.std.specs.Prelude.{slice_index_or, max, if◌then◌else◌, ◌||◌, nat_eq, set}
+use Rattle.std.proofs.Common.{◌≡◌, ℕ, suc, ◌+◌, ◌<◌, ◌≤◌, List, [], ◌∷◌, ◌++◌, map, length, drop, append_assoc, append-nil, Bool, true, false, refl, sym, ap, ◌∙◌, Ordering, arith}
+use Rattle.std.specs.Prelude.{slice_index_or, max, if◌then◌else◌, ◌||◌}
 use Rattle.std.specs.List.{All, list_any}
 use Rattle.std.proofs.Math.Seq.{drop-cons}
 use Rattle.std.proofs.lemmas.List.{drop_all}
@@ -13,7 +8,7 @@ use Rattle.std.proofs.lemmas.List.Elements.{All-nil, All-cons, All-head, All-tai
 use Rattle.batch_rules.specs.Touches.{Declared, is_among, may_read, may_write}
 use Rattle.batch_rules.specs.Waves.{Waved, conflicts, wave_behind, waved}
 use Rattle.fallback_locks.specs.declared.lasts.Last.{Last}
-use Rattle.fallback_locks.specs.LastWaves.{last_in, highest, wave_by, IsBelow, last_of, IsTable, IsSoFar, with_reader, with_writer}
+use Rattle.fallback_locks.specs.LastWaves.{highest, last_writer, last_toucher, wave_by, IsBelow, last_of, IsTable, IsSoFar, with_reader, with_writer}
 
 highest_same : {K : Type 0} (f g : K → ℕ) → ((k : K) → f k ≡ g k) → (n : ℕ) (ks : List K) → highest f n ks ≡ highest g n ks
 highest_same f g h n [] = refl
@@ -40,9 +35,16 @@ highest_zero : {K : Type 0} (n : ℕ) (ks : List K) → highest (λ k. 0) n ks �
 highest_zero n [] = refl
 highest_zero n (k ∷ ks) = let e : max n 0 ≡ n = omega arith in ap (λ a. highest (λ k. 0) a ks) e ∙ highest_zero n ks
 
-pub highest_most : {K : Type 0} (f : K → ℕ) (most n : ℕ) (ks : List K) → ((k : K) → f k ≤ most) → n ≤ most → highest f n ks ≤ most
+highest_most : {K : Type 0} (f : K → ℕ) (most n : ℕ) (ks : List K) → ((k : K) → f k ≤ most) → n ≤ most → highest f n ks ≤ most
 highest_most f most n [] h le = le
 highest_most f most n (k ∷ ks) h le = highest_most f most (max n (f k)) ks h (let here = h k in omega (arith, here, le))
+
+pub writer_most : {K : Type 0} (table : K → Last) (most : ℕ) (ks : List K) → ((k : K) → IsBelow most (table k)) → last_writer table ks ≤ most
+writer_most table most ks h = highest_most (λ q. (table q).writer) most 0 ks (λ k. let below = h k in omega (arith, below.1)) (omega arith)
+
+pub toucher_most : {K : Type 0} (table : K → Last) (most : ℕ) (ks : List K) → ((k : K) → IsBelow most (table k)) → last_toucher table ks ≤ most
+toucher_most table most ks h =
+    highest_most (λ q. max (table q).reader (table q).writer) most 0 ks (λ k. let below = h k in omega (arith, below.0, below.1)) (omega arith)
 
 module _ {K W : Type 0} (R : K → K → Ordering) (declared_of : W → Declared K) where
   touched : (es : List (Waved W)) (q : K) → max (last_of R declared_of (λ d. is_among R d.reads q) es) (last_of R declared_of (λ d. may_write R d q) es) ≡ last_of R declared_of (λ d. may_read R d q) es
@@ -79,39 +81,13 @@ module _ {K W : Type 0} (R : K → K → Ordering) (declared_of : W → Declared
       → IsTable R declared_of (λ q. with_writer e.wave (is_among R (declared_of e.item).writes q) (with_reader e.wave (is_among R (declared_of e.item).reads q) (table q))) (e ∷ es)
   table_more table e es h q = ap (λ last. with_writer e.wave (is_among R (declared_of e.item).writes q) (with_reader e.wave (is_among R (declared_of e.item).reads q) last)) (h q)
 
--- ---- the table, when a key's entry is set
-
-abbrev none : Last
-none = record { reader = 0; writer = 0 }
-
--- what stands at each number
-at_set : (lasts : List Last) (k q : ℕ) (next : Last) → k < length lasts → last_in (set lasts k next) q ≡ (if eq_by_cmp nat_cmp q k then next else last_in lasts q)
-at_set lasts k q next below = (elim (nat_eq q k) as (λ b. nat_eq q k ≡ b → last_in (set lasts k next) q ≡ (if b then next else last_in lasts q)) [
-  | true ↦ λ e. get_or-set_at lasts k q next none (eqb-true q k e) below
-  | false ↦ λ e. get_or-set_other lasts k q next none (eqb-false q k e)
-] refl) ∙ ap (λ b. if b then next else last_in lasts q) (sym (unsigned_tied q k))
-
-pub read_set : (lasts : List Last) (k wave : ℕ) → k < length lasts → (q : ℕ)
-    → last_in (set lasts k (record { reader = max (last_in lasts k).reader wave; writer = (last_in lasts k).writer })) q ≡ with_reader wave (is_among nat_cmp (k ∷ []) q) (last_in lasts q)
-read_set lasts k wave below q = at_set lasts k q (record { reader = max (last_in lasts k).reader wave; writer = (last_in lasts k).writer }) below ∙ (elim (eq_by_cmp nat_cmp q k) as (λ b. eq_by_cmp nat_cmp q k ≡ b → (if b then record { reader = max (last_in lasts k).reader wave; writer = (last_in lasts k).writer } else last_in lasts q) ≡ with_reader wave (b || false) (last_in lasts q)) [
-  | true ↦ λ e. ap (λ n. record { reader = max (last_in lasts n).reader wave; writer = (last_in lasts n).writer }) (sym (eqb-true q k (sym (unsigned_tied q k) ∙ e)))
-  | false ↦ λ e. refl
-] refl)
-
-pub write_set : (lasts : List Last) (k wave : ℕ) → k < length lasts → (q : ℕ)
-    → last_in (set lasts k (record { reader = (last_in lasts k).reader; writer = max (last_in lasts k).writer wave })) q ≡ with_writer wave (is_among nat_cmp (k ∷ []) q) (last_in lasts q)
-write_set lasts k wave below q = at_set lasts k q (record { reader = (last_in lasts k).reader; writer = max (last_in lasts k).writer wave }) below ∙ (elim (eq_by_cmp nat_cmp q k) as (λ b. eq_by_cmp nat_cmp q k ≡ b → (if b then record { reader = (last_in lasts k).reader; writer = max (last_in lasts k).writer wave } else last_in lasts q) ≡ with_writer wave (b || false) (last_in lasts q)) [
-  | true ↦ λ e. ap (λ n. record { reader = (last_in lasts n).reader; writer = max (last_in lasts n).writer wave }) (sym (eqb-true q k (sym (unsigned_tied q k) ∙ e)))
-  | false ↦ λ e. refl
-] refl)
-
--- noted once for this key, and then for the others
-pub reader_twice : (wave : ℕ) (here rest : Bool) (last : Last) → with_reader wave rest (with_reader wave (here || false) last) ≡ with_reader wave (here || rest) last
+-- noted for one key, and then for the others
+pub reader_twice : (wave : ℕ) (here rest : Bool) (last : Last) → with_reader wave rest (with_reader wave here last) ≡ with_reader wave (here || rest) last
 reader_twice wave true true last = let e : max (max last.reader wave) wave ≡ max last.reader wave = omega arith in ap (λ n. record { reader = n; writer = last.writer }) e
 reader_twice wave true false last = refl
 reader_twice wave false rest last = refl
 
-pub writer_twice : (wave : ℕ) (here rest : Bool) (last : Last) → with_writer wave rest (with_writer wave (here || false) last) ≡ with_writer wave (here || rest) last
+pub writer_twice : (wave : ℕ) (here rest : Bool) (last : Last) → with_writer wave rest (with_writer wave here last) ≡ with_writer wave (here || rest) last
 writer_twice wave true true last = let e : max (max last.writer wave) wave ≡ max last.writer wave = omega arith in ap (λ n. record { reader = last.reader; writer = n }) e
 writer_twice wave true false last = refl
 writer_twice wave false rest last = refl
