@@ -31,7 +31,21 @@ pub loop-entry-init : goal.loop-entry-init
 loop-entry-init c =
     let hashed = c.self.invariant.hashed in
     let stay : length (filter (λ e. not (is_moved c.args.level c.args.count e.0)) c.self.inside.entries.items) ≤ vec_capacity c.in_ok-stay.stay =
-    omega (arith, ap length c.in_ok-parted.ensures.stay, length-stayed c.args.level c.args.count _ _ hashed, c.len.ensures, c.in_ok-parted.parted.stay.ok.0, c.in_ok-stay.ensures.exact) in
+    omega (
+      arith,
+      ap length c.in_ok-parted.ensures.stay,
+      length-stayed c.args.level c.args.count _ _ hashed,
+      c.len.ensures,
+      c.in_ok-parted.parted.stay.ok.0,
+      c.in_ok-stay.ensures.exact,
+    ) in
     let moved : length (filter (λ e. is_moved c.args.level c.args.count e.0) c.self.inside.entries.items) ≤ vec_capacity c.in_ok-moved.moved =
-    omega (arith, ap length c.in_ok-parted.ensures.moved, length-moved c.args.level c.args.count _ _ hashed, c.len-2.ensures, c.in_ok-parted.parted.moved.ok.0, c.in_ok-moved.ensures.exact) in
+    omega (
+      arith,
+      ap length c.in_ok-parted.ensures.moved,
+      length-moved c.args.level c.args.count _ _ hashed,
+      c.len-2.ensures,
+      c.in_ok-parted.parted.moved.ok.0,
+      c.in_ok-moved.ensures.exact,
+    ) in
     (tt, tt, grind (arith, common_steps), grind (arith, common_steps), grind (arith, common_steps, moved), grind (arith, common_steps, stay))
