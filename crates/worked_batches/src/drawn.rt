@@ -93,8 +93,8 @@ fn same_rows(rt: &impl Abort, found: &Tables, wanted: &Tables) {
     same(rt, &"rows", &found, &wanted);
 }
 
-/// Runs a batch by one worker on a copy of the engine, which numbers and marks keys anew.
-fn run_anew<R: Abort + Threads + Sync>(
+/// Runs a batch by one worker on a copy of the engine.
+fn by_one_worker<R: Abort + Threads + Sync>(
     rt: &R,
     alloc: Global,
     engine: &Engine,
@@ -128,8 +128,8 @@ fn run_both<R: Abort + Threads + Sync>(
     let ran = run_plainly(alloc, engine.catalog(), plain, new, &config);
     let (plain, wanted) = ran.expect(rt, MEMORY).expect(rt, "there is room");
     if wanted.number % 10 == 0 {
-        let anew = run_anew(rt, alloc, &engine, &asks, &config);
-        same_answer(rt, &config, &anew, &wanted);
+        let alone = by_one_worker(rt, alloc, &engine, &asks, &config);
+        same_answer(rt, &config, &alone, &wanted);
     }
     let new = calls(rt, alloc, &asks);
     let (engine, answer) = run(rt, alloc, engine, new, &config, &Free);
