@@ -348,9 +348,9 @@ def check_left(wanted, before, after):
     if wanted[0] == "same":
         return None if before == after else "the files: they are not what they were"
     if wanted[0] == "whole":
-        return difference("the file " + wanted[1], wanted[2], after[wanted[1]])
+        return difference(wanted[1], wanted[2], after[wanted[1]])
     _, name, at, data = wanted
-    return None if after[name][at:at + len(data)] == data else "the file %s has other bytes at %d" % (name, at)
+    return None if after[name][at:at + len(data)] == data else "%s: it has other bytes at %d" % (name, at)
 
 
 def check_step(program, step, way, folder, printed):

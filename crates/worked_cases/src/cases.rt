@@ -10,6 +10,29 @@ pub enum File {
     Log1,
 }
 
+impl File {
+    /// Its name in the folder of a store.
+    pub fn name(self) -> &'static str {
+        match self {
+            File::Ckpt0 => "ckpt0",
+            File::Ckpt1 => "ckpt1",
+            File::Log0 => "log0",
+            File::Log1 => "log1",
+        }
+    }
+
+    /// The file of a name.
+    pub fn named(name: &str) -> Result<File, Wrong> {
+        match name {
+            "ckpt0" => Ok(File::Ckpt0),
+            "ckpt1" => Ok(File::Ckpt1),
+            "log0" => Ok(File::Log0),
+            "log1" => Ok(File::Log1),
+            _ => Err(Wrong::Form("the files are ckpt0, ckpt1, log0 and log1")),
+        }
+    }
+}
+
 /// A part of an input or of an output.
 #[derive(Debug, Drop)]
 pub enum Part {

@@ -160,15 +160,15 @@ fn check_left(
             said(alloc, "the files: they are not what they were")
         }
         Left::Whole { file, bytes } => {
-            let what = format!(in alloc; "the file {file:?}")?;
-            difference(alloc, what.as_str(), bytes, after.file(*file))
+            difference(alloc, file.name(), bytes, after.file(*file))
         }
         Left::Piece { file, at, bytes } => {
             let end = at.saturating_add(bytes.len());
             if after.file(*file).get(*at..end) == Some(bytes.as_slice()) {
                 return Ok(None);
             }
-            Ok(Some(format!(in alloc; "the file {file:?} has other bytes at {at}")?))
+            let name = file.name();
+            Ok(Some(format!(in alloc; "{name}: it has other bytes at {at}")?))
         }
     }
 }

@@ -328,17 +328,6 @@ fn read_mark(text: &str) -> Result<Output, Wrong> {
     })
 }
 
-/// A file by its name.
-fn file_of(name: &str) -> Result<File, Wrong> {
-    match name {
-        "ckpt0" => Ok(File::Ckpt0),
-        "ckpt1" => Ok(File::Ckpt1),
-        "log0" => Ok(File::Log0),
-        "log1" => Ok(File::Log1),
-        _ => Err(Wrong::Form("the files are ckpt0, ckpt1, log0 and log1")),
-    }
-}
-
 /// A name and what stands behind it.
 fn named(text: &str) -> (&str, &str) {
     text.split_once(' ').unwrap_or((text, ""))
@@ -364,7 +353,7 @@ fn read_change(alloc: Global, text: &str) -> Result<Change, Wrong> {
         _ => {}
     }
     let (name, rest) = named(text);
-    let file = file_of(name)?;
+    let file = File::named(name)?;
     let bytes = Vec::new(alloc);
     if rest.is_empty() {
         return Ok(Change::Write { file, bytes });
@@ -388,7 +377,7 @@ fn read_left(alloc: Global, text: &str) -> Result<Left, Wrong> {
         return Ok(Left::Same);
     }
     let (name, rest) = named(text);
-    let file = file_of(name)?;
+    let file = File::named(name)?;
     let bytes = Vec::new(alloc);
     if rest.is_empty() {
         return Ok(Left::Whole { file, bytes });
