@@ -56,7 +56,10 @@ pub enum Output {
 #[derive(Debug, Drop)]
 pub enum Change {
     /// The file has these bytes.
-    Write { file: File, bytes: Vec<u8> },
+    Write {
+        file: File,
+        bytes: Vec<u8>,
+    },
     /// From this offset on the file has these bytes.
     Patch {
         file: File,
@@ -64,7 +67,10 @@ pub enum Change {
         bytes: Vec<u8>,
     },
     /// The file has its first `len` bytes only.
-    Cut { file: File, len: usize },
+    Cut {
+        file: File,
+        len: usize,
+    },
     /// All four files are remembered.
     Keep,
     /// All four files are what they were when they were remembered.
@@ -75,7 +81,10 @@ pub enum Change {
 #[derive(Debug, Drop)]
 pub enum Left {
     /// The file has these bytes.
-    Whole { file: File, bytes: Vec<u8> },
+    Whole {
+        file: File,
+        bytes: Vec<u8>,
+    },
     /// From this offset on the file has these bytes, and perhaps others behind them.
     Piece {
         file: File,

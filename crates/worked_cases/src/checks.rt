@@ -56,7 +56,11 @@ fn check_step<R: AllocGlobal + Threads + Sync>(
     let input = joined(alloc, &step.input, printed)?;
     let outcome = run(rt, &step.words, way, input, &shelf.now)?;
     let found = check_outcome(alloc, step, printed, &shelf.now, &outcome)?;
-    let Outcome { printed: text, files, .. } = outcome;
+    let Outcome {
+        printed: text,
+        files,
+        ..
+    } = outcome;
     printed.push(text)?;
     shelf.now = files;
     Ok(found)
@@ -159,9 +163,7 @@ fn check_left(
             }
             said(alloc, "the files: they are not what they were")
         }
-        Left::Whole { file, bytes } => {
-            difference(alloc, file.name(), bytes, after.file(*file))
-        }
+        Left::Whole { file, bytes } => { difference(alloc, file.name(), bytes, after.file(*file)) }
         Left::Piece { file, at, bytes } => {
             let end = at.saturating_add(bytes.len());
             if after.file(*file).get(*at..end) == Some(bytes.as_slice()) {

@@ -25,10 +25,7 @@ pub fn difference(
 
 /// How many bytes both begin with alike.
 fn common(a: &[u8], b: &[u8]) -> usize {
-    a.iter()
-        .zip(b.iter())
-        .take_while(|(x, y)| x == y)
-        .count()
+    a.iter().zip(b.iter()).take_while(|(x, y)| x == y).count()
 }
 
 /// The number of the line that has the byte at an offset, from 1, and the line; no line behind the end.
@@ -42,10 +39,7 @@ fn line_at(text: &[u8], at: usize) -> (u32, Option<&[u8]>) {
         }
     }
     let rest = text.get(start..).unwrap_or_default();
-    let length = rest
-        .iter()
-        .take_while(|byte| **byte != b'\n')
-        .count();
+    let length = rest.iter().take_while(|byte| **byte != b'\n').count();
     if rest.is_empty() {
         return (number, None);
     }

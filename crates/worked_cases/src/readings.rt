@@ -137,7 +137,9 @@ impl Reader {
         let first = match self.place {
             Place::Words | Place::Input => true,
             Place::Output => false,
-            _ => return Err(Wrong::Form("an output stands behind the words and the input of a step")),
+            _ => return Err(Wrong::Form(
+                "an output stands behind the words and the input of a step",
+            )),
         };
         self.place = Place::Output;
         let alloc = self.alloc;
@@ -152,7 +154,9 @@ impl Reader {
     fn status(&mut self, text: &str) -> Result<(), Wrong> {
         match self.place {
             Place::Between | Place::Changed => {
-                return Err(Wrong::Form("a status stands behind the words, the input and the output of a step"));
+                return Err(Wrong::Form(
+                    "a status stands behind the words, the input and the output of a step",
+                ));
             }
             _ => {}
         }
@@ -218,7 +222,10 @@ impl Reader {
             None => return Err((None, Wrong::Form("a case has a step at least"))),
         };
         if let Some(line) = untaken(&steps) {
-            return Err((Some(line), Wrong::Form("no later step takes what this one prints")));
+            return Err((
+                Some(line),
+                Wrong::Form("no later step takes what this one prints"),
+            ));
         }
         match place {
             Place::Between => Ok(steps),
