@@ -5,7 +5,7 @@ mod run;
 mod script;
 
 use run::{Call, End, Key, Procs, Request, Run, Tables, Writes};
-use std::collections::{HashMap, HashSet};
+use std::collections::HashMap;
 use std::io::Write;
 use std::time::Instant;
 
@@ -52,7 +52,7 @@ fn number(runs: &[Run]) -> (Vec<Numbers>, usize) {
     let mut numbered = Vec::with_capacity(runs.len());
     for run in runs {
         let reads = run.reads.iter().map(&mut number_of).collect();
-        let writes = run.writes.keys().map(&mut number_of).collect();
+        let writes = run.writes.iter().map(|write| number_of(&write.0)).collect();
         numbered.push(Numbers { reads, writes });
     }
     (numbered, known.len())
@@ -92,9 +92,9 @@ fn install(tables: &mut Tables, writes: Writes) {
 
 /// Runs a request again within the keys of its first run, and installs what it writes.
 fn rerun(procs: &Procs, tables: &mut Tables, request: &Request, first: &Run) -> Reply {
-    let writes: HashSet<&Key> = first.writes.keys().collect();
-    let reads: HashSet<&Key> = first.reads.iter().collect();
-    let may = |key: &Key, is_write: bool| writes.contains(key) || !is_write && reads.contains(key);
+    let may = |key: &Key, is_write: bool| {
+        first.writes.iter().any(|write| write.0 == *key) || !is_write && first.reads.contains(key)
+    };
     match run::run(procs, tables, request, may) {
         Ok(run) => {
             install(tables, run.writes);

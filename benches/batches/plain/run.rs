@@ -1,21 +1,22 @@
 // Procedures, and their runs on a snapshot. `find` is left out: neither workload has it.
 use crate::json::Json;
 use std::collections::HashMap;
+use std::hash::{Hash, Hasher};
 
-#[derive(Clone, PartialEq, Eq, Hash)]
+#[derive(Clone, PartialEq, Eq)]
 pub enum Value {
     Int(i64),
     Text(Box<str>),
 }
 
-#[derive(Clone, PartialEq, Eq, Hash)]
+#[derive(Clone, PartialEq, Eq)]
 enum Parts {
     One([Value; 1]),
     Two([Value; 2]),
     More(Box<[Value]>),
 }
 
-#[derive(Clone, PartialEq, Eq, Hash)]
+#[derive(Clone, PartialEq, Eq)]
 pub struct Key {
     table: u16,
     parts: Parts,
@@ -32,11 +33,32 @@ impl Key {
         };
         Key { table, parts }
     }
+
+    fn parts(&self) -> &[Value] {
+        match &self.parts {
+            Parts::One(one) => one,
+            Parts::Two(two) => two,
+            Parts::More(more) => more,
+        }
+    }
+}
+
+/// As few writes as there are parts, since each is a call.
+impl Hash for Key {
+    fn hash<H: Hasher>(&self, state: &mut H) {
+        state.write_u16(self.table);
+        for part in self.parts() {
+            match part {
+                Value::Int(number) => state.write_i64(*number),
+                Value::Text(text) => state.write(text.as_bytes()),
+            }
+        }
+    }
 }
 
 pub type Row = Vec<Value>;
 pub type Tables = HashMap<Key, Row>;
-pub type Writes = HashMap<Key, Option<Row>>;
+pub type Writes = Vec<(Key, Option<Row>)>;
 
 pub enum Arg {
     One(Value),
@@ -68,7 +90,8 @@ pub enum Trap {
     Many,
 }
 
-/// What a run on a snapshot comes to. A key may stand among the reads several times.
+/// What a run on a snapshot comes to. A key may stand among the reads several times. Both lists are searched from the
+/// front, since a run makes few accesses.
 pub struct Run {
     pub reads: Vec<Key>,
     pub writes: Writes,
@@ -377,15 +400,18 @@ impl<'a, F: Fn(&Key, bool) -> bool> Running<'a, F> {
 
     fn write(&mut self, key: Key, row: Option<Row>) -> Result<(), Stop> {
         self.access(&key, true)?;
-        self.writes.insert(key, row);
+        match self.writes.iter_mut().find(|write| write.0 == key) {
+            Some(write) => write.1 = row,
+            None => self.writes.push((key, row)),
+        }
         Ok(())
     }
 
     fn read(&mut self, table: u16, key: &[Expr], registers: &[usize], miss: &Miss) -> Result<(), Stop> {
         let key = self.key(table, key)?;
         self.access(&key, false)?;
-        let (row, is_own) = match self.writes.get(&key) {
-            Some(row) => (row.as_ref(), true),
+        let (row, is_own) = match self.writes.iter().find(|write| write.0 == key) {
+            Some(write) => (write.1.as_ref(), true),
             None => (self.tables.get(&key), false),
         };
         if !is_own {
