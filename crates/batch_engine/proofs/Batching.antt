@@ -31,7 +31,8 @@ use Rattle.batch_engine.proofs.Readying.{length-list, ready-after}
 
 pub many-verdicts : (tree : Request → Tree Key Cells End) (rule : Rule) (start : Database) (list : List Request) (c : Committed)
     → IsCommitted tree rule start list c → length c.verdicts.items ≡ length list
-many-verdicts tree rule start list c h = ap length h.verdicts ∙ length-map _ (λ d. d.verdict) ∙ length-judged (touching (on_start is_done tree start) key_cmp) rule _ list
+many-verdicts tree rule start list c h = ap length h.verdicts ∙ length-map _ (λ d. d.verdict)
+    ∙ length-judged (touching (on_start is_done tree start) key_cmp) rule _ list
 
 pub many-sets : (tree : Request → Tree Key Cells End) (rule : Rule) (start : Database) (list : List Request) (c : Committed)
     → IsCommitted tree rule start list c → length c.sets.items ≡ length list
@@ -53,7 +54,15 @@ module _ {e self : Between} (view : e ≡ self) (config : Config) (calls : List 
 
   -- what the next state and the answer are made of
   abbrev left_by : Settled → List Request → ℕ → State
-  left_by s left count = record { rule = config.rule; percent = config.fallback; rows = s.tables; waiting = left; batches = e.batches + 1; requests = e.requests + count }
+  left_by s left count = record {
+    rule = config.rule;
+    percent = config.fallback;
+    rows = s.tables;
+    waiting = left;
+    batches = e.batches + 1;
+    requests =
+        e.requests + count;
+  }
 
   abbrev told_by : Settled → Answer
   told_by s = record { number = e.batches + 1; lines = s.lines; order = s.order }
@@ -72,7 +81,8 @@ module _ {e self : Between} (view : e ≡ self) (config : Config) (calls : List 
       → length self.carried + length calls ≤ MOST_REQUESTS → length slice ≤ MOST_REQUESTS
   few-listed l c same room = subst (λ (l : List Request). length l ≤ MOST_REQUESTS) (sym (same ∙ listed l c)) (few-list room)
 
-  pub done : (c : Committed) (s : Settled) {list carried slice : List Request} → list ≡ carried ++ numbered e.requests calls → carried ≡ e.carried → slice ≡ list
+  pub done : (c : Committed) (s : Settled) {list carried slice : List Request} → list ≡ carried ++ numbered e.requests calls → carried ≡ e.carried
+      → slice ≡ list
       → IsCommitted (run_of e.plan) config.rule e.rows slice c
       → ((start : Database) → IsCommitted (run_of e.plan) config.rule start list c → IsSettled (run_of e.plan) config.rule config.fallback start list s)
       → IsDone s
@@ -81,7 +91,14 @@ module _ {e self : Between} (view : e ≡ self) (config : Config) (calls : List 
       (settles e.rows (subst (λ l. IsCommitted (run_of e.plan) config.rule e.rows l c) same committed))
 
   left-is : (s : Settled) {left : List Request} {count : ℕ} → IsDone s → left ≡ s.carried.items → count ≡ length calls → left_by s left count ≡ state_after e
-  left-is s all c n = λ i. record { rule = config.rule; percent = config.fallback; rows = all.rows i; waiting = (c ∙ all.carried) i; batches = e.batches + 1; requests = e.requests + n i }
+  left-is s all c n = λ i. record {
+    rule = config.rule;
+    percent = config.fallback;
+    rows = all.rows i;
+    waiting = (c ∙ all.carried) i;
+    batches = e.batches + 1;
+    requests = e.requests + n i;
+  }
 
   pub ready-is : (s : Settled) {left : List Request} {count : ℕ} → IsDone s → left ≡ s.carried.items → count ≡ length calls
       → IsCatalog e.plan → IsReady e.plan e.rows e.carried e.batches e.requests
@@ -96,7 +113,8 @@ module _ {e self : Between} (view : e ≡ self) (config : Config) (calls : List 
       (subst (λ (b : Between). b.batches < GREATEST_NUMBER) back batches)
       (subst (λ (b : Between). b.requests + length calls ≤ GREATEST_NUMBER) back requests))
 
-  pub state-is : (s : Settled) {left : List Request} {count : ℕ} → IsDone s → left ≡ s.carried.items → count ≡ length calls → left_by s left count ≡ state_after self
+  pub state-is : (s : Settled) {left : List Request} {count : ℕ} → IsDone s → left ≡ s.carried.items → count ≡ length calls
+      → left_by s left count ≡ state_after self
   state-is s all c n = left-is s all c n ∙ ap state_after view
 
   pub answer-is : (s : Settled) → IsDone s → told_by s ≡ answer_from self
@@ -114,4 +132,5 @@ module _ {e self : Between} (view : e ≡ self) (config : Config) (calls : List 
 
   pub progress-is : (s : Settled) {left : List Request} {count : ℕ} → IsDone s → left ≡ s.carried.items → count ≡ length calls → 0 < length (whole self)
       → IsProgress (run_of self.plan) self.rows (whole self) (told_by s) (left_by s left count)
-  progress-is s all c n some = of-these (IsProgress (run_of self.plan) self.rows (whole self)) s all c n (progress (run_of self.plan) (state_in config self) handed some)
+  progress-is s all c n some = of-these (IsProgress (run_of self.plan) self.rows (whole self)) s all c n
+      (progress (run_of self.plan) (state_in config self) handed some)

@@ -39,7 +39,8 @@ touched-few plan start (q ∷ qs) few =
     let outcome = outcome_at (run_of plan) start q in
     let keys : length (keys_of outcome.writes) ≡ length outcome.writes = length-map outcome.writes (λ row. row.0) in
     let one : touch_count (sets_in outcome) ≤ MOST_ACCESSES = omega (arith, few q, keys) in
-    All-cons (λ s. touch_count s ≤ MOST_ACCESSES) (sets_in outcome) (map (λ q. sets_in (outcome_at (run_of plan) start q)) qs) one (touched-few plan start qs few)
+    All-cons (λ s. touch_count s ≤ MOST_ACCESSES) (sets_in outcome) (map (λ q. sets_in (outcome_at (run_of plan) start q)) qs) one
+    (touched-few plan start qs few)
 
 -- what is marked of images is marked of what they are images of
 module _ {S Z : Type 0} (reads writes : S → List Key) (of : Z → S) (list : List Z) where
@@ -71,7 +72,8 @@ module _ (tree : Request → Tree Key Cells End) (rule : Rule) (start : Database
       → after_changes 1 start changes verdicts ≡ after_commit (on_start is_done tree start) start ds
   rows-are changes verdicts c v =
       let on = touching (on_start is_done tree start) key_cmp in
-      let all = (λ i. decided 1 (c i) (v i)) ∙ decided-map rows_of 1 list (map (λ d. d.verdict) ds) ∙ ap (map (judged_through rows_of)) (decided_each on rule list) in
+      let all = (λ i. decided 1 (c i) (v i)) ∙ decided-map rows_of 1 list (map (λ d. d.verdict) ds)
+      ∙ ap (map (judged_through rows_of)) (decided_each on rule list) in
       let kept = sym (filter-map (judged_through rows_of) (λ d. finishes d.verdict) (λ d. finishes d.verdict) ds (λ k d below. refl)) in
       ap (λ l. installed (λ one. one.request) start (finishing l)) all
       ∙ ap (installed (λ one. one.request) start) kept

@@ -17,7 +17,8 @@ use Rattle.batch_engine.specs.Answers.{verdict_of, verdicts_on}
 abbrev at_place : Rule → Sheet → ℕ → Verdict → Type 0
 at_place rule sheet place verdict = verdict ≡ verdict_of rule sheet (place + 1)
 
-given : (rule : Rule) (sheet : Sheet) (verdicts : List Verdict) → AreGiven (at_place rule sheet) (length sheet.reads) verdicts → verdicts ≡ verdicts_on rule sheet
+given : (rule : Rule) (sheet : Sheet) (verdicts : List Verdict) → AreGiven (at_place rule sheet) (length sheet.reads) verdicts
+    → verdicts ≡ verdicts_on rule sheet
 given rule sheet verdicts are =
     let n = length sheet.reads in
     let none : Verdict = Finish false in

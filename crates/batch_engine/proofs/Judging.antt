@@ -24,7 +24,8 @@ module _ {S : Type 0} (reads writes : S → List Key) (sets : List S) (sheet : S
   at_seam [] s rest = refl
   at_seam (b ∷ bs) s rest = at_seam bs s rest
 
-  one-verdict : (earlier : List S) (s : S) (rest : List S) → sets ≡ earlier ++ s ∷ rest → verdict_at (length earlier + 1) ≡ verdict key_cmp reads writes rule earlier s
+  one-verdict : (earlier : List S) (s : S) (rest : List S) → sets ≡ earlier ++ s ∷ rest
+      → verdict_at (length earlier + 1) ≡ verdict key_cmp reads writes rule earlier s
   one-verdict earlier s rest e =
       let place : length earlier + 1 - 1 ≡ length earlier = omega arith in
       let here = (λ i. slice_get (e i) (place i)) ∙ at_seam earlier s rest in
@@ -32,11 +33,13 @@ module _ {S : Type 0} (reads writes : S → List Key) (sets : List S) (sheet : S
       sheet_decides key_cmp reads writes h.keys h.number sets sheet rule (length earlier + 1) s h.one_to_one h.lists (omega arith) here
       ∙ ap (λ l. verdict key_cmp reads writes rule l s) before
 
-  verdicts-behind : (earlier rest : List S) → sets ≡ earlier ++ rest → map verdict_at (range_with_len (length earlier + 1) (length rest)) ≡ map (λ d. d.verdict) (judged (by_keys key_cmp reads writes) rule earlier rest)
+  verdicts-behind : (earlier rest : List S) → sets ≡ earlier ++ rest
+      → map verdict_at (range_with_len (length earlier + 1) (length rest)) ≡ map (λ d. d.verdict) (judged (by_keys key_cmp reads writes) rule earlier rest)
   verdicts-behind earlier [] e = refl
   verdicts-behind earlier (s ∷ rest) e =
       let first = one-verdict earlier s rest e in
-      let next = ap (λ n. map verdict_at (range_with_len (n + 1) (length rest))) (sym (length-append earlier (s ∷ []))) ∙ verdicts-behind (earlier ++ s ∷ []) rest (e ∙ sym (append_assoc earlier (s ∷ []) rest)) in
+      let next = ap (λ n. map verdict_at (range_with_len (n + 1) (length rest))) (sym (length-append earlier (s ∷ [])))
+      ∙ verdicts-behind (earlier ++ s ∷ []) rest (e ∙ sym (append_assoc earlier (s ∷ []) rest)) in
       λ i. first i ∷ next i
 
   pub verdicts-are : verdicts_on rule sheet ≡ map (λ d. d.verdict) (judged (by_keys key_cmp reads writes) rule [] sets)

@@ -20,7 +20,8 @@ use Rattle.batch_engine.specs.Lists.{waiting_with, waiting_among, tids_among}
 use Rattle.batch_engine.specs.Marks.{NumbersKeys}
 
 -- the TIDs of those that wait are among those of all
-pub tids_within : (most tid : ℕ) (verdicts : List Verdict) → 1 ≤ tid → tid + length verdicts ≤ suc most → All (λ t. (1 ≤ t) × (t ≤ most)) (tids_among tid verdicts)
+pub tids_within : (most tid : ℕ) (verdicts : List Verdict) → 1 ≤ tid → tid + length verdicts ≤ suc most
+    → All (λ t. (1 ≤ t) × (t ≤ most)) (tids_among tid verdicts)
 tids_within most tid [] low high = All-nil (λ t. (1 ≤ t) × (t ≤ most))
 tids_within most tid (Finish raw ∷ vs) low high = tids_within most (tid + 1) vs (omega (arith, low)) (omega (arith, high))
 tids_within most tid (Wait cause ∷ vs) low high = All-cons (λ t. (1 ≤ t) × (t ≤ most)) tid (tids_among (tid + 1) vs) (low, omega (arith, high))
@@ -37,7 +38,8 @@ waiting_have P of side same (q ∷ qs) (s ∷ ss) (Wait cause ∷ vs) all =
     All-cons (λ w. P (side w)) (waiting_with q s) (waiting_among qs ss vs) (rw (same q s) (All-head (λ s. P (of s)) s ss all))
     (waiting_have P of side same qs ss vs (All-tail (λ s. P (of s)) s ss all))
 
-pub tids_more : (tid : ℕ) (verdict : Verdict) (rest : List Verdict) → tids_among tid (verdict ∷ []) ++ tids_among (tid + 1) rest ≡ tids_among tid (verdict ∷ rest)
+pub tids_more : (tid : ℕ) (verdict : Verdict) (rest : List Verdict)
+    → tids_among tid (verdict ∷ []) ++ tids_among (tid + 1) rest ≡ tids_among tid (verdict ∷ rest)
 tids_more tid (Finish raw) rest = refl
 tids_more tid (Wait cause) rest = refl
 
@@ -63,14 +65,16 @@ module _ (number : Key → ℕ) (sheet : Sheet) where
       λ i. h.0 i ∷ rest i
 
   -- what the lists have at the TID of the set behind these
-  at_behind : (lists : List (List ℕ)) (of : Sets → List Key) (done : List Sets) (s : Sets) (ss : List Sets) → lists ≡ map (λ s. map number (of s)) (done ++ s ∷ ss)
+  at_behind : (lists : List (List ℕ)) (of : Sets → List Key) (done : List Sets) (s : Sets) (ss : List Sets)
+      → lists ≡ map (λ s. map number (of s)) (done ++ s ∷ ss)
       → slice_index_or lists (length done + 1 - 1) [] ≡ map number (of s)
   at_behind lists of done s ss are =
       let at : length done + 1 - 1 ≡ length (map (λ s. map number (of s)) done) = let l = length-map done (λ s. map number (of s)) in omega (arith, l) in
       (λ i. slice_index_or ((are ∙ map_both done s ss) i) (at i) [])
       ∙ get_or-append_seam (map (λ s. map number (of s)) done) (map number (of s)) (map (λ s. map number (of s)) ss) []
     where
-      map_both : (done : List Sets) (s : Sets) (ss : List Sets) → map (λ s. map number (of s)) (done ++ s ∷ ss) ≡ map (λ s. map number (of s)) done ++ map number (of s) ∷ map (λ s. map number (of s)) ss
+      map_both : (done : List Sets) (s : Sets) (ss : List Sets)
+          → map (λ s. map number (of s)) (done ++ s ∷ ss) ≡ map (λ s. map number (of s)) done ++ map number (of s) ∷ map (λ s. map number (of s)) ss
       map_both [] s ss = refl
       map_both (d ∷ ds) s ss = ap (λ l. map number (of d) ∷ l) (map_both ds s ss)
 
@@ -84,7 +88,8 @@ module _ (number : Key → ℕ) (sheet : Sheet) where
       let w = at_behind sheet.writes (λ s. s.writes) done s ss writes in
       let cut = append_assoc done one ss in (
         (λ i. record { reads = r i; writes = w i }),
-        subst (λ n. Along n ss) next (along (done ++ one) ss (reads ∙ ap (map (λ s. map number s.reads)) (sym cut)) (writes ∙ ap (map (λ s. map number s.writes)) (sym cut))),
+        subst (λ n. Along n ss) next (along (done ++ one) ss (reads ∙ ap (map (λ s. map number s.reads)) (sym cut)) (writes
+            ∙ ap (map (λ s. map number s.writes)) (sym cut))),
       )
 
 -- the sheet stands for those that wait
@@ -94,8 +99,10 @@ stands sheet list sets verdicts e f n = record {
   keys = n.keys;
   number = n.number;
   one_to_one = n.one_to_one;
-  reads_among = waiting_have (All (λ k. is_among key_cmp n.keys k ≡ true)) (λ s. s.reads) (λ w. w.declared.reads) (λ q s. refl) list sets verdicts n.lists.reads_among;
-  writes_among = waiting_have (All (λ k. is_among key_cmp n.keys k ≡ true)) (λ s. s.writes) (λ w. w.declared.writes) (λ q s. refl) list sets verdicts n.lists.writes_among;
+  reads_among = waiting_have (All (λ k. is_among key_cmp n.keys k ≡ true)) (λ s. s.reads) (λ w. w.declared.reads)
+      (λ q s. refl) list sets verdicts n.lists.reads_among;
+  writes_among = waiting_have (All (λ k. is_among key_cmp n.keys k ≡ true)) (λ s. s.writes) (λ w. w.declared.writes)
+      (λ q s. refl) list sets verdicts n.lists.writes_among;
   lists = waiting_numbered n.number sheet 1 list sets verdicts e f (along n.number sheet [] sets n.lists.reads_are n.lists.writes_are);
 }
 

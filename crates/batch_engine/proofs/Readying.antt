@@ -24,9 +24,11 @@ length-numbered n [] = refl
 length-numbered n (call ∷ calls) = ap suc (length-numbered (n + 1) calls)
 
 pub length-list : (state : State) (handed : Handed) → length (list_of state handed) ≡ length state.waiting + length handed.calls
-length-list state handed = length-append state.waiting (numbered state.requests handed.calls) ∙ ap (λ n. length state.waiting + n) (length-numbered state.requests handed.calls)
+length-list state handed = length-append state.waiting (numbered state.requests handed.calls)
+    ∙ ap (λ n. length state.waiting + n) (length-numbered state.requests handed.calls)
 
-fit-numbered : (plan : Plan) (n : ℕ) (calls : List Call) → All (λ call. takes plan call ≡ true) calls → All (λ request. takes plan request.call ≡ true) (numbered n calls)
+fit-numbered : (plan : Plan) (n : ℕ) (calls : List Call) → All (λ call. takes plan call ≡ true) calls
+    → All (λ request. takes plan request.call ≡ true) (numbered n calls)
 fit-numbered plan n [] a = All-nil (λ request. takes plan request.call ≡ true)
 fit-numbered plan n (call ∷ calls) a = All-cons (λ request. takes plan request.call ≡ true) (record { q = n + 1; call = call }) (numbered (n + 1) calls)
     (All-head (λ call. takes plan call ≡ true) call calls a) (fit-numbered plan (n + 1) calls (All-tail (λ call. takes plan call ≡ true) call calls a))
@@ -43,7 +45,8 @@ All-kept P f test (x ∷ xs) a =
 
 few-kept : {X : Type 0} (test : X → Bool) (xs : List X) → length (filter test xs) ≤ length xs
 few-kept test [] = omega arith
-few-kept test (x ∷ xs) = let rest = few-kept test xs in elim (test x) as (λ b. length (cond b (x ∷ filter test xs) (filter test xs)) ≤ suc (length xs)) [ true ↦ omega (arith, rest) | false ↦ omega (arith, rest) ]
+few-kept test (x ∷ xs) = let rest = few-kept test xs in elim (test x) as (λ b. length (cond b (x ∷ filter test xs) (filter test xs)) ≤ suc (length xs))
+    [ true ↦ omega (arith, rest) | false ↦ omega (arith, rest) ]
 
 module _ (plan : Plan) (state : State) (handed : Handed) where
   abbrev next : State
@@ -76,7 +79,9 @@ module _ (plan : Plan) (state : State) (handed : Handed) where
   ready-after whole h new few batches requests =
       let fit = fit-list h.fit new in
       record {
-        consistent = stays_consistent plan.tables (run_of plan) state handed (λ k d below rows consistent. (catalog_stays_consistent_is plan (slice_index_or list k d) rows whole (fit k d below) consistent).after) h.consistent;
+        consistent = stays_consistent plan.tables (run_of plan) state handed
+            (λ k d below rows consistent. (catalog_stays_consistent_is plan (slice_index_or list k d) rows whole (fit k d below) consistent).after)
+            h.consistent;
         fit = All-kept Fit (λ e. e.judged.request) is_carried entries (subst (All Fit) (sym entries-list) fit);
         numbered = keeps_numbers (run_of plan) state handed h.numbered;
         few = let less = fewer in omega (arith, less, few);

@@ -42,13 +42,15 @@ few_among (q ∷ qs) [] verdicts = omega arith
 few_among (q ∷ qs) (s ∷ ss) [] = omega arith
 
 -- as many are decided as there are verdicts, and as many settled
-length-decided : {O : Type 0} (tid : ℕ) (list : List O) (verdicts : List Verdict) → length verdicts ≡ length list → length (decided tid list verdicts) ≡ length verdicts
+length-decided : {O : Type 0} (tid : ℕ) (list : List O) (verdicts : List Verdict) → length verdicts ≡ length list
+    → length (decided tid list verdicts) ≡ length verdicts
 length-decided tid [] [] e = refl
 length-decided tid [] (v ∷ vs) e = absurd (omega (arith, e))
 length-decided tid (o ∷ os) [] e = refl
 length-decided tid (o ∷ os) (v ∷ vs) e = ap suc (length-decided (tid + 1) os vs (omega (arith, e)))
 
-pub decided-map : {O P : Type 0} (of : O → P) (tid : ℕ) (list : List O) (verdicts : List Verdict) → decided tid (map of list) verdicts ≡ map (judged_through of) (decided tid list verdicts)
+pub decided-map : {O P : Type 0} (of : O → P) (tid : ℕ) (list : List O) (verdicts : List Verdict)
+    → decided tid (map of list) verdicts ≡ map (judged_through of) (decided tid list verdicts)
 decided-map of tid [] verdicts = refl
 decided-map of tid (o ∷ os) [] = refl
 decided-map of tid (o ∷ os) (v ∷ vs) = ap (λ rest. judged_through of (record { tid = tid; request = o; verdict = v }) ∷ rest) (decided-map of (tid + 1) os vs)
@@ -58,7 +60,8 @@ module _ {K V A O : Type 0} (by : Carrier K V A O) where
   length-settled ds lates = sym (length-map (settled by ds lates) (λ e. e.judged)) ∙ ap length (judged-settled by ds lates)
 
   -- of what carries the requests their ends alone count
-  settled_by_ends : (also : Carrier K V A O) → ((o : O) → also.end o ≡ by.end o) → (ds : List (Judged O)) (lates : List (Fate K A)) → settled also ds lates ≡ settled by ds lates
+  settled_by_ends : (also : Carrier K V A O) → ((o : O) → also.end o ≡ by.end o) → (ds : List (Judged O)) (lates : List (Fate K A))
+      → settled also ds lates ≡ settled by ds lates
   settled_by_ends also same [] lates = refl
   settled_by_ends also same (d ∷ ds) lates =
       let rest = settled_by_ends also same ds (lates_behind d.verdict lates) in
@@ -70,8 +73,10 @@ module _ {K V A O : Type 0} (by : Carrier K V A O) where
       fate_same o (Wait cause) [] = refl
       fate_same o (Wait cause) (late ∷ lates) = refl
 
-pub length-lines : (numbers : List ℕ) (ends : List End) (verdicts : List Verdict) (lates : List (Fate Key End)) → length verdicts ≡ length ends → length (lines_in numbers ends verdicts lates) ≡ length verdicts
-length-lines numbers ends verdicts lates e = length-map (settled by_end (decided 1 ends verdicts) lates) (line_in numbers) ∙ length-settled by_end (decided 1 ends verdicts) lates ∙ length-decided 1 ends verdicts e
+pub length-lines : (numbers : List ℕ) (ends : List End) (verdicts : List Verdict) (lates : List (Fate Key End)) → length verdicts ≡ length ends
+    → length (lines_in numbers ends verdicts lates) ≡ length verdicts
+length-lines numbers ends verdicts lates e = length-map (settled by_end (decided 1 ends verdicts) lates) (line_in numbers)
+    ∙ length-settled by_end (decided 1 ends verdicts) lates ∙ length-decided 1 ends verdicts e
 
 -- ---- numbers of a list
 
@@ -97,9 +102,11 @@ at_seam before q rest = ap (λ i. number_or (slice_get (before ++ q ∷ rest) i)
     here (b ∷ bs) = here bs
 
 -- the number at its place is the request's own
-numbers-judged : (on : Dependencies Request) (rule : Rule) (earlier list : List Request) → All (λ d. number_at (earlier ++ list) d.tid ≡ d.request.q) (judged on rule earlier list)
+numbers-judged : (on : Dependencies Request) (rule : Rule) (earlier list : List Request)
+    → All (λ d. number_at (earlier ++ list) d.tid ≡ d.request.q) (judged on rule earlier list)
 numbers-judged on rule earlier [] = All-nil (λ d. number_at (earlier ++ []) d.tid ≡ d.request.q)
-numbers-judged on rule earlier (q ∷ qs) = All-cons (λ d. number_at (earlier ++ q ∷ qs) d.tid ≡ d.request.q) (judge on rule earlier q) (judged on rule (earlier ++ q ∷ []) qs)
+numbers-judged on rule earlier (q ∷ qs) = All-cons (λ d. number_at (earlier ++ q ∷ qs) d.tid ≡ d.request.q) (judge on rule earlier q)
+    (judged on rule (earlier ++ q ∷ []) qs)
     (at_seam earlier q qs)
     (rw (← append_assoc earlier (q ∷ []) qs) (numbers-judged on rule (earlier ++ q ∷ []) qs))
 
@@ -125,31 +132,45 @@ module _ (tree : Request → Tree Key Cells End) (rule : Rule) (start : Database
   verdicts_of ds = map (λ d. d.verdict) ds
 
   -- who waits
-  waiting-behind : (earlier list : List Request) → waiting_among list (map sets_at list) (verdicts_of (judged on rule earlier list)) ≡ map waiting_at (waiting (judged on rule earlier list))
+  waiting-behind : (earlier list : List Request) → waiting_among list (map sets_at list) (verdicts_of (judged on rule earlier list)) ≡ map waiting_at
+      (waiting (judged on rule earlier list))
   waiting-behind earlier [] = refl
   waiting-behind earlier (q ∷ qs) =
       let rest = judged on rule (earlier ++ q ∷ []) qs in
-      elim (judge on rule earlier q).verdict as (λ v. waiting_among (q ∷ qs) (sets_at q ∷ map sets_at qs) (v ∷ verdicts_of rest) ≡ map waiting_at (filter (λ d. waits d.verdict) (record { tid = length earlier + 1; request = q; verdict = v } ∷ rest))) [
+      elim (judge on rule earlier q).verdict as (λ v. waiting_among (q ∷ qs) (sets_at q ∷ map sets_at qs) (v ∷ verdicts_of rest) ≡ map waiting_at
+      (filter (λ d. waits d.verdict) (record { tid = length earlier + 1; request = q; verdict = v } ∷ rest))) [
         | Finish raw ↦ waiting-behind (earlier ++ q ∷ []) qs
         | Wait cause ↦ ap (λ l. waiting_with q (sets_at q) ∷ l) (waiting-behind (earlier ++ q ∷ []) qs)
       ]
 
   -- and of them, who still does
-  still-carried : (ds : List (Judged Request)) (lates : List (Fate Key End)) → still_waiting (map waiting_at (waiting ds)) lates ≡ map (λ e. e.judged.request) (carried (settled by ds lates))
+  still-carried : (ds : List (Judged Request)) (lates : List (Fate Key End))
+      → still_waiting (map waiting_at (waiting ds)) lates ≡ map (λ e. e.judged.request) (carried (settled by ds lates))
   still-carried [] lates = refl
-  still-carried (d ∷ ds) lates = elim d.verdict as (λ v. still_waiting (map waiting_at (filter (λ d. waits d.verdict) (record { tid = d.tid; request = d.request; verdict = v } ∷ ds))) lates ≡ map (λ e. e.judged.request) (filter is_carried (record { judged = record { tid = d.tid; request = d.request; verdict = v }; fate = fate_after by d.request v lates } ∷ settled by ds (lates_behind v lates)))) [
-    | Finish raw ↦ still-carried ds lates
-    | Wait cause ↦ waited lates (still-carried ds (drop 1 lates)) cause
-  ]
+  still-carried (d ∷ ds) lates =
+      elim d.verdict as (λ v. still_waiting (map waiting_at (filter (λ d. waits d.verdict) (record { tid = d.tid; request = d.request; verdict = v } ∷ ds)))
+      lates ≡ map (λ e. e.judged.request) (filter is_carried
+      (record { judged = record { tid = d.tid; request = d.request; verdict = v }; fate = fate_after by d.request v lates } ∷ settled by ds
+      (lates_behind v lates)))) [
+        | Finish raw ↦ still-carried ds lates
+        | Wait cause ↦ waited lates (still-carried ds (drop 1 lates)) cause
+      ]
     where
-      waited : (lates : List (Fate Key End)) → still_waiting (map waiting_at (waiting ds)) (drop 1 lates) ≡ map (λ e. e.judged.request) (carried (settled by ds (drop 1 lates)))
-          → (cause : _) → still_waiting (waiting_at d ∷ map waiting_at (waiting ds)) lates ≡ map (λ e. e.judged.request) (filter is_carried (record { judged = record { tid = d.tid; request = d.request; verdict = Wait cause }; fate = fate_after by d.request (Wait cause) lates } ∷ settled by ds (drop 1 lates)))
+      waited : (lates : List (Fate Key End)) → still_waiting (map waiting_at (waiting ds)) (drop 1 lates) ≡ map (λ e. e.judged.request)
+          (carried (settled by ds (drop 1 lates)))
+          → (cause : _) → still_waiting (waiting_at d ∷ map waiting_at (waiting ds)) lates ≡ map (λ e. e.judged.request)
+          (filter is_carried (record {
+            judged = record { tid = d.tid; request = d.request; verdict = Wait cause };
+            fate =
+                fate_after by d.request (Wait cause) lates;
+          } ∷ settled by ds (drop 1 lates)))
       waited [] rest cause = ap (λ l. d.request ∷ l) rest
       waited (late ∷ lates) rest cause =
           let left = still_waiting (map waiting_at (waiting ds)) lates in
           let held = filter is_carried (settled by ds lates) in
           let here : Entry Key Request End = record { judged = record { tid = d.tid; request = d.request; verdict = Wait cause }; fate = late } in
-          elim (has_ended late) as (λ b. (if b then left else d.request ∷ left) ≡ map (λ e. e.judged.request) (if (if b then false else true) then here ∷ held else held)) [
+          elim (has_ended late) as (λ b. (if b then left else d.request ∷ left) ≡ map (λ e. e.judged.request)
+          (if (if b then false else true) then here ∷ held else held)) [
             | true ↦ rest
             | false ↦ ap (λ l. d.request ∷ l) rest
           ]
@@ -170,39 +191,49 @@ module _ (tree : Request → Tree Key Cells End) (rule : Rule) (start : Database
     abbrev fates_given : List (Fate Key End)
     fates_given = if late_runs percent ds then late_results by is_done tree after ds else []
 
-    pub waiting-is : (sets : List Sets) (verdicts : List Verdict) → sets ≡ map sets_at list → verdicts ≡ verdicts_of ds → waiting_among list sets verdicts ≡ map waiting_at (waiting ds)
+    pub waiting-is : (sets : List Sets) (verdicts : List Verdict) → sets ≡ map sets_at list → verdicts ≡ verdicts_of ds
+        → waiting_among list sets verdicts ≡ map waiting_at (waiting ds)
     waiting-is sets verdicts s v = (λ i. waiting_among list (s i) (v i)) ∙ waiting-behind [] list
 
     due-is : is_due percent (length (map waiting_at (waiting ds))) (length ds) ≡ late_runs percent ds
     due-is = ap (λ few. is_due percent few (length ds)) (length-map (waiting ds) waiting_at)
 
-    pub late-is : (rows left : Database) (ws : List Waiting) (size : ℕ) (fates : List (Fate Key End)) → rows ≡ after → ws ≡ map waiting_at (waiting ds) → size ≡ length ds
+    pub late-is : (rows left : Database) (ws : List Waiting) (size : ℕ) (fates : List (Fate Key End)) → rows ≡ after → ws ≡ map waiting_at (waiting ds)
+        → size ≡ length ds
         → LateRun tree (is_due percent (length ws) size) rows ws left fates → (left ≡ whole.map) × (fates ≡ fates_given)
     late-is rows left ws size fates r w n run =
         let due = (λ i. is_due percent (length (w i)) (n i)) ∙ due-is in
-        let lefts = (λ i. late_left is_done (λ w. touchable w.declared) (λ w. tree w.request) (r i) (w i)) ∙ sym (left_map is_done (λ w. touchable w.declared) (λ w. tree w.request) waiting_at after (waiting ds)) in
-        let lates = (λ i. late_fates is_done (λ w. touchable w.declared) (λ w. tree w.request) (r i) (w i)) ∙ sym (fates_map is_done (λ w. touchable w.declared) (λ w. tree w.request) waiting_at after (waiting ds)) in (
+        let lefts = (λ i. late_left is_done (λ w. touchable w.declared) (λ w. tree w.request) (r i) (w i))
+        ∙ sym (left_map is_done (λ w. touchable w.declared) (λ w. tree w.request) waiting_at after (waiting ds)) in
+        let lates = (λ i. late_fates is_done (λ w. touchable w.declared) (λ w. tree w.request) (r i) (w i))
+        ∙ sym (fates_map is_done (λ w. touchable w.declared) (λ w. tree w.request) waiting_at after (waiting ds)) in (
           run.rows ∙ (λ i. if due i then lefts i else r i),
           run.fates ∙ (λ i. if due i then lates i else []),
         )
 
-    pub carried-is : (fates : List (Fate Key End)) (ws : List Waiting) → ws ≡ map waiting_at (waiting ds) → fates ≡ fates_given → still_waiting ws fates ≡ map (λ e. e.judged.request) (carried whole.entries)
+    pub carried-is : (fates : List (Fate Key End)) (ws : List Waiting) → ws ≡ map waiting_at (waiting ds) → fates ≡ fates_given
+        → still_waiting ws fates ≡ map (λ e. e.judged.request) (carried whole.entries)
     carried-is fates ws w f = (λ i. still_waiting (w i) (f i)) ∙ still-carried ds fates_given
 
-    entry-line : (e : Entry Key Request End) → number_at list e.judged.tid ≡ e.judged.request.q → line_in numbers (entry_through end_at e) ≡ line_of (λ q. q) list e
-    entry-line e here = (λ i. record { q = numbers-are list i e.judged.tid; reply = reply_by (numbers-are list i) e.fate }) ∙ ap (λ q. record { q = q; reply = reply_of list e.fate }) here
+    entry-line : (e : Entry Key Request End) → number_at list e.judged.tid ≡ e.judged.request.q
+        → line_in numbers (entry_through end_at e) ≡ line_of (λ q. q) list e
+    entry-line e here = (λ i. record { q = numbers-are list i e.judged.tid; reply = reply_by (numbers-are list i) e.fate })
+        ∙ ap (λ q. record { q = q; reply = reply_of list e.fate }) here
 
     lines-by : (fates : List (Fate Key End)) → lines_in numbers (map end_at list) (verdicts_of ds) fates ≡ map (line_of (λ q. q) list) (settled by ds fates)
     lines-by fates =
         let es = settled by ds fates in
         let P : Judged Request → Type 0 = λ d. number_at list d.tid ≡ d.request.q in
         let at = All-unmapped P (λ e. e.judged) es (subst (All P) (sym (judged-settled by ds fates)) (numbers-judged on rule [] list)) in
-        ap (λ l. map (line_in numbers) (settled by_end l fates)) (decided-map end_at 1 list (verdicts_of ds) ∙ ap (map (judged_through end_at)) (decided_each on rule list))
-        ∙ ap (map (line_in numbers)) (settled-through end_at by_end ds fates ∙ ap (map (entry_through end_at)) (settled_by_ends by (read_through end_at by_end) (λ o. refl) ds fates))
+        ap (λ l. map (line_in numbers) (settled by_end l fates)) (decided-map end_at 1 list (verdicts_of ds)
+        ∙ ap (map (judged_through end_at)) (decided_each on rule list))
+        ∙ ap (map (line_in numbers)) (settled-through end_at by_end ds fates
+        ∙ ap (map (entry_through end_at)) (settled_by_ends by (read_through end_at by_end) (λ o. refl) ds fates))
         ∙ map-map (line_in numbers) (entry_through end_at) es
         ∙ map_same (λ e. line_in numbers (entry_through end_at e)) (line_of (λ q. q) list) es (λ k d below. entry-line (slice_index_or es k d) (at k d below))
 
-    pub lines-are : (ends : List End) (verdicts : List Verdict) (fates : List (Fate Key End)) → ends ≡ map end_at list → verdicts ≡ verdicts_of ds → fates ≡ fates_given
+    pub lines-are : (ends : List End) (verdicts : List Verdict) (fates : List (Fate Key End)) → ends ≡ map end_at list → verdicts ≡ verdicts_of ds
+        → fates ≡ fates_given
         → lines_in numbers ends verdicts fates ≡ map (line_of (λ q. q) list) whole.entries
     lines-are ends verdicts fates e v f = (λ i. lines_in numbers (e i) (v i) (f i)) ∙ lines-by fates_given
 
@@ -211,7 +242,8 @@ module _ (tree : Request → Tree Key Cells End) (rule : Rule) (start : Database
     final-is (Waits cause) = refl
     final-is (Moved key) = refl
 
-    pub order-is : map (number_in numbers) (ordered_tids (verdicts_of ds) (map (λ line. is_final line.reply) (map (line_of (λ q. q) list) whole.entries))) ≡ map (λ e. e.judged.request.q) (ordered whole.entries)
+    pub order-is : map (number_in numbers) (ordered_tids (verdicts_of ds)
+        (map (λ line. is_final line.reply) (map (line_of (λ q. q) list) whole.entries))) ≡ map (λ e. e.judged.request.q) (ordered whole.entries)
     order-is =
         let es = whole.entries in
         let finals = map-map (λ line. is_final line.reply) (line_of (λ q. q) list) es ∙ (λ i. map (λ e. final-is e.fate i) es) in

@@ -10,7 +10,7 @@ ghost use Rattle.batch_engine.specs.Lates.{is_due, LateRun};
 
 use aria_base::{Memory, Pace, Request};
 use dep_rules::{Config, Numbered};
-use fallback_locks::rerun;
+use fallback_locks::rerun_numbered;
 use proc_exec::{Late, Waiting};
 use proc_lang::Catalog;
 use std::alloc::Global;
@@ -52,7 +52,7 @@ pub(crate) fn run_late<P: Pace + Sync, R: Threads + Sync>(
     if !is_due(config.fallback, waiting.len(), size) {
         return Ok((tables, Vec::new(alloc)));
     }
-    rerun(
+    rerun_numbered(
         rt,
         alloc,
         catalog,

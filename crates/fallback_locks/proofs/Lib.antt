@@ -1,3 +1,5 @@
 pub mod LastWaves
 pub mod Filling
+mod KeyTables
+mod NumberTables
 mod Numbers

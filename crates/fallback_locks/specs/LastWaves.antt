@@ -1,14 +1,26 @@
 -- The last waves that touched a key, as a table of them tells.
-use Rattle.std.specs.Prelude.{ℕ, suc, drop, map, ◌++◌, ◌≤◌, ◌<◌, max, List, [], ◌∷◌, Bool, ◌≡◌, if◌then◌else◌, slice_index_or}
+use Rattle.std.specs.Prelude.{◌≡◌, ◌≤◌, ◌<◌, ℕ, suc, max, List, [], ◌∷◌, ◌++◌, map, drop, slice_index_or}
+use Rattle.std.specs.Prelude.{Bool, Option, Some, None, if◌then◌else◌}
 use Rattle.std.specs.declared.cmp.Ordering.{Ordering}
+use Rattle.std.specs.BTreeMap as tree
+use Rattle.aria_base.specs.Orders.{key_cmp}
+use Rattle.aria_base.specs.declared.keys.Key.{Key}
 use Rattle.batch_rules.specs.Touches.{Declared, is_among, may_write}
 use Rattle.batch_rules.specs.Waves.{Waved, waved}
 use Rattle.std.specs.List.{All}
 use Rattle.fallback_locks.specs.declared.lasts.Last.{Last}
 
--- what the table has at a key, by its number
-abbrev pub last_in : List Last → ℕ → Last
-last_in lasts q = slice_index_or lasts q (record { reader = 0; writer = 0 })
+abbrev pub or_none : Option Last → Last
+or_none None = record { reader = 0; writer = 0 }
+or_none (Some last) = last
+
+-- what the table of keys has at a key
+abbrev pub last_in : tree.BTreeMap Key Last → Key → Last
+last_in lasts q = or_none (tree.get key_cmp lasts q)
+
+-- what the list has at a key, by its number
+abbrev pub last_at : List Last → ℕ → Last
+last_at lasts q = slice_index_or lasts q (record { reader = 0; writer = 0 })
 
 -- a key's last waves, where a request of this wave reads it, and where one writes it
 abbrev pub with_reader : ℕ → Bool → Last → Last
@@ -22,10 +34,16 @@ abbrev pub highest : {K : Type 0} → (K → ℕ) → ℕ → List K → ℕ
 highest f n [] = n
 highest f n (k ∷ ks) = highest f (max n (f k)) ks
 
--- one more than the greatest wave that wrote what is read, or touched what is written
+-- the last wave that writes one of the keys, and the last that reads or writes one
+abbrev pub last_writer : {K : Type 0} → (K → Last) → List K → ℕ
+last_writer table keys = highest (λ q. (table q).writer) 0 keys
+
+abbrev pub last_toucher : {K : Type 0} → (K → Last) → List K → ℕ
+last_toucher table keys = highest (λ q. max (table q).reader (table q).writer) 0 keys
+
+-- one more than the last wave that writes what is read, or touches what is written
 abbrev pub wave_by : {K : Type 0} → (K → Last) → Declared K → ℕ
-wave_by table declared =
-    suc (max (highest (λ q. (table q).writer) 0 declared.reads) (highest (λ q. max (table q).reader (table q).writer) 0 declared.writes))
+wave_by table declared = suc (max (last_writer table declared.reads) (last_toucher table declared.writes))
 
 abbrev pub IsBelow : ℕ → Last → Type 0
 IsBelow n last = (last.reader < n) × (last.writer < n)

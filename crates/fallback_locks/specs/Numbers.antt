@@ -22,7 +22,8 @@ waves_by sheet tids = map (λ e. e.wave) (waved nat_cmp (numbers_at sheet) [] ti
 abbrev pub numbers_in : (Key → ℕ) → Waiting → Declared ℕ
 numbers_in number w = record { reads = map number w.declared.reads; writes = map number w.declared.writes }
 
--- the sheet has at these TIDs the numbers of what the requests declare, and two of these keys have one number exactly where they are equal
+-- the sheet has at these TIDs the numbers of the keys that the requests declare, of which two have one number exactly
+-- where they are equal
 pub record StandFor (sheet : Sheet) (tids : List ℕ) (waiting : List Waiting) : Type 0 where
   pub keys : List Key
   pub number : Key → ℕ

@@ -8,7 +8,7 @@
 //! list.
 //!
 //! ```text
-//! waiting --waves--> 1 1 2 1 3 ..     a table from keys to their last waves
+//! waiting --waves--> 1 1 2 1 3 ..     a table of the last waves of each key
 //!                        |
 //!         wave 1 --> run_wave --> settle --> wave 2 --> ..
 //!                       |            |
@@ -18,15 +18,20 @@
 //!
 //! The name is that of other designs, in which such requests lock their keys in the order of the list.
 //! Here no lock is taken: the waves say all that the locks would.
+//!
+//! Whoever has numbers of the declared keys calls [`waves_numbered`] and [`rerun_numbered`], which find the
+//! waves by them; [`waves`] and [`rerun`] find them by the keys.
 #![tactic(auto)]
 
 mod dones;
 mod groups;
+mod key_table;
 mod lasts;
 mod levels;
+mod number_table;
 mod reruns;
 mod rounds;
 mod settlements;
 
-pub use levels::waves;
-pub use reruns::rerun;
+pub use levels::{waves, waves_numbered};
+pub use reruns::{rerun, rerun_numbered};

@@ -14,7 +14,8 @@ use std::thread::Threads;
 use tbl_snapshot::Snapshot;
 use work_crew::{Task, gather};
 
-/// To start a thread takes longer than to run so many requests again.
+/// How many requests of a wave there are for each further worker at least: to start a thread takes longer than
+/// to run fewer again.
 const LEAST_A_WORKER: u32 = 8;
 
 /// The requests at some places of the list of all that wait, on the rows that their wave finds.
@@ -54,8 +55,8 @@ impl<'a> Task for Round<'a> {
     }
 }
 
-/// What the requests at these places come to on the snapshot, in the order of the places. No more
-/// workers run than there are places.
+/// What the requests at these places come to on the snapshot, in the order of the places. Fewer workers run
+/// where there are few places, for few the caller alone.
 pub(crate) fn run_wave<P: Pace + Sync, R: Threads + Sync>(
     rt: &R,
     alloc: Global,

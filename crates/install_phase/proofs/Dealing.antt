@@ -49,12 +49,15 @@ module _ (before after : List Written) (d : Written) (key : Key) (row : Option C
   }
 
 -- the same of lists of any kind, of which one is read at a place and changed there
-pub add_listed : {L : Type 0} (items : L → Written) (lists : List L) (place : ℕ) (was now : L) (old : List Written) (key : Key) (row : Option Cells) → map items lists ≡ old
-    → place ≡ home key → place < length lists → was ≡ get_or lists place was → items now ≡ items was ++ (key, row) ∷ [] → Adds ((key, row) ∷ []) old (map items (set lists place now))
+pub add_listed : {L : Type 0} (items : L → Written) (lists : List L) (place : ℕ) (was now : L) (old : List Written) (key : Key) (row : Option Cells)
+    → map items lists ≡ old
+    → place ≡ home key → place < length lists → was ≡ get_or lists place was → items now ≡ items was ++ (key, row) ∷ []
+    → Adds ((key, row) ∷ []) old (map items (set lists place now))
 add_listed items lists place was now old key row viewed at within read grown =
     let long : length lists ≡ length old = sym (length-map lists items) ∙ ap length viewed in
     let below : home key < length old = subst (λ p. p < length old) at (subst (λ n. place < n) long within) in
-    let read_there : items was ≡ get_or old (home key) (items was) = ap items read ∙ sym (get_or-map items lists place was) ∙ ap (λ ls. get_or ls place (items was)) viewed ∙ ap (λ p. get_or old p (items was)) at in
+    let read_there : items was ≡ get_or old (home key) (items was) = ap items read ∙ sym (get_or-map items lists place was)
+    ∙ ap (λ ls. get_or ls place (items was)) viewed ∙ ap (λ p. get_or old p (items was)) at in
     add_adds old (map items (set lists place now)) (items was) key row below
     (map-set items lists place now ∙ ap (λ ls. set ls place (items now)) viewed ∙ ap (λ p. set old p (items now)) at
     ∙ ap (set old (home key)) (grown ∙ ap (λ list. list ++ (key, row) ∷ []) read_there))
@@ -90,12 +93,14 @@ pub deal_own : (writes : Written) (lists : List Written) → IsDeal writes lists
 deal_own writes lists deal = record {
   count = deal.count;
   own = λ i d lt.
-      let own = All-weaker (λ write. nat_eq (home write.0) i ≡ true) (λ write. home write.0 ≡ i) (λ write. eqb-true (home write.0) i) (at_shard i writes) (filter_passes (λ write. nat_eq (home write.0) i) writes) in
+      let own = All-weaker (λ write. nat_eq (home write.0) i ≡ true) (λ write. home write.0 ≡ i) (λ write. eqb-true (home write.0) i) (at_shard i writes)
+      (filter_passes (λ write. nat_eq (home write.0) i) writes) in
       subst (All (λ write. home write.0 ≡ i)) (sym (deal.each i d lt)) own;
 }
 
 -- the last of a request's writes is dealt first
-pub reversed_push : (done xs all : Written) (changes : Written) (key : Key) (row : Option Cells) → changes ≡ xs ++ (key, row) ∷ [] → done ++ reverse changes ≡ all
+pub reversed_push : (done xs all : Written) (changes : Written) (key : Key) (row : Option Cells) → changes ≡ xs ++ (key, row) ∷ []
+    → done ++ reverse changes ≡ all
     → (done ++ (key, row) ∷ []) ++ reverse xs ≡ all
 reversed_push done xs all changes key row e was =
     append_assoc done ((key, row) ∷ []) (reverse xs) ∙ ap (λ ws. done ++ ws) (sym (ap reverse e ∙ reverse-append xs ((key, row) ∷ []))) ∙ was
@@ -143,7 +148,8 @@ written_cut tid xs ys verdicts =
 
 -- what each run was dealt to is together what all were dealt to
 pub deals_made : (verdicts : List Verdict) (first : ℕ) (list : List Written) (deals : List (List Written))
-    → HaveMade (λ first list. IsDeal (written (first + 1) list (drop first verdicts))) first list deals → AreDeals (written (first + 1) list (drop first verdicts)) deals
+    → HaveMade (λ first list. IsDeal (written (first + 1) list (drop first verdicts))) first list deals
+    → AreDeals (written (first + 1) list (drop first verdicts)) deals
 deals_made verdicts first list [] none = ap (λ os. written (first + 1) os (drop first verdicts)) none
 deals_made verdicts first list (deal ∷ deals) (part, rest, e, made, more) =
     let behind = first + length part in

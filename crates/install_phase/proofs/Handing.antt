@@ -108,9 +108,11 @@ between_next pieces before after deal deals later writes whole e handed (done, t
 
 pub between_own : (pieces : List Piece) (jobs : List Due) (deal : List Written) (deals later : List (List Written)) (writes : Written)
     → deals ≡ deal ∷ later → Between pieces jobs deals writes → (some : Written) × IsDeal some deal
-between_own pieces jobs deal deals later writes e (done, todo, are, dealt, both) = let (some, others, cut, first, rest) = subst (AreDeals todo) e dealt in (some, first)
+between_own pieces jobs deal deals later writes e (done, todo, are, dealt, both) = let (some, others, cut, first, rest) = subst (AreDeals todo) e dealt in
+    (some, first)
 
-pub between_end : (pieces : List Piece) (jobs : List Due) (deals : List (List Written)) (writes : Written) → deals ≡ [] → Between pieces jobs deals writes → AreJobs pieces writes jobs
+pub between_end : (pieces : List Piece) (jobs : List Due) (deals : List (List Written)) (writes : Written) → deals ≡ [] → Between pieces jobs deals writes
+    → AreJobs pieces writes jobs
 between_end pieces jobs deals writes e (done, todo, are, dealt, both) =
     let none : todo ≡ [] = subst (AreDeals todo) e dealt in
     subst (λ ws. AreJobs pieces ws jobs) (sym (append-nil done) ∙ sym (ap (λ ws. done ++ ws) none) ∙ both) are

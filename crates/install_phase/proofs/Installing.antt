@@ -37,14 +37,17 @@ applied-reverse rows [] = refl
 applied-reverse rows (w ∷ ws) =
     ap (applied rows) (reverse-append (w ∷ []) ws) ∙ applied-append rows (reverse ws) (w ∷ []) ∙ ap (λ m. set_at m w.0 w.1) (applied-reverse rows ws)
 
-applied-installed : (rows : Database) (ones : List (Judged Written)) → applied rows (flat_map (λ one. reverse one.request) ones) ≡ installed (λ one. one.request) rows ones
+applied-installed : (rows : Database) (ones : List (Judged Written))
+    → applied rows (flat_map (λ one. reverse one.request) ones) ≡ installed (λ one. one.request) rows ones
 applied-installed rows [] = refl
 applied-installed rows (one ∷ ones) =
-    applied-append rows (reverse one.request) (flat_map (λ o. reverse o.request) ones) ∙ ap (λ m. applied m (flat_map (λ o. reverse o.request) ones)) (applied-reverse rows one.request)
+    applied-append rows (reverse one.request) (flat_map (λ o. reverse o.request) ones)
+    ∙ ap (λ m. applied m (flat_map (λ o. reverse o.request) ones)) (applied-reverse rows one.request)
     ∙ applied-installed (overwritten rows one.request) ones
 
 -- the writes alone tell what the outcomes do
-pub same_changes : (tid : ℕ) (rows : Database) (outcomes : List Outcome) (verdicts : List Verdict) → after_changes tid rows (map (λ o. o.writes) outcomes) verdicts ≡ after_finishing tid rows outcomes verdicts
+pub same_changes : (tid : ℕ) (rows : Database) (outcomes : List Outcome) (verdicts : List Verdict)
+    → after_changes tid rows (map (λ o. o.writes) outcomes) verdicts ≡ after_finishing tid rows outcomes verdicts
 same_changes tid rows [] verdicts = refl
 same_changes tid rows (outcome ∷ outcomes) [] = refl
 same_changes tid rows (outcome ∷ outcomes) (Finish raw ∷ verdicts) = same_changes (tid + 1) (overwritten rows outcome.writes) outcomes verdicts
@@ -69,10 +72,12 @@ get-at_shard (w ∷ ws) rows all q e =
       | true ↦ λ here. get-at_shard ws (set_at rows w.0 w.1) (set_at all w.0 w.1) q
           (get-set_at key_cmp_total rows w.0 w.1 q ∙ ap (cond (eq_by_cmp key_cmp q w.0) w.1) e ∙ sym (get-set_at key_cmp_total all w.0 w.1 q))
       | false ↦ λ other. get-at_shard ws rows (set_at all w.0 w.1) q
-          (e ∙ sym (get-set_at key_cmp_total all w.0 w.1 q ∙ ap (λ b. cond b w.1 (fin.get all q)) (other_key q w.0 (λ same. eqb-false (home w.0) (home q) other (sym same)))))
+          (e ∙ sym (get-set_at key_cmp_total all w.0 w.1 q ∙ ap (λ b. cond b w.1 (fin.get all q))
+          (other_key q w.0 (λ same. eqb-false (home w.0) (home q) other (sym same)))))
     ] refl
 
-module _ (pieces after : List Piece) (jobs : List Due) (writes : Written) (whole : IsWhole pieces) (are : AreJobs pieces writes jobs) (made : after ≡ map finished jobs) where
+module _ (pieces after : List Piece) (jobs : List Due) (writes : Written) (whole : IsWhole pieces) (are : AreJobs pieces writes jobs)
+    (made : after ≡ map finished jobs) where
   pub count_after : length after ≡ SHARDS
   count_after = ap length made ∙ length-map jobs finished ∙ are.count ∙ whole.count
 

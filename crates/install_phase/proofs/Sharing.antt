@@ -18,7 +18,8 @@ module _ {Item Made : Type 0} (makes : ℕ → List Item → Made → Type 0) wh
       let here : first + length front ≡ first = ap (λ xs. first + length xs) none ∙ omega arith in
       subst (λ xs. Have first xs (last ∷ [])) (sym alone) (made_alone first back last (subst (λ n. makes n back last) here m))
   made_more first front back items (made ∷ all) last (part, rest, f, m, more) l e =
-      let place : first + length front ≡ first + length part + length rest = ap (λ xs. first + length xs) f ∙ ap (λ n. first + n) (length-append part rest) ∙ omega arith in (
+      let place : first + length front ≡ first + length part + length rest = ap (λ xs. first + length xs) f ∙ ap (λ n. first + n) (length-append part rest)
+      ∙ omega arith in (
         part,
         rest ++ back,
         e ∙ ap (λ xs. xs ++ back) f ∙ append_assoc part rest back,
@@ -27,7 +28,8 @@ module _ {Item Made : Type 0} (makes : ℕ → List Item → Made → Type 0) wh
       )
 
   -- a list of things for each part, put together
-  pub made_flat : {Y : Type 0} (f : Item → Y) (ys : Made → List Y) → ((first : ℕ) (items : List Item) (made : Made) → makes first items made → ys made ≡ map f items)
+  pub made_flat : {Y : Type 0} (f : Item → Y) (ys : Made → List Y)
+      → ((first : ℕ) (items : List Item) (made : Made) → makes first items made → ys made ≡ map f items)
       → (first : ℕ) (items : List Item) (all : List Made) → Have first items all → flat_map ys all ≡ map f items
   made_flat f ys each first items [] none = sym (ap (map f) none)
   made_flat f ys each first items (made ∷ all) (part, rest, e, m, more) =
@@ -35,7 +37,8 @@ module _ {Item Made : Type 0} (makes : ℕ → List Item → Made → Type 0) wh
       ∙ sym (map-append f part rest) ∙ ap (map f) (sym e)
 
   -- the list was cut at a place, and all but the last part is made of the prefix
-  pub made_cut : (n at : ℕ) (items front back : List Item) (all : List Made) (last : Made) (more : List Made) → front ≡ take at items → back ≡ drop at items → n ≡ length front
+  pub made_cut : (n at : ℕ) (items front back : List Item) (all : List Made) (last : Made) (more : List Made) → front ≡ take at items → back ≡ drop at items
+      → n ≡ length front
       → Have 0 front all → makes n back last → more ≡ all ++ last ∷ [] → Have 0 items more
   made_cut n at items front back all last more f b here made m e =
       let there : n ≡ 0 + length front = here ∙ omega arith in

@@ -36,7 +36,8 @@ IsApart-bare near far bare q some = let there : IsSome {T = Cells} None = subst 
 
 pub beside-bare : (near far : Database) → near ≡ fin.empty → far ≡ fin.empty → beside near far ≡ fin.empty
 beside-bare near far one two = fin.same_map key_cmp_total key_cmp-IsAntisymmetric _ _ (λ q.
-    get-beside near far q ∙ ap (λ m. option_or (fin.get m q) (fin.get far q)) one ∙ ap (λ row. option_or row (fin.get far q)) (fin.get-empty key_cmp q) ∙ ap (λ m. fin.get m q) two)
+    get-beside near far q ∙ ap (λ m. option_or (fin.get m q) (fin.get far q)) one ∙ ap (λ row. option_or row (fin.get far q)) (fin.get-empty key_cmp q)
+    ∙ ap (λ m. fin.get m q) two)
 
 -- ---- what is found
 
@@ -47,11 +48,13 @@ pub found-far : (near far : Database) (q : Key) → fin.get near q ≡ None → 
 found-far near far q none = get-beside near far q ∙ ap (λ r. option_or r (fin.get far q)) none
 
 -- one of the two has no row at a key
-pub apart-near : (near far : Database) (q : Key) (r : Option (Bor Cells)) → IsApart near far → option_copied r ≡ fin.get near q → MatchBool (not (is_some r)) (fin.get near q ≡ None) (fin.get far q ≡ None)
+pub apart-near : (near far : Database) (q : Key) (r : Option (Bor Cells)) → IsApart near far → option_copied r ≡ fin.get near q
+    → MatchBool (not (is_some r)) (fin.get near q ≡ None) (fin.get far q ≡ None)
 apart-near near far q None apart is = sym is
 apart-near near far q (Some row) apart is = apart q (subst IsSome is refl)
 
-pub apart-far : (near far : Database) (q : Key) (r : Option (Bor Cells)) → IsApart near far → option_copied r ≡ fin.get far q → MatchBool (is_some r) (fin.get near q ≡ None) (fin.get far q ≡ None)
+pub apart-far : (near far : Database) (q : Key) (r : Option (Bor Cells)) → IsApart near far → option_copied r ≡ fin.get far q
+    → MatchBool (is_some r) (fin.get near q ≡ None) (fin.get far q ≡ None)
 apart-far near far q None apart is = sym is
 apart-far near far q (Some row) apart is =
     elim (fin.get near q) as (λ r. (IsSome r → fin.get far q ≡ None) → r ≡ None) [
@@ -74,7 +77,8 @@ beside-near near far k row = fin.same_map key_cmp_total key_cmp-IsAntisymmetric 
 pub beside-far : (near far : Database) (k : Key) (row : Cells) → fin.get near k ≡ None → beside near (fin.insert far k row) ≡ fin.insert (beside near far) k row
 beside-far near far k row none = fin.same_map key_cmp_total key_cmp-IsAntisymmetric _ _ (λ q.
     get-beside near (fin.insert far k row) q ∙ ap (λ r. option_or (fin.get near q) r) (fin.get-insert key_cmp_total far k row q)
-    ∙ elim (eq_by_cmp key_cmp q k) as (λ b. eq_by_cmp key_cmp q k ≡ b → option_or (fin.get near q) (cond b (Some row) (fin.get far q)) ≡ cond b (Some row) (option_or (fin.get near q) (fin.get far q))) [
+    ∙ elim (eq_by_cmp key_cmp q k) as (λ b. eq_by_cmp key_cmp q k ≡ b
+    → option_or (fin.get near q) (cond b (Some row) (fin.get far q)) ≡ cond b (Some row) (option_or (fin.get near q) (fin.get far q))) [
       | true ↦ λ tied. ap (λ r. option_or r (Some row)) (ap (fin.get near) (same_key q k tied) ∙ none)
       | false ↦ λ _. refl
     ] refl
@@ -123,7 +127,8 @@ none-removed true row none = refl
 none-removed false row none = none
 
 pub apart-removed : (near far : Database) (k : Key) → IsApart near far → IsApart (fin.remove near k) (fin.remove far k)
-apart-removed near far k apart q some = fin.get-remove key_cmp_total far k q ∙ none-removed (eq_by_cmp key_cmp q k) (fin.get far q) (apart-shrunk near far k apart q some)
+apart-removed near far k apart q some = fin.get-remove key_cmp_total far k q
+    ∙ none-removed (eq_by_cmp key_cmp q k) (fin.get far q) (apart-shrunk near far k apart q some)
 
 -- what has no row at a key stays as it is
 pub remove-none : (m : Database) (k : Key) → fin.get m k ≡ None → fin.remove m k ≡ m
@@ -142,7 +147,8 @@ found_first (Some row) far some = refl
 pub near-found : (near far : Database) (k : Key) → is_some (fin.get near k) ≡ true → true ≡ is_some (fin.get (beside near far) k)
 near-found near far k some = sym (ap is_some (get-beside near far k) ∙ found_first (fin.get near k) (fin.get far k) some)
 
-pub near-removed : (near far : Database) (k : Key) → IsApart near far → is_some (fin.get near k) ≡ true → beside (fin.remove near k) far ≡ fin.remove (beside near far) k
+pub near-removed : (near far : Database) (k : Key) → IsApart near far → is_some (fin.get near k) ≡ true
+    → beside (fin.remove near k) far ≡ fin.remove (beside near far) k
 near-removed near far k apart some = ap (beside (fin.remove near k)) (sym (remove-none far k (apart k some))) ∙ beside-removed near far k
 
 -- and one whose row did not
@@ -155,7 +161,8 @@ far-found near far k none = not_first (fin.get near k) (fin.get far k) none ∙ 
 
 -- ---- the rows of both
 
-pub adds-both : (near far : Database) (one two : Entries) → IsApart near far → Adds near [] one → two ≡ one ++ fin.entries far → IsPermutation (fin.entries (beside near far)) two
+pub adds-both : (near far : Database) (one two : Entries) → IsApart near far → Adds near [] one → two ≡ one ++ fin.entries far
+    → IsPermutation (fin.entries (beside near far)) two
 adds-both near far one two apart adds is =
     subst (λ es. IsPermutation (fin.entries (beside near far)) es) (sym is)
     (IsPermutation-trans _ _ _ (IsPermutation-sym _ _ (beside-permuted near far apart)) (IsPermutation-append_left (fin.entries far) _ _ adds))

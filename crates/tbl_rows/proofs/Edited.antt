@@ -20,7 +20,8 @@ use Rattle.tbl_rows.proofs.Listed.{nil_apart, find-head, apart-cons, apart-tail,
 
 -- ---- the row of a key, which stands at a place
 
-pub get-at : (es : Entries) (q : Key) (i : ℕ) (e : Key × Cells) → position (is_entry_of q) es ≡ Some i → e ≡ slice_index_or es i e → fin.get (fin.from_entries {R = key_cmp} es) q ≡ Some e.1
+pub get-at : (es : Entries) (q : Key) (i : ℕ) (e : Key × Cells) → position (is_entry_of q) es ≡ Some i → e ≡ slice_index_or es i e
+    → fin.get (fin.from_entries {R = key_cmp} es) q ≡ Some e.1
 get-at es q i e some is = fin.get-from_entries key_cmp_total es q ∙ find-at es q i e (is_at-position es q i e some) ∙ ap (λ e. Some e.1) (sym is)
 
 pub get-absent : (es : Entries) (q : Key) → position (is_entry_of q) es ≡ None → fin.get (fin.from_entries {R = key_cmp} es) q ≡ None
@@ -29,7 +30,8 @@ get-absent es q none = fin.get-from_entries key_cmp_total es q ∙ find-none es 
 pub apart-set : (es : Entries) (i : ℕ) (e : Key × Cells) (row : Cells) → e ≡ slice_index_or es i e → AllApart es → AllApart (slice_set es i (e.0, row))
 apart-set es i e row is apart = subst (IsDistinct (eq_by_cmp key_cmp)) (sym (map-set_same (λ e. e.0) es i (e.0, row) e (ap (λ e. e.0) is))) apart
 
-pub set-at : (es : Entries) (k : Key) (i : ℕ) (e : Key × Cells) (row : Cells) → position (is_entry_of k) es ≡ Some i → e ≡ slice_index_or es i e → fin.from_entries {R = key_cmp} (slice_set es i (e.0, row)) ≡ fin.insert (fin.from_entries es) k row
+pub set-at : (es : Entries) (k : Key) (i : ℕ) (e : Key × Cells) (row : Cells) → position (is_entry_of k) es ≡ Some i → e ≡ slice_index_or es i e
+    → fin.from_entries {R = key_cmp} (slice_set es i (e.0, row)) ≡ fin.insert (fin.from_entries es) k row
 set-at es k i e row some is = fin.same_map key_cmp_total key_cmp-IsAntisymmetric _ _ (λ q.
     fin.get-from_entries key_cmp_total _ q ∙ ap (λ x. fin.find key_cmp q (slice_set es i (x.0, row))) is
     ∙ find-set es k q row i e (is_at-position es k i e some)
@@ -47,12 +49,14 @@ apart-push es k row none apart = apart-append es ((k, row) ∷ []) apart (apart-
       | false ↦ λ _. refl
     ] refl)
 
-pub push-absent : (es : Entries) (k : Key) (row : Cells) → position (is_entry_of k) es ≡ None → fin.from_entries {R = key_cmp} (es ++ (k, row) ∷ []) ≡ fin.insert (fin.from_entries es) k row
+pub push-absent : (es : Entries) (k : Key) (row : Cells) → position (is_entry_of k) es ≡ None
+    → fin.from_entries {R = key_cmp} (es ++ (k, row) ∷ []) ≡ fin.insert (fin.from_entries es) k row
 push-absent es k row none = fin.from_entries_push key_cmp_total key_cmp-IsAntisymmetric es k row (find-none es k none)
 
 -- ---- an entry is taken out
 
-find-taken : (e : Key × Cells) (es : Entries) (k q : Key) → AllApart (e ∷ es) → k ≡ e.0 → fin.find key_cmp q es ≡ cond (eq_by_cmp key_cmp q k) None (fin.find key_cmp q (e ∷ es))
+find-taken : (e : Key × Cells) (es : Entries) (k q : Key) → AllApart (e ∷ es) → k ≡ e.0
+    → fin.find key_cmp q es ≡ cond (eq_by_cmp key_cmp q k) None (fin.find key_cmp q (e ∷ es))
 find-taken e es k q apart is =
     rw is
     (elim (eq_by_cmp key_cmp q e.0) as (λ b. eq_by_cmp key_cmp q e.0 ≡ b → fin.find key_cmp q es ≡ cond b None (cond b (Some e.1) (fin.find key_cmp q es))) [
@@ -63,10 +67,12 @@ find-taken e es k q apart is =
 within : (es : Entries) (k : Key) (i : ℕ) (d : Key × Cells) → position (is_entry_of k) es ≡ Some i → i < length es
 within es k i d some = (is_at-position es k i d some).below
 
-pub apart-swap_remove : (es : Entries) (k : Key) (i : ℕ) (e : Key × Cells) → position (is_entry_of k) es ≡ Some i → e ≡ slice_index_or es i e → AllApart es → AllApart (swap_remove es i e)
+pub apart-swap_remove : (es : Entries) (k : Key) (i : ℕ) (e : Key × Cells) → position (is_entry_of k) es ≡ Some i → e ≡ slice_index_or es i e → AllApart es
+    → AllApart (swap_remove es i e)
 apart-swap_remove es k i e some is apart = apart-tail e _ (apart-permutation es _ (IsPermutation-swap_remove es i e (within es k i e some) is) apart)
 
-pub swap_remove-at : (es : Entries) (k : Key) (i : ℕ) (e : Key × Cells) → AllApart es → position (is_entry_of k) es ≡ Some i → e ≡ slice_index_or es i e → fin.from_entries {R = key_cmp} (swap_remove es i e) ≡ fin.remove (fin.from_entries es) k
+pub swap_remove-at : (es : Entries) (k : Key) (i : ℕ) (e : Key × Cells) → AllApart es → position (is_entry_of k) es ≡ Some i → e ≡ slice_index_or es i e
+    → fin.from_entries {R = key_cmp} (swap_remove es i e) ≡ fin.remove (fin.from_entries es) k
 swap_remove-at es k i e apart some is =
     let moved = IsPermutation-swap_remove es i e (within es k i e some) is in
     let same : k ≡ e.0 = same_key k _ ((is_at-position es k i e some).here) ∙ ap (λ e. e.0) (sym is) in

@@ -39,20 +39,24 @@ pooled-bare m bare = fin.same_map key_cmp_total key_cmp-IsAntisymmetric _ _ (λ 
 
 -- ---- a bucket changes at a key of its own
 
-pub IsPool-put : (level : ℕ) (ms : List Database) (i : ℕ) (old new : Database) (k : Key) (row : Cells) → IsPool level ms → i ≡ slot level (length ms) k → old ≡ slice_index_or ms i old → new ≡ fin.insert old k row → IsPool level (slice_set ms i new)
+pub IsPool-put : (level : ℕ) (ms : List Database) (i : ℕ) (old new : Database) (k : Key) (row : Cells) → IsPool level ms → i ≡ slot level (length ms) k
+    → old ≡ slice_index_or ms i old → new ≡ fin.insert old k row → IsPool level (slice_set ms i new)
 IsPool-put level ms i old new k row pool at stood put = record {
   least = subst (λ n. 2 ^ level ≤ n) (sym (length-set ms i new)) pool.least;
   most = subst (λ n. n ≤ 2 ^ (level + 1)) (sym (length-set ms i new)) pool.most;
   bounded = pool.bounded;
-  spread = subst (λ n. IsSpread (slot level n) (slice_set ms i new)) (sym (length-set ms i new)) (spread-put (slot level (length ms)) ms i old new k row pool.spread at stood put);
+  spread = subst (λ n. IsSpread (slot level n) (slice_set ms i new)) (sym (length-set ms i new))
+      (spread-put (slot level (length ms)) ms i old new k row pool.spread at stood put);
 }
 
-pub IsPool-deleted : (level : ℕ) (ms : List Database) (i : ℕ) (old new : Database) (k : Key) → IsPool level ms → i ≡ slot level (length ms) k → old ≡ slice_index_or ms i old → new ≡ fin.remove old k → IsPool level (slice_set ms i new)
+pub IsPool-deleted : (level : ℕ) (ms : List Database) (i : ℕ) (old new : Database) (k : Key) → IsPool level ms → i ≡ slot level (length ms) k
+    → old ≡ slice_index_or ms i old → new ≡ fin.remove old k → IsPool level (slice_set ms i new)
 IsPool-deleted level ms i old new k pool at stood gone = record {
   least = subst (λ n. 2 ^ level ≤ n) (sym (length-set ms i new)) pool.least;
   most = subst (λ n. n ≤ 2 ^ (level + 1)) (sym (length-set ms i new)) pool.most;
   bounded = pool.bounded;
-  spread = subst (λ n. IsSpread (slot level n) (slice_set ms i new)) (sym (length-set ms i new)) (spread-deleted (slot level (length ms)) ms i old new k pool.spread at stood gone);
+  spread = subst (λ n. IsSpread (slot level n) (slice_set ms i new)) (sym (length-set ms i new))
+      (spread-deleted (slot level (length ms)) ms i old new k pool.spread at stood gone);
 }
 
 -- ---- the next round
@@ -80,7 +84,8 @@ moved_get m p q = fin.get-retain_keys m p q (λ x tie. ap p (sym (key_cmp-IsAnti
 
 -- whether q moves or stays
 tells : (level n : ℕ) (q : Key) → ((slot level (n + 1) q ≡ n) × (is_moved level n q ≡ true)) ⊎ ((slot level (n + 1) q ≡ n → ⊥) × (is_moved level n q ≡ false))
-tells level n q = ⊎_elim (λ e. inl (e, eq-eqb (slot level (n + 1) q) n e)) (λ apart. inr (apart, ne_eqb (slot level (n + 1) q) n apart)) (cases_eq (slot level (n + 1) q) n)
+tells level n q = ⊎_elim (λ e. inl (e, eq-eqb (slot level (n + 1) q) n e)) (λ apart. inr (apart, ne_eqb (slot level (n + 1) q) n apart))
+    (cases_eq (slot level (n + 1) q) n)
 
 -- the bucket at i was split: what stays is there, what moves is the last
 pub record IsSplit (level : ℕ) (ms : List Database) (i : ℕ) (old stay moved : Database) : Type 0 where
@@ -90,7 +95,9 @@ pub record IsSplit (level : ℕ) (ms : List Database) (i : ℕ) (old stay moved 
   pub stays : stay ≡ fin.retain_keys old (λ q. not (is_moved level (length ms) q))
   pub moves : moved ≡ fin.retain_keys old (is_moved level (length ms))
 
-pub split-of : (level count : ℕ) (ms : List Database) (i : ℕ) (old stay moved : Database) → IsPool level ms → count ≡ length ms → i + 2 ^ level ≡ count → old ≡ slice_index_or ms i old → stay ≡ fin.retain_keys old (λ q. not (is_moved level count q)) → moved ≡ fin.retain_keys old (is_moved level count) → IsSplit level ms i old stay moved
+pub split-of : (level count : ℕ) (ms : List Database) (i : ℕ) (old stay moved : Database) → IsPool level ms → count ≡ length ms → i + 2 ^ level ≡ count
+    → old ≡ slice_index_or ms i old → stay ≡ fin.retain_keys old (λ q. not (is_moved level count q)) → moved ≡ fin.retain_keys old (is_moved level count)
+    → IsSplit level ms i old stay moved
 split-of level count ms i old stay moved pool many at stood stays moves = record {
   pool = pool;
   at = at ∙ many;
@@ -116,7 +123,8 @@ module _ (level : ℕ) (ms : List Database) (i : ℕ) (old stay moved : Database
   at-split d = get_or-append (slice_set ms i stay) (moved ∷ []) d i (subst (λ n. i < n) (sym (length-set ms i stay)) below) ∙ get_or-set_same ms i stay d below
 
   at-other : (j : ℕ) (d : Database) → j < length ms → j ≢ i → slice_index_or (after_split ms i stay moved) j d ≡ slice_index_or ms j d
-  at-other j d inside apart = get_or-append (slice_set ms i stay) (moved ∷ []) d j (subst (λ n. j < n) (sym (length-set ms i stay)) inside) ∙ get_or-set_other ms i j stay d apart
+  at-other j d inside apart = get_or-append (slice_set ms i stay) (moved ∷ []) d j (subst (λ n. j < n) (sym (length-set ms i stay)) inside)
+      ∙ get_or-set_other ms i j stay d apart
 
   get-stay : (q : Key) → fin.get stay q ≡ cond (not (is_moved level (length ms) q)) (fin.get old q) None
   get-stay q = ap (λ m. fin.get m q) split.stays ∙ moved_get old (λ q. not (is_moved level (length ms) q)) q
@@ -128,17 +136,23 @@ module _ (level : ℕ) (ms : List Database) (i : ℕ) (old stay moved : Database
   from_old true q some = (refl, split.pool.spread.own i old below q (subst (λ m. IsSome (fin.get m q)) split.stood some))
   from_old false q some = cc
 
-  own-after : (j : ℕ) (d : Database) → j < length (after_split ms i stay moved) → (q : Key) → IsSome (fin.get (slice_index_or (after_split ms i stay moved) j d) q) → slot level (length ms + 1) q ≡ j
+  own-after : (j : ℕ) (d : Database) → j < length (after_split ms i stay moved) → (q : Key)
+      → IsSome (fin.get (slice_index_or (after_split ms i stay moved) j d) q) → slot level (length ms + 1) q ≡ j
   own-after j d inside q some =
       ⊎_elim
-      (λ last. let there = from_old (is_moved level (length ms) q) q (subst IsSome (ap (λ n. fin.get (slice_index_or (after_split ms i stay moved) n d) q) last ∙ ap (λ m. fin.get m q) (at-last d) ∙ get-moved q) some) in
+      (λ last. let there = from_old (is_moved level (length ms) q) q
+      (subst IsSome (ap (λ n. fin.get (slice_index_or (after_split ms i stay moved) n d) q) last ∙ ap (λ m. fin.get m q) (at-last d) ∙ get-moved q) some) in
       eqb-true (slot level (length ms + 1) q) (length ms) there.0 ∙ sym last)
       (λ before. let inside : j < length ms = omega (arith, inside, length-after, before) in
       ⊎_elim
-      (λ here. let there = from_old (not (is_moved level (length ms) q)) q (subst IsSome (ap (λ n. fin.get (slice_index_or (after_split ms i stay moved) n d) q) here ∙ ap (λ m. fin.get m q) (at-split d) ∙ get-stay q) some) in
-      ⊎_elim (λ m. absurd (subst (λ b. not b ≡ true → ⊥) (sym m.1) (λ e. cc) there.0)) (λ s. slot-stays level (length ms) q s.0 ∙ there.1 ∙ sym here) (tells level (length ms) q))
-      (λ apart. let home : slot level (length ms) q ≡ j = split.pool.spread.own j d inside q (subst (λ m. IsSome (fin.get m q)) (at-other j d inside apart) some) in
-      ⊎_elim (λ m. absurd (apart (omega (arith, slot-moved level (length ms) q split.pool.least m.0, split.at, home)))) (λ s. slot-stays level (length ms) q s.0 ∙ home) (tells level (length ms) q))
+      (λ here. let there = from_old (not (is_moved level (length ms) q)) q
+      (subst IsSome (ap (λ n. fin.get (slice_index_or (after_split ms i stay moved) n d) q) here ∙ ap (λ m. fin.get m q) (at-split d) ∙ get-stay q) some) in
+      ⊎_elim (λ m. absurd (subst (λ b. not b ≡ true → ⊥) (sym m.1) (λ e. cc) there.0)) (λ s. slot-stays level (length ms) q s.0 ∙ there.1 ∙ sym here)
+      (tells level (length ms) q))
+      (λ apart. let home : slot level (length ms) q ≡ j = split.pool.spread.own j d inside q
+      (subst (λ m. IsSome (fin.get m q)) (at-other j d inside apart) some) in
+      ⊎_elim (λ m. absurd (apart (omega (arith, slot-moved level (length ms) q split.pool.least m.0, split.at, home))))
+      (λ s. slot-stays level (length ms) q s.0 ∙ home) (tells level (length ms) q))
       (cases_eq j i))
       (cases_eq j (length ms))
 
@@ -148,9 +162,11 @@ module _ (level : ℕ) (ms : List Database) (i : ℕ) (old stay moved : Database
     own = own-after;
   }
 
-  get-after : (q : Key) → fin.get (slice_index_or (after_split ms i stay moved) (slot level (length ms + 1) q) fin.empty) q ≡ fin.get (slice_index_or ms (slot level (length ms) q) fin.empty) q
+  get-after : (q : Key) → fin.get (slice_index_or (after_split ms i stay moved) (slot level (length ms + 1) q) fin.empty) q ≡ fin.get
+      (slice_index_or ms (slot level (length ms) q) fin.empty) q
   get-after q =
-      let home : (n : ℕ) → n ≡ i → fin.get old q ≡ fin.get (slice_index_or ms n fin.empty) q = λ n e. ap (λ m. fin.get m q) (split.stood ∙ get_or_default ms i old fin.empty below) ∙ ap (λ n. fin.get (slice_index_or ms n fin.empty) q) (sym e) in
+      let home : (n : ℕ) → n ≡ i → fin.get old q ≡ fin.get (slice_index_or ms n fin.empty) q =
+      λ n e. ap (λ m. fin.get m q) (split.stood ∙ get_or_default ms i old fin.empty below) ∙ ap (λ n. fin.get (slice_index_or ms n fin.empty) q) (sym e) in
       ⊎_elim
       (λ m. ap (λ n. fin.get (slice_index_or (after_split ms i stay moved) n fin.empty) q) m.0
       ∙ ap (λ m. fin.get m q) (at-last fin.empty) ∙ get-moved q ∙ ap (λ b. cond b (fin.get old q) None) m.1
@@ -174,4 +190,5 @@ module _ (level : ℕ) (ms : List Database) (i : ℕ) (old stay moved : Database
 
   pub pooled-split : pooled (after_split ms i stay moved) ≡ pooled ms
   pooled-split = fin.same_map key_cmp_total key_cmp-IsAntisymmetric _ _ (λ q.
-      get-pooled (slot level (length ms + 1)) (after_split ms i stay moved) spread-after q ∙ get-after q ∙ sym (get-pooled (slot level (length ms)) ms split.pool.spread q))
+      get-pooled (slot level (length ms + 1)) (after_split ms i stay moved) spread-after q ∙ get-after q
+      ∙ sym (get-pooled (slot level (length ms)) ms split.pool.spread q))

@@ -32,7 +32,8 @@ nil_apart = tt
 none_found : (k : Key) (es : Entries) → fin.find key_cmp k es ≡ None → AllByRecursion (λ y. eq_by_cmp key_cmp k y ≡ false) (keys_of es)
 none_found k [] none = tt
 none_found k (e ∷ es) none =
-    elim (eq_by_cmp key_cmp k e.0) as (λ b. cond b (Some e.1) (fin.find key_cmp k es) ≡ None → (b ≡ false) × AllByRecursion (λ y. eq_by_cmp key_cmp k y ≡ false) (keys_of es)) [
+    elim (eq_by_cmp key_cmp k e.0) as (λ b. cond b (Some e.1) (fin.find key_cmp k es) ≡ None
+    → (b ≡ false) × AllByRecursion (λ y. eq_by_cmp key_cmp k y ≡ false) (keys_of es)) [
       | true ↦ λ some. cc
       | false ↦ λ rest. (refl, none_found k es rest)
     ] none
@@ -57,7 +58,8 @@ some_more q x xs some = elim (eq_by_cmp key_cmp q x.0) as (λ b. IsSome (cond b 
 some_first : (x : Key × Cells) (xs : Entries) → IsSome (fin.find key_cmp x.0 (x ∷ xs))
 some_first x xs = subst (λ b. IsSome (cond b (Some x.1) (fin.find key_cmp x.0 xs))) (sym ((eq_by_cmp_equiv key_cmp_total).refl x.0)) refl
 
-pub apart-append : (xs ys : Entries) → AllApart xs → AllApart ys → ((q : Key) → IsSome (fin.find key_cmp q xs) → fin.find key_cmp q ys ≡ None) → AllApart (xs ++ ys)
+pub apart-append : (xs ys : Entries) → AllApart xs → AllApart ys → ((q : Key) → IsSome (fin.find key_cmp q xs) → fin.find key_cmp q ys ≡ None)
+    → AllApart (xs ++ ys)
 apart-append [] ys first second apart = second
 apart-append (x ∷ xs) ys first second apart =
     let none : fin.find key_cmp x.0 (xs ++ ys) ≡ None =
@@ -93,16 +95,24 @@ found-lookup q [] = refl
 found-lookup q (e ∷ es) = ap (cond (eq_by_cmp key_cmp q e.0) (Some e.1)) (found-lookup q es)
 
 pub apart-permutation : (es fs : Entries) → IsPermutation es fs → AllApart es → AllApart fs
-apart-permutation es fs moved apart = IsDistinct-IsPermutation (eq_by_cmp key_cmp) ((eq_by_cmp_equiv key_cmp_total).symm) (keys_of es) (keys_of fs) (IsPermutation-map (λ e. e.0) es fs moved) apart
+apart-permutation es fs moved apart = IsDistinct-IsPermutation (eq_by_cmp key_cmp) ((eq_by_cmp_equiv key_cmp_total).symm) (keys_of es) (keys_of fs)
+    (IsPermutation-map (λ e. e.0) es fs moved) apart
 
 -- what is found stays found
-found-permutation : (es fs : Entries) (q : Key) (row : Cells) → AllApart fs → IsPermutation es fs → fin.find key_cmp q es ≡ Some row → fin.find key_cmp q fs ≡ Some row
+found-permutation : (es fs : Entries) (q : Key) (row : Cells) → AllApart fs → IsPermutation es fs → fin.find key_cmp q es ≡ Some row
+    → fin.find key_cmp q fs ≡ Some row
 found-permutation es fs q row apart moved some =
     let place = place_from_lookup (eq_by_cmp key_cmp q) es row (found-lookup q es ∙ some) in
     let same : place.1 ≡ q = sym (same_key q place.1 place.3) in
-    let here : Contains es (q, row) = (place.0, slice_get_within es place.0 (place.1, row) place.2, get_or_from_slice_get es place.0 (q, row) (q, row) (place.2 ∙ ap (λ k. Some (k, row)) same)) in
+    let here : Contains es (q, row) = (
+      place.0,
+      slice_get_within es place.0 (place.1, row) place.2,
+      get_or_from_slice_get es place.0 (q, row) (q, row) (place.2
+          ∙ ap (λ k. Some (k, row)) same),
+    ) in
     let there = Contains-permutation es fs (q, row) moved here in
-    sym (found-lookup q fs) ∙ lookup_from_place (eq_by_cmp_equiv key_cmp_total) fs there.0 q row apart (slice_get-get_or fs there.0 (q, row) there.1 ∙ ap Some there.2)
+    sym (found-lookup q fs) ∙ lookup_from_place (eq_by_cmp_equiv key_cmp_total) fs there.0 q row apart (slice_get-get_or fs there.0 (q, row) there.1
+    ∙ ap Some there.2)
 
 pub find-permutation : (es fs : Entries) (q : Key) → AllApart es → IsPermutation es fs → fin.find key_cmp q es ≡ fin.find key_cmp q fs
 find-permutation es fs q first moved =
@@ -123,10 +133,12 @@ nil_rises = tt
 put-permuted : (k : Key) (row : Cells) (es : Entries) → fin.find key_cmp k es ≡ None → IsPermutation ((k, row) ∷ es) (put key_cmp k row es)
 put-permuted k row [] none = IsPermutation-refl _
 put-permuted k row (e ∷ es) none =
-    elim (key_cmp k e.0) as (λ r. cond (is_eq r) (Some e.1) (fin.find key_cmp k es) ≡ None → IsPermutation ((k, row) ∷ e ∷ es) (by_order r ((k, row) ∷ e ∷ es) ((e.0, row) ∷ es) (e ∷ put key_cmp k row es))) [
+    elim (key_cmp k e.0) as (λ r. cond (is_eq r) (Some e.1) (fin.find key_cmp k es) ≡ None
+    → IsPermutation ((k, row) ∷ e ∷ es) (by_order r ((k, row) ∷ e ∷ es) ((e.0, row) ∷ es) (e ∷ put key_cmp k row es))) [
       | Less ↦ λ _. IsPermutation-refl _
       | Equal ↦ λ some. cc
-      | Greater ↦ λ rest. IsPermutation-trans _ _ _ (IsPermutation-sym _ _ (IsPermutation-middle (e ∷ []) (k, row) es)) (IsPermutation-cons e _ _ (put-permuted k row es rest))
+      | Greater ↦ λ rest. IsPermutation-trans _ _ _ (IsPermutation-sym _ _ (IsPermutation-middle (e ∷ []) (k, row) es))
+          (IsPermutation-cons e _ _ (put-permuted k row es rest))
     ] none
 
 -- a list of rows with their keys is that of its map in another order
@@ -174,10 +186,13 @@ sorted-map f lt (x ∷ xs) sorted k d low below =
     (λ i. lt (next i) (here i)) ∙ sorted k x low inside
 
 -- the rows of a map, sorted by their keys, are its entries
-pub entries-sorted : (m : Database) (rows sorted : List (Bor Key × Bor Cells)) → IsPermutation (fin.entries m) (map deref_pair rows) → IsPermutation rows sorted → IsSortedBy (λ a b. is_lt (derived_cmp a.0.now b.0.now)) sorted → map deref_pair sorted ≡ fin.entries m
+pub entries-sorted : (m : Database) (rows sorted : List (Bor Key × Bor Cells)) → IsPermutation (fin.entries m) (map deref_pair rows)
+    → IsPermutation rows sorted → IsSortedBy (λ a b. is_lt (derived_cmp a.0.now b.0.now)) sorted → map deref_pair sorted ≡ fin.entries m
 entries-sorted m rows sorted all moved rising =
     let fs = map deref_pair sorted in
     let moved : IsPermutation (fin.entries m) fs = IsPermutation-trans _ _ _ all (IsPermutation-map deref_pair rows sorted moved) in
     let ordered : IsSortedBy (λ a b. is_lt (key_cmp a.0 b.0)) fs =
-    λ k d low below. sym (ap is_lt (derived-is (slice_index_or fs (k + 1) d).0 (slice_index_or fs k d).0)) ∙ sorted-map deref_pair (λ a b. is_lt (derived_cmp a.0 b.0)) sorted rising k d low below in
-    sym (entries-is m fs (rise fs (apart-permutation _ fs moved (apart-entries m)) ordered) (λ q. fin.get-entries m q ∙ find-permutation (fin.entries m) fs q (apart-entries m) moved))
+    λ k d low below. sym (ap is_lt (derived-is (slice_index_or fs (k + 1) d).0 (slice_index_or fs k d).0))
+    ∙ sorted-map deref_pair (λ a b. is_lt (derived_cmp a.0 b.0)) sorted rising k d low below in
+    sym (entries-is m fs (rise fs (apart-permutation _ fs moved (apart-entries m)) ordered) (λ q. fin.get-entries m q
+    ∙ find-permutation (fin.entries m) fs q (apart-entries m) moved))

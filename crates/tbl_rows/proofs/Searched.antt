@@ -33,7 +33,8 @@ module _ {X : Type 0} where
   pub find-append : (q : Key) (xs ys : List (Key × X)) → fin.find key_cmp q (xs ++ ys) ≡ option_or (fin.find key_cmp q xs) (fin.find key_cmp q ys)
   find-append q [] ys = refl
   find-append q (x ∷ xs) ys =
-      elim (eq_by_cmp key_cmp q x.0) as (λ b. cond b (Some x.1) (fin.find key_cmp q (xs ++ ys)) ≡ option_or (cond b (Some x.1) (fin.find key_cmp q xs)) (fin.find key_cmp q ys)) [
+      elim (eq_by_cmp key_cmp q x.0) as (λ b. cond b (Some x.1) (fin.find key_cmp q (xs ++ ys)) ≡ option_or (cond b (Some x.1) (fin.find key_cmp q xs))
+      (fin.find key_cmp q ys)) [
         | true ↦ refl
         | false ↦ find-append q xs ys
       ]
@@ -49,7 +50,8 @@ module _ {X : Type 0} where
   none_from : (n : ℕ) (es : List (Key × X)) (q : Key) → position_from (is_entry_of q) n es ≡ None → fin.find key_cmp q es ≡ None
   none_from n [] q none = refl
   none_from n (e ∷ es) q none =
-      elim (eq_by_cmp key_cmp q e.0) as (λ b. cond b (Some n) (position_from (is_entry_of q) (n + 1) es) ≡ None → cond b (Some e.1) (fin.find key_cmp q es) ≡ None) [
+      elim (eq_by_cmp key_cmp q e.0) as (λ b. cond b (Some n) (position_from (is_entry_of q) (n + 1) es) ≡ None
+      → cond b (Some e.1) (fin.find key_cmp q es) ≡ None) [
         | true ↦ λ some. cc
         | false ↦ λ rest. none_from (n + 1) es q rest
       ] none
@@ -79,15 +81,19 @@ module _ {X : Type 0} where
   covered false v w found = refl
 
   -- an entry of another key comes first
-  passed : (q k : Key) (e : Key × X) (v : X) (found : Option X) → is_entry_of k e ≡ false → cond (eq_by_cmp key_cmp q e.0) (Some e.1) (cond (eq_by_cmp key_cmp q k) (Some v) found) ≡ cond (eq_by_cmp key_cmp q k) (Some v) (cond (eq_by_cmp key_cmp q e.0) (Some e.1) found)
+  passed : (q k : Key) (e : Key × X) (v : X) (found : Option X) → is_entry_of k e ≡ false
+      → cond (eq_by_cmp key_cmp q e.0) (Some e.1) (cond (eq_by_cmp key_cmp q k) (Some v) found) ≡ cond (eq_by_cmp key_cmp q k) (Some v)
+      (cond (eq_by_cmp key_cmp q e.0) (Some e.1) found)
   passed q k e v found apart =
-      elim (eq_by_cmp key_cmp q k) as (λ b. eq_by_cmp key_cmp q k ≡ b → cond (eq_by_cmp key_cmp q e.0) (Some e.1) (cond b (Some v) found) ≡ cond b (Some v) (cond (eq_by_cmp key_cmp q e.0) (Some e.1) found)) [
+      elim (eq_by_cmp key_cmp q k) as (λ b. eq_by_cmp key_cmp q k ≡ b
+      → cond (eq_by_cmp key_cmp q e.0) (Some e.1) (cond b (Some v) found) ≡ cond b (Some v) (cond (eq_by_cmp key_cmp q e.0) (Some e.1) found)) [
         | true ↦ λ tied. ap (λ b. cond b (Some e.1) (Some v)) (ap (λ x. eq_by_cmp key_cmp x e.0) (same_key q k tied) ∙ apart)
         | false ↦ λ _. refl
       ] refl
 
   -- the value at that place is replaced
-  pub find-set : (es : List (Key × X)) (k q : Key) (v : X) (i : ℕ) (d : Key × X) → IsAt es k i d → fin.find key_cmp q (slice_set es i ((slice_index_or es i d).0, v)) ≡ cond (eq_by_cmp key_cmp q k) (Some v) (fin.find key_cmp q es)
+  pub find-set : (es : List (Key × X)) (k q : Key) (v : X) (i : ℕ) (d : Key × X) → IsAt es k i d
+      → fin.find key_cmp q (slice_set es i ((slice_index_or es i d).0, v)) ≡ cond (eq_by_cmp key_cmp q k) (Some v) (fin.find key_cmp q es)
   find-set [] k q v i d at = absurd (omega (arith, at.below))
   find-set (e ∷ es) k q v zero d at =
       covered (eq_by_cmp key_cmp q e.0) v e.1 (fin.find key_cmp q es)

@@ -50,7 +50,8 @@ pick-below p wide narrow count bits least = ⊎_elim (λ w. omega (arith, w.0, w
 pick-moved : (p wide narrow count : ℕ) → Bits p wide narrow → p ≤ count → pick wide narrow (count + 1) ≡ count → pick wide narrow count + p ≡ count
 pick-moved p wide narrow count bits least moved =
     ⊎_elim
-    (λ w. ⊎_elim (λ v. absurd (omega (arith, w.1, v.0, moved))) (λ n. ⊎_elim (λ e. absurd (omega (arith, e, bits.below, n.0))) (λ e. omega (arith, e, n.1, w.1, moved)) bits.more) (picked wide narrow count))
+    (λ w. ⊎_elim (λ v. absurd (omega (arith, w.1, v.0, moved)))
+    (λ n. ⊎_elim (λ e. absurd (omega (arith, e, bits.below, n.0))) (λ e. omega (arith, e, n.1, w.1, moved)) bits.more) (picked wide narrow count))
     (λ w. absurd (omega (arith, w.1, bits.below, moved)))
     (picked wide narrow (count + 1))
 

@@ -41,7 +41,8 @@ find-past h n (m ∷ ms) q own below =
     ∙ ap (λ row. option_or row (fin.find key_cmp q (listed ms))) (elsewhere h n m ms own q (omega (arith, below)))
     ∙ find-past h (suc n) ms q (after h n m ms own) (omega (arith, below))
 
-find-from : (h : Key → ℕ) (n : ℕ) (ms : List Database) (q : Key) (i : ℕ) (d : Database) → From h n ms → h q ≡ n + i → i < length ms → fin.find key_cmp q (listed ms) ≡ fin.get (slice_index_or ms i d) q
+find-from : (h : Key → ℕ) (n : ℕ) (ms : List Database) (q : Key) (i : ℕ) (d : Database) → From h n ms → h q ≡ n + i → i < length ms
+    → fin.find key_cmp q (listed ms) ≡ fin.get (slice_index_or ms i d) q
 find-from h n [] q i d own at below = absurd (omega (arith, below))
 find-from h n (m ∷ ms) q zero d own at below =
     find-append q (fin.entries m) (listed ms)
@@ -64,13 +65,15 @@ from_zero : (h : Key → ℕ) (ms : List Database) → IsSpread h ms → From h 
 from_zero h ms spread i d below q some = spread.own i d below q some ∙ omega arith
 
 pub get-pooled : (h : Key → ℕ) (ms : List Database) → IsSpread h ms → (q : Key) → fin.get (pooled ms) q ≡ fin.get (slice_index_or ms (h q) fin.empty) q
-get-pooled h ms spread q = fin.get-from_entries key_cmp_total (listed ms) q ∙ find-from h 0 ms q (h q) fin.empty (from_zero h ms spread) (omega arith) (spread.below q)
+get-pooled h ms spread q = fin.get-from_entries key_cmp_total (listed ms) q
+    ∙ find-from h 0 ms q (h q) fin.empty (from_zero h ms spread) (omega arith) (spread.below q)
 
 pub listed-permuted : (h : Key → ℕ) (ms : List Database) → IsSpread h ms → IsPermutation (listed ms) (fin.entries (pooled ms))
 listed-permuted h ms spread = entries-permuted (listed ms) (apart-from h 0 ms (from_zero h ms spread))
 
 -- m stands at the place i, the home of q
-pub get-home : (h : Key → ℕ) (ms : List Database) (i : ℕ) (m : Database) (q : Key) → IsSpread h ms → i ≡ h q → m ≡ slice_index_or ms i m → fin.get m q ≡ fin.get (pooled ms) q
+pub get-home : (h : Key → ℕ) (ms : List Database) (i : ℕ) (m : Database) (q : Key) → IsSpread h ms → i ≡ h q → m ≡ slice_index_or ms i m
+    → fin.get m q ≡ fin.get (pooled ms) q
 get-home h ms i m q spread at is =
     let below : i < length ms = omega (arith, at, spread.below q) in
     ap (λ s. fin.get s q) (is ∙ get_or_default ms i m fin.empty below) ∙ ap (λ n. fin.get (slice_index_or ms n fin.empty) q) at ∙ sym (get-pooled h ms spread q)
@@ -80,7 +83,8 @@ get-home h ms i m q spread at is =
 abbrev Changed : Database → Database → Key → Option Cells → Type 0
 Changed old new k w = (q : Key) → fin.get new q ≡ cond (eq_by_cmp key_cmp q k) w (fin.get old q)
 
-spread-changed : (h : Key → ℕ) (ms : List Database) (i : ℕ) (old new : Database) (k : Key) (w : Option Cells) → IsSpread h ms → i ≡ h k → old ≡ slice_index_or ms i old → Changed old new k w → IsSpread h (slice_set ms i new)
+spread-changed : (h : Key → ℕ) (ms : List Database) (i : ℕ) (old new : Database) (k : Key) (w : Option Cells) → IsSpread h ms → i ≡ h k
+    → old ≡ slice_index_or ms i old → Changed old new k w → IsSpread h (slice_set ms i new)
 spread-changed h ms i old new k w spread at stood is =
     let inside : i < length ms = omega (arith, at, spread.below k) in
     let here : (q : Key) → IsSome (fin.get new q) → h q ≡ i = λ q some.
@@ -92,19 +96,22 @@ spread-changed h ms i old new k w spread at stood is =
       own = λ j d below q some.
           let below : j < length ms = subst (λ n. j < n) (length-set ms i new) below in
           ⊎_elim
-          (λ e. here q (subst (λ s. IsSome (fin.get s q)) (ap (λ n. slice_index_or (slice_set ms i new) n d) e ∙ get_or-set_same ms i new d inside) some) ∙ sym e)
+          (λ e. here q (subst (λ s. IsSome (fin.get s q)) (ap (λ n. slice_index_or (slice_set ms i new) n d) e ∙ get_or-set_same ms i new d inside) some)
+          ∙ sym e)
           (λ apart. spread.own j d below q (subst (λ s. IsSome (fin.get s q)) (get_or-set_other ms i j new d apart) some))
           (cases_eq j i);
     }
 
-pooled-changed : (h : Key → ℕ) (ms : List Database) (i : ℕ) (old new : Database) (k : Key) (w : Option Cells) → IsSpread h ms → i ≡ h k → old ≡ slice_index_or ms i old → Changed old new k w → Changed (pooled ms) (pooled (slice_set ms i new)) k w
+pooled-changed : (h : Key → ℕ) (ms : List Database) (i : ℕ) (old new : Database) (k : Key) (w : Option Cells) → IsSpread h ms → i ≡ h k
+    → old ≡ slice_index_or ms i old → Changed old new k w → Changed (pooled ms) (pooled (slice_set ms i new)) k w
 pooled-changed h ms i old new k w spread at stood is q =
     let inside : i < length ms = omega (arith, at, spread.below k) in
     get-pooled h (slice_set ms i new) (spread-changed h ms i old new k w spread at stood is) q
     ∙ ⊎_elim
     (λ e. ap (λ n. fin.get (slice_index_or (slice_set ms i new) n fin.empty) q) e
     ∙ ap (λ s. fin.get s q) (get_or-set_same ms i new fin.empty inside)
-    ∙ is q ∙ ap (cond (eq_by_cmp key_cmp q k) w) (ap (λ s. fin.get s q) (stood ∙ get_or_default ms i old fin.empty inside) ∙ ap (λ n. fin.get (slice_index_or ms n fin.empty) q) (sym e)))
+    ∙ is q ∙ ap (cond (eq_by_cmp key_cmp q k) w) (ap (λ s. fin.get s q) (stood ∙ get_or_default ms i old fin.empty inside)
+    ∙ ap (λ n. fin.get (slice_index_or ms n fin.empty) q) (sym e)))
     (λ apart. ap (λ s. fin.get s q) (get_or-set_other ms i (h q) new fin.empty apart)
     ∙ sym (apart_stays q k w (fin.get (slice_index_or ms (h q) fin.empty) q) (λ e. apart (ap h e ∙ sym at))))
     (cases_eq (h q) i)
@@ -116,28 +123,35 @@ inserted old new k row put q = ap (λ m. fin.get m q) put ∙ fin.get-insert key
 removed : (old new : Database) (k : Key) → new ≡ fin.remove old k → Changed old new k None
 removed old new k gone q = ap (λ m. fin.get m q) gone ∙ fin.get-remove key_cmp_total old k q
 
-pub spread-put : (h : Key → ℕ) (ms : List Database) (i : ℕ) (old new : Database) (k : Key) (row : Cells) → IsSpread h ms → i ≡ h k → old ≡ slice_index_or ms i old → new ≡ fin.insert old k row → IsSpread h (slice_set ms i new)
+pub spread-put : (h : Key → ℕ) (ms : List Database) (i : ℕ) (old new : Database) (k : Key) (row : Cells) → IsSpread h ms → i ≡ h k
+    → old ≡ slice_index_or ms i old → new ≡ fin.insert old k row → IsSpread h (slice_set ms i new)
 spread-put h ms i old new k row spread at stood put = spread-changed h ms i old new k (Some row) spread at stood (inserted old new k row put)
 
-pub pooled-put : (h : Key → ℕ) (ms : List Database) (i : ℕ) (old new : Database) (k : Key) (row : Cells) → IsSpread h ms → i ≡ h k → old ≡ slice_index_or ms i old → new ≡ fin.insert old k row → pooled (slice_set ms i new) ≡ fin.insert (pooled ms) k row
+pub pooled-put : (h : Key → ℕ) (ms : List Database) (i : ℕ) (old new : Database) (k : Key) (row : Cells) → IsSpread h ms → i ≡ h k
+    → old ≡ slice_index_or ms i old → new ≡ fin.insert old k row → pooled (slice_set ms i new) ≡ fin.insert (pooled ms) k row
 pooled-put h ms i old new k row spread at stood put = fin.same_map key_cmp_total key_cmp-IsAntisymmetric _ _ (λ q.
     pooled-changed h ms i old new k (Some row) spread at stood (inserted old new k row put) q ∙ sym (fin.get-insert key_cmp_total (pooled ms) k row q))
 
-pub spread-deleted : (h : Key → ℕ) (ms : List Database) (i : ℕ) (old new : Database) (k : Key) → IsSpread h ms → i ≡ h k → old ≡ slice_index_or ms i old → new ≡ fin.remove old k → IsSpread h (slice_set ms i new)
+pub spread-deleted : (h : Key → ℕ) (ms : List Database) (i : ℕ) (old new : Database) (k : Key) → IsSpread h ms → i ≡ h k → old ≡ slice_index_or ms i old
+    → new ≡ fin.remove old k → IsSpread h (slice_set ms i new)
 spread-deleted h ms i old new k spread at stood gone = spread-changed h ms i old new k None spread at stood (removed old new k gone)
 
-pub pooled-deleted : (h : Key → ℕ) (ms : List Database) (i : ℕ) (old new : Database) (k : Key) → IsSpread h ms → i ≡ h k → old ≡ slice_index_or ms i old → new ≡ fin.remove old k → pooled (slice_set ms i new) ≡ fin.remove (pooled ms) k
+pub pooled-deleted : (h : Key → ℕ) (ms : List Database) (i : ℕ) (old new : Database) (k : Key) → IsSpread h ms → i ≡ h k → old ≡ slice_index_or ms i old
+    → new ≡ fin.remove old k → pooled (slice_set ms i new) ≡ fin.remove (pooled ms) k
 pooled-deleted h ms i old new k spread at stood gone = fin.same_map key_cmp_total key_cmp-IsAntisymmetric _ _ (λ q.
     pooled-changed h ms i old new k None spread at stood (removed old new k gone) q ∙ sym (fin.get-remove key_cmp_total (pooled ms) k q))
 
 -- ---- the rows of all maps, added to a list map after map
 
-pub adds-more : (before out new : Entries) (m : Database) (ms rest : List Database) → ms ≡ m ∷ rest → IsPermutation before (out ++ listed ms) → Adds m out new → IsPermutation before (new ++ listed rest)
+pub adds-more : (before out new : Entries) (m : Database) (ms rest : List Database) → ms ≡ m ∷ rest → IsPermutation before (out ++ listed ms) → Adds m out new
+    → IsPermutation before (new ++ listed rest)
 adds-more before out new m ms rest step all adds =
     IsPermutation-trans _ _ _ all
-    (subst (λ es. IsPermutation es (new ++ listed rest)) (append_assoc out (fin.entries m) (listed rest) ∙ ap (λ ms. out ++ listed ms) (sym step)) (IsPermutation-append_left (listed rest) _ _ adds))
+    (subst (λ es. IsPermutation es (new ++ listed rest)) (append_assoc out (fin.entries m) (listed rest) ∙ ap (λ ms. out ++ listed ms) (sym step))
+    (IsPermutation-append_left (listed rest) _ _ adds))
 
-pub adds-all : (h : Key → ℕ) (ms : List Database) (before out : Entries) (left : List Database) → IsSpread h ms → IsPermutation (before ++ listed ms) (out ++ listed left) → left ≡ [] → Adds (pooled ms) before out
+pub adds-all : (h : Key → ℕ) (ms : List Database) (before out : Entries) (left : List Database) → IsSpread h ms
+    → IsPermutation (before ++ listed ms) (out ++ listed left) → left ≡ [] → Adds (pooled ms) before out
 adds-all h ms before out left spread all ended =
     IsPermutation-trans _ _ _ (IsPermutation-append_right before _ _ (IsPermutation-sym _ _ (listed-permuted h ms spread)))
     (subst (λ es. IsPermutation (before ++ listed ms) es) (ap (λ ms. out ++ listed ms) ended ∙ append-nil out) all)

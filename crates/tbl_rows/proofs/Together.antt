@@ -46,16 +46,19 @@ stood : (ps : List Piece) (i : ℕ) (p : Piece) → i < length ps → p ≡ slic
 stood ps i p below is = ap (λ p. p.rows) is ∙ sym (rows-at ps i p p.rows below)
 
 -- in the forms of the calls: p, or old, stood at the place i, and new stands there now
-pub get-at_home : (ps : List Piece) (i : ℕ) (p : Piece) (q : Key) → IsWhole ps → i ≡ home q → p ≡ slice_index_or ps i p → fin.get p.rows q ≡ fin.get (joined ps) q
+pub get-at_home : (ps : List Piece) (i : ℕ) (p : Piece) (q : Key) → IsWhole ps → i ≡ home q → p ≡ slice_index_or ps i p
+    → fin.get p.rows q ≡ fin.get (joined ps) q
 get-at_home ps i p q whole at is =
     get-home home (rows_of ps) i p.rows q (spread-whole ps whole) at (stood ps i p (omega (arith, whole.count, at, home-below q)) is)
 
 IsWhole-set : (ps : List Piece) (i : ℕ) (p : Piece) → IsWhole ps → i < SHARDS → p.number ≡ i → IsOwn p → IsWhole (slice_set ps i p)
 IsWhole-set ps i p whole below number own =
-    let each : (P : ℕ → Piece → Type 0) → P i p → ((j : ℕ) (d : Piece) → j < length ps → P j (slice_index_or ps j d)) → (j : ℕ) (d : Piece) → j < length (slice_set ps i p) → P j (slice_index_or (slice_set ps i p) j d) =
+    let each : (P : ℕ → Piece → Type 0) → P i p → ((j : ℕ) (d : Piece) → j < length ps → P j (slice_index_or ps j d)) → (j : ℕ) (d : Piece)
+    → j < length (slice_set ps i p) → P j (slice_index_or (slice_set ps i p) j d) =
     λ P here others j d inside. let inside : j < length ps = subst (λ n. j < n) (length-set ps i p) inside in
     ⊎_elim
-    (λ e. subst (λ n. P n (slice_index_or (slice_set ps i p) n d)) (sym e) (subst (P i) (sym (get_or-set_same ps i p d (subst (λ n. n < length ps) e inside))) here))
+    (λ e. subst (λ n. P n (slice_index_or (slice_set ps i p) n d)) (sym e)
+    (subst (P i) (sym (get_or-set_same ps i p d (subst (λ n. n < length ps) e inside))) here))
     (λ apart. subst (P j) (sym (get_or-set_other ps i j p d apart)) (others j d inside))
     (cases_eq j i) in
     record {
@@ -64,18 +67,21 @@ IsWhole-set ps i p whole below number own =
       own = each (λ j s. IsOwn s) own whole.own;
     }
 
-pub IsWhole-put : (ps : List Piece) (i : ℕ) (old new : Piece) (k : Key) → IsWhole ps → i ≡ home k → old ≡ slice_index_or ps i old → new.number ≡ old.number → IsOwn new → IsWhole (slice_set ps i new)
+pub IsWhole-put : (ps : List Piece) (i : ℕ) (old new : Piece) (k : Key) → IsWhole ps → i ≡ home k → old ≡ slice_index_or ps i old → new.number ≡ old.number
+    → IsOwn new → IsWhole (slice_set ps i new)
 IsWhole-put ps i old new k whole at is number own =
     let below : i < SHARDS = omega (arith, at, home-below k) in
     IsWhole-set ps i new whole below (number ∙ ap (λ p. p.number) is ∙ whole.numbered i old (omega (arith, below, whole.count))) own
 
-pub joined-put : (ps : List Piece) (i : ℕ) (old new : Piece) (k : Key) (row : Cells) → IsWhole ps → i ≡ home k → old ≡ slice_index_or ps i old → new ≡ with_row old k row → joined (slice_set ps i new) ≡ fin.insert (joined ps) k row
+pub joined-put : (ps : List Piece) (i : ℕ) (old new : Piece) (k : Key) (row : Cells) → IsWhole ps → i ≡ home k → old ≡ slice_index_or ps i old
+    → new ≡ with_row old k row → joined (slice_set ps i new) ≡ fin.insert (joined ps) k row
 joined-put ps i old new k row whole at is put =
     let below : i < length ps = omega (arith, whole.count, at, home-below k) in
     ap (λ ms. pooled ms) (map-set (λ p. p.rows) ps i new)
     ∙ pooled-put home (rows_of ps) i old.rows new.rows k row (spread-whole ps whole) at (stood ps i old below is) (ap (λ p. p.rows) put)
 
-pub joined-deleted : (ps : List Piece) (i : ℕ) (old new : Piece) (k : Key) → IsWhole ps → i ≡ home k → old ≡ slice_index_or ps i old → new ≡ without_row old k → joined (slice_set ps i new) ≡ fin.remove (joined ps) k
+pub joined-deleted : (ps : List Piece) (i : ℕ) (old new : Piece) (k : Key) → IsWhole ps → i ≡ home k → old ≡ slice_index_or ps i old → new ≡ without_row old k
+    → joined (slice_set ps i new) ≡ fin.remove (joined ps) k
 joined-deleted ps i old new k whole at is deleted =
     let below : i < length ps = omega (arith, whole.count, at, home-below k) in
     ap (λ ms. pooled ms) (map-set (λ p. p.rows) ps i new)

@@ -26,18 +26,27 @@ pub get-lookup : (es : List (Key × Cells)) (q : Key) → fin.get (fin.from_entr
 get-lookup es q = fin.get-from_entries key_cmp_total es q ∙ sym (lookup-find es q)
 
 -- a change at a key, which is found from the key or from the query alike
-changed : (es fs : List (Key × Cells)) (k : Key) (w : Option Cells) → ((q : Key) → lookup (is_at (derived_cmp q)) fs ≡ cond (is_at (derived_cmp k) q) w (lookup (is_at (derived_cmp q)) es)) → (q : Key) → fin.get (fin.from_entries {R = key_cmp} fs) q ≡ cond (eq_by_cmp key_cmp q k) w (fin.get (fin.from_entries {R = key_cmp} es) q)
+changed : (es fs : List (Key × Cells)) (k : Key) (w : Option Cells)
+    → ((q : Key) → lookup (is_at (derived_cmp q)) fs ≡ cond (is_at (derived_cmp k) q) w (lookup (is_at (derived_cmp q)) es)) → (q : Key)
+    → fin.get (fin.from_entries {R = key_cmp} fs) q ≡ cond (eq_by_cmp key_cmp q k) w (fin.get (fin.from_entries {R = key_cmp} es) q)
 changed es fs k w is q =
     get-lookup fs q ∙ is q ∙ ap (λ b. cond b w (lookup (is_at (derived_cmp q)) es)) (ap is_eq (derived-is k q) ∙ (eq_by_cmp_equiv key_cmp_total).symm k q)
     ∙ ap (cond (eq_by_cmp key_cmp q k) w) (sym (get-lookup es q))
 
-pub from_entries-insert : (es fs : List (Key × Cells)) (k : Key) (row : Cells) → ((q : Key) → lookup (is_at (derived_cmp q)) fs ≡ cond (is_at (derived_cmp k) q) (Some row) (lookup (is_at (derived_cmp q)) es)) → fin.from_entries {R = key_cmp} fs ≡ fin.insert (fin.from_entries es) k row
-from_entries-insert es fs k row is = fin.same_map key_cmp_total key_cmp-IsAntisymmetric _ _ (λ q. changed es fs k (Some row) is q ∙ sym (fin.get-insert key_cmp_total _ k row q))
+pub from_entries-insert : (es fs : List (Key × Cells)) (k : Key) (row : Cells)
+    → ((q : Key) → lookup (is_at (derived_cmp q)) fs ≡ cond (is_at (derived_cmp k) q) (Some row) (lookup (is_at (derived_cmp q)) es))
+    → fin.from_entries {R = key_cmp} fs ≡ fin.insert (fin.from_entries es) k row
+from_entries-insert es fs k row is = fin.same_map key_cmp_total key_cmp-IsAntisymmetric _ _ (λ q. changed es fs k (Some row) is q
+    ∙ sym (fin.get-insert key_cmp_total _ k row q))
 
-pub from_entries-remove : (es fs : List (Key × Cells)) (k : Key) → ((q : Key) → lookup (is_at (derived_cmp q)) fs ≡ cond (is_at (derived_cmp k) q) None (lookup (is_at (derived_cmp q)) es)) → fin.from_entries {R = key_cmp} fs ≡ fin.remove (fin.from_entries es) k
-from_entries-remove es fs k is = fin.same_map key_cmp_total key_cmp-IsAntisymmetric _ _ (λ q. changed es fs k None is q ∙ sym (fin.get-remove key_cmp_total _ k q))
+pub from_entries-remove : (es fs : List (Key × Cells)) (k : Key)
+    → ((q : Key) → lookup (is_at (derived_cmp q)) fs ≡ cond (is_at (derived_cmp k) q) None (lookup (is_at (derived_cmp q)) es))
+    → fin.from_entries {R = key_cmp} fs ≡ fin.remove (fin.from_entries es) k
+from_entries-remove es fs k is = fin.same_map key_cmp_total key_cmp-IsAntisymmetric _ _ (λ q. changed es fs k None is q
+    ∙ sym (fin.get-remove key_cmp_total _ k q))
 
-pub from_entries-same : (es fs : List (Key × Cells)) → ((q : Key) → lookup (is_at (derived_cmp q)) fs ≡ lookup (is_at (derived_cmp q)) es) → fin.from_entries {R = key_cmp} fs ≡ fin.from_entries es
+pub from_entries-same : (es fs : List (Key × Cells)) → ((q : Key) → lookup (is_at (derived_cmp q)) fs ≡ lookup (is_at (derived_cmp q)) es)
+    → fin.from_entries {R = key_cmp} fs ≡ fin.from_entries es
 from_entries-same es fs is = fin.same_map key_cmp_total key_cmp-IsAntisymmetric _ _ (λ q. get-lookup fs q ∙ is q ∙ sym (get-lookup es q))
 
 both : (a b : Bool) → T a → T b → T (a && b)
@@ -50,10 +59,12 @@ below_all-from k (e ∷ es) below = both _ _ (subst (λ r. T (is_lt r)) (sym bel
 
 is_sorted-from : (es : List (Key × Cells)) → IsStrictlySortedBy key_cmp (keys_of es) → T (fin.is_sorted key_cmp es)
 is_sorted-from [] rise = tt
-is_sorted-from (e ∷ es) rise = both _ _ (below_all-from e.0 es (sorted_head key_cmp e.0 (keys_of es) rise)) (is_sorted-from es (sorted_tail key_cmp e.0 (keys_of es) rise))
+is_sorted-from (e ∷ es) rise = both _ _ (below_all-from e.0 es (sorted_head key_cmp e.0 (keys_of es) rise))
+    (is_sorted-from es (sorted_tail key_cmp e.0 (keys_of es) rise))
 
 -- a list whose keys rise is that of the map which has at each key what is found in it
-pub entries-is : (m : Database) (es : List (Key × Cells)) → IsStrictlySortedBy key_cmp (keys_of es) → ((q : Key) → fin.get m q ≡ fin.find key_cmp q es) → fin.entries m ≡ es
+pub entries-is : (m : Database) (es : List (Key × Cells)) → IsStrictlySortedBy key_cmp (keys_of es) → ((q : Key) → fin.get m q ≡ fin.find key_cmp q es)
+    → fin.entries m ≡ es
 entries-is m es rise is =
     let sorted = is_sorted-from es rise in
     ap fin.entries (fin.same_map key_cmp_total key_cmp-IsAntisymmetric m (fin.from_sorted es) (λ q. is q ∙ sym (fin.get-from_sorted key_cmp es q sorted)))
@@ -66,13 +77,18 @@ entries-from_entries es rise = entries-is _ es (subst (λ cmp. IsStrictlySortedB
 pub record WillCopy (done left all : List (Key × Cells)) : Type 0 where
   pub is : update_all (eq_by_cmp derived_cmp) (λ q. lookup (is_at (derived_cmp q)) done) left ≡ update_all (eq_by_cmp derived_cmp) (λ _. None) all
 
-pub copied-more : (es fs left more all : List (Key × Cells)) (e : Key × Cells) (k : Key) (row : Cells) → WillCopy es left all → left ≡ e ∷ more → k ≡ e.0 → row ≡ e.1 → ((q : Key) → lookup (is_at (derived_cmp q)) fs ≡ cond (is_at (derived_cmp k) q) (Some row) (lookup (is_at (derived_cmp q)) es)) → WillCopy fs more all
+pub copied-more : (es fs left more all : List (Key × Cells)) (e : Key × Cells) (k : Key) (row : Cells) → WillCopy es left all → left ≡ e ∷ more → k ≡ e.0
+    → row ≡ e.1 → ((q : Key) → lookup (is_at (derived_cmp q)) fs ≡ cond (is_at (derived_cmp k) q) (Some row) (lookup (is_at (derived_cmp q)) es))
+    → WillCopy fs more all
 copied-more es fs left more all e k row before step key value is = record {
-  is = ap (λ f. update_all (eq_by_cmp derived_cmp) f more) (fun_ext (λ q. is q ∙ (λ i. cond (is_at (derived_cmp (key i)) q) (Some (value i)) (lookup (is_at (derived_cmp q)) es))))
+  is = ap (λ f. update_all (eq_by_cmp derived_cmp) f more) (fun_ext (λ q. is q
+      ∙ (λ i. cond (is_at (derived_cmp (key i)) q) (Some (value i)) (lookup (is_at (derived_cmp q)) es))))
       ∙ ap (update_all (eq_by_cmp derived_cmp) (λ q. lookup (is_at (derived_cmp q)) es)) (sym step) ∙ before.is;
 }
 
-pub from_entries-copied : (es fs left : List (Key × Cells)) → IsStrictlySortedBy derived_cmp (keys_of es) → WillCopy fs left es → left ≡ [] → fin.from_entries {R = key_cmp} fs ≡ fin.from_entries es
+pub from_entries-copied : (es fs left : List (Key × Cells)) → IsStrictlySortedBy derived_cmp (keys_of es) → WillCopy fs left es → left ≡ []
+    → fin.from_entries {R = key_cmp} fs ≡ fin.from_entries es
 from_entries-copied es fs left rise copied ended =
     let is = ap (update_all (eq_by_cmp derived_cmp) (λ q. lookup (is_at (derived_cmp q)) fs)) (sym ended) ∙ copied.is in
-    from_entries-same es fs (λ q. ap (λ f. f q) is ∙ update_all_none (eq_by_cmp_equiv derived_total) (eq_by_cmp derived_cmp) (λ x y. refl) es q (IsDistinct-from_sorted derived_cmp (keys_of es) rise))
+    from_entries-same es fs (λ q. ap (λ f. f q) is ∙ update_all_none (eq_by_cmp_equiv derived_total) (eq_by_cmp derived_cmp) (λ x y. refl) es q
+    (IsDistinct-from_sorted derived_cmp (keys_of es) rise))

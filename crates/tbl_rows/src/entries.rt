@@ -6,14 +6,13 @@ ghost use Rattle.tbl_rows.specs.Hashes.{hash_of};
 ghost use Rattle.tbl_rows.specs.Pools.{is_moved};
 ghost use Rattle.tbl_rows.specs.declared.homes.TheConstants.{LAST_LEVEL};
 
-use crate::homes::bucket_at;
+use crate::homes::moves;
 use aria_base::{Duplicate, Key, Memory, Row, same_key};
 use std::alloc::Global;
 use std::marker::Model;
 use std::mem;
 
-/// A row with its key, and with the key's hash, so that a search compares keys only where the hashes
-/// are one. A contract sees the key and the row.
+/// A row with its key, and with the key's hash, by which a bucket is split. A contract sees the key and the row.
 #[derive(Drop)]
 pub(crate) struct Entry {
     hash: u64,
@@ -64,12 +63,11 @@ impl Entry {
         &self.row
     }
 
-    /// Whether it is the row of this key, whose hash it is.
-    pub(crate) fn is_at(&self, hash: u64, key: &Key) -> bool
-        requires { hash ≡ hash_of key.now }
+    /// Whether it is the row of this key.
+    pub(crate) fn is_at(&self, key: &Key) -> bool
         ensures { result ≡ eq_by_cmp key_cmp key.now self.now.0 }
     {
-        hash == self.hash && same_key(key, &self.key)
+        same_key(key, &self.key)
     }
 
     /// Whether it moves when the next of so many buckets is made.
@@ -80,7 +78,7 @@ impl Entry {
         requires most { count < 2 ^ 32 }
         ensures { result ≡ is_moved level count self.now.0 }
     {
-        bucket_at(level, count + 1, self.hash) == count
+        moves(level, count, self.hash)
     }
 
     /// Sets the row, and hands out the one that stood there.

@@ -54,7 +54,7 @@ impl Overflow {
         ensures kept { OnErr result (self.new ≡ self.old) }
     {
         match self.rows.insert(key, row) {
-            Ok(row) => Ok(Spent { row, list: None }),
+            Ok(row) => Ok(Spent::of_row(row)),
             Err(failed) => {
                 let (key, row) = failed.value;
                 Err(Refused { key, row })

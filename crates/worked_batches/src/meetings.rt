@@ -22,8 +22,19 @@ const ACCOUNTS: [Account; 3] = [(1, 10), (2, 20), (3, 30)];
 /// Three that go round.
 const RING: [Ask; 3] = [(COPY, 1, 2), (COPY, 2, 3), (COPY, 3, 1)];
 
-/// Two wait for the first, and are of one wave, since neither writes what the other reads.
-const FAN: [Ask; 3] = [(SET, 1, 5), (COPY, 1, 2), (COPY, 1, 3)];
+/// Eight wait for the first, and are of one wave, since none writes what another one reads or writes. They are
+/// so many that two workers run them again.
+const FAN: [Ask; 9] = [
+    (SET, 1, 5),
+    (COPY, 1, 2),
+    (COPY, 1, 3),
+    (COPY, 1, 4),
+    (COPY, 1, 5),
+    (COPY, 1, 6),
+    (COPY, 1, 7),
+    (COPY, 1, 8),
+    (COPY, 1, 9),
+];
 
 /// The answer of a batch of these calls on three accounts, run at this pace.
 fn run_at<P: Pace + Sync, R: Abort + Threads + Sync>(
@@ -98,5 +109,5 @@ fn two_workers_meet_before_their_first_mark(rt: HostRuntime) {
 fn two_of_one_wave_meet_as_they_run_again(rt: HostRuntime) {
     let gate = Gate::before(Place::Rerun);
     let answer = run_at(&rt, rt.alloc(), &FAN, &gate);
-    met(&rt, &gate, &answer, 2, 3);
+    met(&rt, &gate, &answer, 8, 9);
 }

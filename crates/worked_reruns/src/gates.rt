@@ -13,8 +13,29 @@ use std::test::Fail;
 use std::thread::yield_now;
 use tbl_rows::Tables;
 
-/// Two that do not conflict.
-const APART: [Again; 2] = [(ADD, [1, 1], &[1], &[1]), (ADD, [2, 1], &[2], &[2])];
+/// Requests that do not conflict, so many that two workers run their wave.
+const APART: [Again; 8] = [
+    (ADD, [1, 1], &[1], &[1]),
+    (ADD, [2, 1], &[2], &[2]),
+    (ADD, [3, 1], &[3], &[3]),
+    (ADD, [4, 1], &[4], &[4]),
+    (ADD, [5, 1], &[5], &[5]),
+    (ADD, [6, 1], &[6], &[6]),
+    (ADD, [7, 1], &[7], &[7]),
+    (ADD, [8, 1], &[8], &[8]),
+];
+
+/// The accounts to which they add.
+const ACCOUNTS: [(i64, i64); 8] = [
+    (1, 10),
+    (2, 20),
+    (3, 30),
+    (4, 40),
+    (5, 50),
+    (6, 60),
+    (7, 70),
+    (8, 80),
+];
 
 /// How often a worker looks at most whether the other one is there.
 const TURNS: u64 = 100_000_000;
@@ -60,19 +81,20 @@ fn two_requests_of_one_wave_meet(rt: HostRuntime) -> Result<(), Fail> {
         runs: AtomicU64::new(0),
     };
     let catalog = catalog(alloc)?;
-    let tables = tables(alloc, &[(1, 10), (2, 20)])?;
+    let tables = tables(alloc, &ACCOUNTS)?;
     let waiting = waiting(alloc, &APART)?;
     if waiting.len() > 10_000 {
         return Err(Fail::new("a list has at most 10,000 requests"));
     }
     let (tables, _lates) = rerun(&rt, alloc, &catalog, tables, &waiting, 2, &gate)?;
     let left = rows_words(alloc, &tables.rows()?)?;
-    assert_eq!(rt; left.as_str(), "1 = 11; 2 = 21; ");
+    let wanted = "1 = 11; 2 = 21; 3 = 31; 4 = 41; 5 = 51; 6 = 61; 7 = 71; 8 = 81; ";
+    assert_eq!(rt; left.as_str(), wanted);
     let told = (
         gate.missed.load(Ordering::SeqCst),
         gate.runs.load(Ordering::SeqCst),
     );
-    assert_eq!(rt; told, (0, 2), "missed, and runs");
+    assert_eq!(rt; told, (0, 8), "missed, and runs");
     Ok(())
 }
 

@@ -21,19 +21,23 @@ pub mark-requires-clause-touched : goal.mark-requires-clause-touched
 mark-requires-clause-touched g c κs within =
     let tree = run_of c.args.catalog.now in
     let outcomes : c.in_ok-outcomes.outcomes.items ≡ map (outcome_at tree c.args.tables) c.args.list.now = search rules in
-    let sets = c.deref.ensures.value ∙ c.in_ok-runs.ensures.sets ∙ ap (map sets_in) outcomes ∙ map-map sets_in (outcome_at tree c.args.tables) c.args.list.now in
-    subst (All (λ (s : Sets). touch_count s ≤ MOST_ACCESSES)) (sym sets) (touched-few c.args.catalog.now c.args.tables c.args.list.now (λ request. c.touches_few.ensures c.args.catalog.now request c.args.tables))
+    let sets = c.deref.ensures.value ∙ c.in_ok-runs.ensures.sets ∙ ap (map sets_in) outcomes
+    ∙ map-map sets_in (outcome_at tree c.args.tables) c.args.list.now in
+    subst (All (λ (s : Sets). touch_count s ≤ MOST_ACCESSES)) (sym sets)
+    (touched-few c.args.catalog.now c.args.tables c.args.list.now (λ request. c.touches_few.ensures c.args.catalog.now request c.args.tables))
 
 pub returns-clause-marked : goal.returns-clause-marked
 returns-clause-marked g c =
     let tree = run_of c.args.catalog.now in
     let outcomes : c.in_ok-outcomes.outcomes.items ≡ map (outcome_at tree c.args.tables) c.args.list.now = search rules in
-    let sets = c.deref.ensures.value ∙ c.in_ok-runs.ensures.sets ∙ ap (map sets_in) outcomes ∙ map-map sets_in (outcome_at tree c.args.tables) c.args.list.now in
+    let sets = c.deref.ensures.value ∙ c.in_ok-runs.ensures.sets ∙ ap (map sets_in) outcomes
+    ∙ map-map sets_in (outcome_at tree c.args.tables) c.args.list.now in
     marks-through reads_of writes_of (λ q. sets_in (outcome_at tree c.args.tables q)) c.args.list.now (marks_of c.in_ok-last.last)
     (subst (λ (l : List Sets). MarksSets reads_of writes_of l (marks_of c.in_ok-last.last)) sets c.in_ok-last.ensures.marks)
 
 pub returns-clause-numbered : goal.returns-clause-numbered
-returns-clause-numbered g c = subst (λ (l : List Sets). NumbersKeys reads_of writes_of l c.in_ok-last.last.numbered) c.deref.ensures.value c.in_ok-last.ensures.marks.numbered
+returns-clause-numbered g c = subst (λ (l : List Sets). NumbersKeys reads_of writes_of l c.in_ok-last.last.numbered) c.deref.ensures.value
+    c.in_ok-last.ensures.marks.numbered
 
 pub returns-clause-committed : goal.returns-clause-committed
 returns-clause-committed g c =

@@ -11,7 +11,8 @@ loop-verdict-preserved c =
     let v = slice_index_or c.args.verdicts.now c.loop-verdict.verdict-index (Finish false) in
     let tid = c.loop-verdict.tid in
     let rest = drop (c.loop-verdict.verdict-index + 1) c.args.verdicts.now in
-    let cons : drop c.loop-verdict.verdict-index c.args.verdicts.now ≡ v ∷ rest = let e : suc c.loop-verdict.verdict-index ≡ c.loop-verdict.verdict-index + 1 = omega arith in
+    let cons : drop c.loop-verdict.verdict-index c.args.verdicts.now ≡ v ∷ rest = let e : suc c.loop-verdict.verdict-index ≡ c.loop-verdict.verdict-index + 1 =
+    omega arith in
     drop-cons c.args.verdicts.now c.loop-verdict.verdict-index (Finish false) c.loop-verdict-test.true ∙ ap (λ n. v ∷ drop n c.args.verdicts.now) e in (
       ap (λ n. n + 1) c.loop-verdict.invariant.0,
       ap (λ l. l ++ tids_among (tid + 1) rest) c.in_ok-note_if_it_waits.ensures

@@ -1,9 +1,12 @@
-use Rattle.std.proofs.Common.{◌≤◌, ◌*◌, arith, List, [], ◌∷◌, length}
+use Rattle.std.proofs.Common.{◌≤◌, ◌*◌, arith, ℕ, List, [], ◌∷◌, length}
+use Rattle.std.specs.FinMap as fin
 use Rattle.std.specs.List.{All, sum_by}
 use Rattle.std.proofs.lemmas.List.Sums.{sum_by-cons}
 use Rattle.std.proofs.lemmas.List.Elements.{All-head, All-tail}
+use Rattle.aria_base.specs.Orders.{key_cmp}
 use Rattle.dep_rules.specs.declared.sets.Sets.{Sets}
 use Rattle.key_numbering.specs.Numbers.{touch_count}
+use Rattle.key_numbering.proofs.Growing.{long_sets}
 use Rattle.proc_lang.specs.declared.limits.TheConstants.{MOST_ACCESSES}
 use Rattle.batch_engine.proofs.markings.mark.Goals as goal
 
@@ -16,3 +19,14 @@ few-touched (s ∷ ss) a =
 
 pub number_by-requires-clause-touched : goal.number_by-requires-clause-touched
 number_by-requires-clause-touched g c κs within = omega (arith, few-touched c.args.sets.now c.requires.touched, c.requires.few)
+
+pub reserve-requires-clause-keys : goal.reserve-requires-clause-keys
+reserve-requires-clause-keys g c κs within =
+    omega (
+      arith,
+      c.in_ok-numbered.ensures.keys,
+      long_sets fin.empty c.args.sets.now,
+      fin.len-empty key_cmp ℕ,
+      few-touched c.args.sets.now c.requires.touched,
+      c.requires.few,
+    )

@@ -22,7 +22,8 @@ run_late-requires-clause-waiting g c κs within =
 
 pub order_of-requires-clause-each : goal.order_of-requires-clause-each
 order_of-requires-clause-each g c =
-    let even : length c.deref-8.result.now ≡ length c.args.committed.ends.items = ap length c.deref-8.ensures.value ∙ c.requires.verdicts ∙ sym c.requires.ends in
+    let even : length c.deref-8.result.now ≡ length c.args.committed.ends.items = ap length c.deref-8.ensures.value ∙ c.requires.verdicts
+    ∙ sym c.requires.ends in
     ap length c.deref-11.ensures.value ∙ ap length c.in_ok-lines.ensures
     ∙ length-lines c.deref-7.result.now c.args.committed.ends.items c.deref-8.result.now (map fate_of c.in_ok-tables.lates.items) even
     ∙ ap length (c.deref-8.ensures.value ∙ sym c.deref-10.ensures.value)
@@ -37,7 +38,8 @@ returns g c start committed =
     let verdicts = c.args.committed.verdicts.items in
     let fates = map fate_of c.in_ok-tables.lates.items in
     let waiting = c.in_ok-waiting.ensures
-    ∙ settling.waiting-is tree rule start percent list c.args.committed.sets.items c.deref-3.result.now committed.sets (c.deref-3.ensures.value ∙ committed.verdicts) in
+    ∙ settling.waiting-is tree rule start percent list c.args.committed.sets.items c.deref-3.result.now committed.sets (c.deref-3.ensures.value
+    ∙ committed.verdicts) in
     let size : c.len-size.result ≡ length verdicts = search rules in
     let late = settling.late-is tree rule start percent list c.args.committed.tables c.in_ok-tables.tables c.deref-4.result.now c.len-size.result fates
     committed.rows (c.deref-4.ensures.value ∙ waiting) (size ∙ ap length committed.verdicts ∙ length-map _ (λ d. d.verdict)) c.in_ok-tables.ensures in
@@ -47,7 +49,8 @@ returns g c start committed =
     ∙ (λ i. lines_in ((c.deref-7.ensures.value ∙ numbers) i) ends (c.deref-8.ensures.value i) fates)
     ∙ settling.lines-are tree rule start percent list ends verdicts fates committed.ends committed.verdicts late.1 in
     let order : c.in_ok-order.order.items ≡ _ = c.in_ok-order.ensures
-    ∙ (λ i. map (number_in ((c.deref-9.ensures.value ∙ numbers) i)) (ordered_tids ((c.deref-10.ensures.value ∙ committed.verdicts) i) (map (λ (line : Line). is_final line.reply) ((c.deref-11.ensures.value ∙ lines) i))))
+    ∙ (λ i. map (number_in ((c.deref-9.ensures.value ∙ numbers) i))
+    (ordered_tids ((c.deref-10.ensures.value ∙ committed.verdicts) i) (map (λ (line : Line). is_final line.reply) ((c.deref-11.ensures.value ∙ lines) i))))
     ∙ settling.order-is tree rule start percent list in
     record {
       rows = late.0;
@@ -59,12 +62,19 @@ returns g c start committed =
 
 pub run_late-requires-clause-tids : goal.run_late-requires-clause-tids
 run_late-requires-clause-tids g c κs within =
-    let tids : c.deref-5.result.now ≡ tids_among 1 c.args.committed.verdicts.items = c.deref-5.ensures.value ∙ c.in_ok-tids.ensures ∙ ap (tids_among 1) c.deref-2.ensures.value in
-    subst (All (λ tid. IsTid c.args.numbered.now tid)) (sym tids) (tids_are c.args.numbered.now c.args.committed.sets.items c.args.committed.verdicts.items (c.requires.verdicts ∙ sym c.requires.sets) c.requires.numbered)
+    let tids : c.deref-5.result.now ≡ tids_among 1 c.args.committed.verdicts.items = c.deref-5.ensures.value ∙ c.in_ok-tids.ensures
+    ∙ ap (tids_among 1) c.deref-2.ensures.value in
+    subst (All (λ tid. IsTid c.args.numbered.now tid)) (sym tids)
+    (tids_are c.args.numbered.now c.args.committed.sets.items c.args.committed.verdicts.items (c.requires.verdicts
+    ∙ sym c.requires.sets) c.requires.numbered)
 
 pub run_late-requires-clause-numbered : goal.run_late-requires-clause-numbered
 run_late-requires-clause-numbered g c κs within =
-    let tids : c.deref-5.result.now ≡ tids_among 1 c.args.committed.verdicts.items = c.deref-5.ensures.value ∙ c.in_ok-tids.ensures ∙ ap (tids_among 1) c.deref-2.ensures.value in
-    let waiting : c.deref-4.result.now ≡ waiting_among c.args.list.items c.args.committed.sets.items c.args.committed.verdicts.items = c.deref-4.ensures.value ∙ c.in_ok-waiting.ensures ∙ ap (waiting_among c.args.list.items c.args.committed.sets.items) c.deref-3.ensures.value in
-    subst (λ ts. StandFor c.args.numbered.now ts c.deref-4.result.now) (sym tids) (subst (StandFor c.args.numbered.now (tids_among 1 c.args.committed.verdicts.items)) (sym waiting)
-    (stands c.args.numbered.now c.args.list.items c.args.committed.sets.items c.args.committed.verdicts.items c.requires.sets c.requires.verdicts c.requires.numbered))
+    let tids : c.deref-5.result.now ≡ tids_among 1 c.args.committed.verdicts.items = c.deref-5.ensures.value ∙ c.in_ok-tids.ensures
+    ∙ ap (tids_among 1) c.deref-2.ensures.value in
+    let waiting : c.deref-4.result.now ≡ waiting_among c.args.list.items c.args.committed.sets.items c.args.committed.verdicts.items = c.deref-4.ensures.value
+    ∙ c.in_ok-waiting.ensures ∙ ap (waiting_among c.args.list.items c.args.committed.sets.items) c.deref-3.ensures.value in
+    subst (λ ts. StandFor c.args.numbered.now ts c.deref-4.result.now) (sym tids)
+    (subst (StandFor c.args.numbered.now (tids_among 1 c.args.committed.verdicts.items)) (sym waiting)
+    (stands c.args.numbered.now c.args.list.items c.args.committed.sets.items c.args.committed.verdicts.items c.requires.sets c.requires.verdicts
+    c.requires.numbered))

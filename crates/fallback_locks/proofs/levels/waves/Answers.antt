@@ -1,35 +1,29 @@
-use Rattle.std.proofs.lemmas.List.{get_or_default}
-use Rattle.std.proofs.Common.{rules, ◌≡◌, [], ap, sym, subst, ◌∙◌, ◌<◌, arith, length, ℕ}
-use Rattle.std.specs.Prelude.{slice_index_or}
-use Rattle.std.specs.List.{All}
-use Rattle.std.specs.Ordering.{nat_cmp}
+use Rattle.std.proofs.Common.{◌≡◌, ◌<◌, ap, ◌∙◌, arith}
+use Rattle.aria_base.specs.Orders.{key_cmp}
+use Rattle.aria_base.specs.declared.keys.Key.{Key as Name}
 use Rattle.batch_rules.specs.Touches.{is_among}
-use Rattle.fallback_locks.specs.LastWaves.{last_in, IsSoFar, wave_by, with_reader, with_writer}
-use Rattle.fallback_locks.specs.Numbers.{numbers_at}
-use Rattle.fallback_locks.proofs.LastWaves.{table_below, so_far_none, so_far_more, so_far_all}
+use Rattle.proc_exec.specs.Limits.{touchable}
+use Rattle.fallback_locks.specs.LastWaves.{last_in, with_reader, with_writer}
+use Rattle.fallback_locks.proofs.LastWaves.{table_below, so_far_more}
 use Rattle.fallback_locks.proofs.levels.waves.Goals as goal
 
-pub loop-tid-init : goal.loop-tid-init
-loop-tid-init c =
-    let none : c.in_ok-waves.waves.items ≡ [] = search rules in (
-      c.in_ok-lasts.ensures.length ∙ c.keys.ensures,
-      subst (λ waves. IsSoFar nat_cmp (numbers_at c.args.numbered.now) (last_in c.in_ok-lasts.lasts.items) 0 waves c.args.tids.now) (sym none)
-          (so_far_none nat_cmp (numbers_at c.args.numbered.now) (last_in c.in_ok-lasts.lasts.items) c.args.tids.now c.in_ok-lasts.ensures.none),
-    )
+pub wave_after-wave-requires : goal.wave_after-wave-requires
+wave_after-wave-requires c =
+    let few : c.loop-one.one-index < 10000 = omega (arith, c.loop-one-test.true, c.requires) in
+    table_below key_cmp (λ w. touchable w.declared) (last_in c.loop-one.lasts) c.loop-one.one-index c.loop-one.waves.items
+    c.args.waiting.now 10000 c.loop-one.invariant few
 
-pub loop-tid-preserved : goal.loop-tid-preserved
-loop-tid-preserved c =
-    let tid = slice_index_or c.args.tids.now c.loop-tid.tid-index 0 in
+pub loop-one-preserved : goal.loop-one-preserved
+loop-one-preserved c =
     let wave = c.wave_after-wave.result in
-    let table = last_in c.loop-tid.lasts.items in
-    let marked : (q : ℕ) → last_in c.note_writes.new.lasts.items q ≡ with_writer wave (is_among nat_cmp (numbers_at c.args.numbered.now tid).writes q) (with_reader wave (is_among nat_cmp (numbers_at c.args.numbered.now tid).reads q) (table q))
-    = λ q. c.note_writes.ensures.noted q ∙ ap (with_writer wave (is_among nat_cmp c.writes_of-writes.result.now q)) (c.note_reads.ensures.noted q)
-    ∙ (λ i. with_writer wave (is_among nat_cmp (c.writes_of-writes.ensures.list i) q) (with_reader wave (is_among nat_cmp (c.reads_of-reads.ensures.list i) q) (table q))) in
-    let by : wave ≡ wave_by table (numbers_at c.args.numbered.now tid) = c.wave_after-wave.ensures ∙ (λ i. wave_by (last_in (c.deref.ensures.value i)) (record { reads = c.reads_of-reads.ensures.list i; writes = c.writes_of-writes.ensures.list i })) in (
-      c.note_writes.ensures.length ∙ c.note_reads.ensures.length ∙ c.loop-tid.invariant.0,
-      rw (c.in_ok-push.ensures.items) (so_far_more nat_cmp (numbers_at c.args.numbered.now) table (last_in c.note_writes.new.lasts.items) c.loop-tid.tid-index wave c.loop-tid.waves.items c.args.tids.now tid
-          c.loop-tid.invariant.1 c.loop-tid-test.true (get_or_default c.args.tids.now c.loop-tid.tid-index 0 tid c.loop-tid-test.true) by marked),
-    )
-
-pub wave_after-wave-requires-clause-low : goal.wave_after-wave-requires-clause-low
-wave_after-wave-requires-clause-low c = rw (c.deref.ensures.value) (table_below nat_cmp (numbers_at c.args.numbered.now) (last_in c.loop-tid.lasts.items) c.loop-tid.tid-index c.loop-tid.waves.items c.args.tids.now 10000 c.loop-tid.invariant.1 (omega (arith, c.loop-tid-test.true, c.requires.few)))
+    let one = c.one-item.result in
+    let table = last_in c.loop-one.lasts in
+    let noted : (q : Name) → last_in c.note_writes.new.lasts q
+    ≡ with_writer wave (is_among key_cmp one.declared.writes q) (with_reader wave (is_among key_cmp one.declared.reads q) (table q))
+    = λ q. c.in_ok-note_writes.ensures q
+    ∙ ap (with_writer wave (is_among key_cmp c.as_slice-in-loop-one.result.now q)) (c.in_ok-note_reads.ensures q)
+    ∙ (λ i. with_writer wave (is_among key_cmp (c.as_slice-in-loop-one.ensures i) q)
+    (with_reader wave (is_among key_cmp (c.as_slice.ensures i) q) (table q))) in
+    rw (c.in_ok-push.ensures.items)
+    (so_far_more key_cmp (λ w. touchable w.declared) table (last_in c.note_writes.new.lasts) c.loop-one.one-index wave c.loop-one.waves.items c.args.waiting.now
+    one c.loop-one.invariant c.loop-one-test.true c.one-item.is c.wave_after-wave.ensures noted)

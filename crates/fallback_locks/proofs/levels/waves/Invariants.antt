@@ -1,8 +1,7 @@
-use Rattle.std.proofs.Common.{◌≡◌, length}
-use Rattle.std.specs.Ordering.{nat_cmp}
+use Rattle.aria_base.specs.Orders.{key_cmp}
+use Rattle.proc_exec.specs.Limits.{touchable}
 use Rattle.fallback_locks.specs.LastWaves.{last_in, IsSoFar}
-use Rattle.fallback_locks.specs.Numbers.{numbers_at}
 use Rattle.fallback_locks.proofs.levels.waves.Given as goal
 
-abbrev pub invariant-loop-tid : goal.invariant-loop-tid
-invariant-loop-tid l = (length l.lasts.items ≡ l.numbered.keys) × IsSoFar nat_cmp (numbers_at l.numbered) (last_in l.lasts.items) l.tid-index l.waves.items l.tids
+abbrev pub invariant-loop-one : goal.invariant-loop-one
+invariant-loop-one l = IsSoFar key_cmp (λ w. touchable w.declared) (last_in l.lasts) l.one-index l.waves.items l.waiting

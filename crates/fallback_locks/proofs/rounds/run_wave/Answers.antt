@@ -12,4 +12,5 @@ pub gather-requires-sync-T : goal.gather-requires-sync-T
 gather-requires-sync-T g c κs within = search (one.the_sync, snapshot.the_sync, catalog_sync, crosses, sendable) depth 30
 
 pub returns : goal.returns
-returns g c = IfOk-weaker c.gather.result _ _ (λ dones given. are_done (run_of c.args.catalog.now) c.args.snapshot c.args.waiting.now c.args.places.now dones.items given) c.gather.ensures
+returns g c = IfOk-weaker c.gather.result _ _ (λ dones given. are_done (run_of c.args.catalog.now) c.args.snapshot c.args.waiting.now c.args.places.now
+    dones.items given) c.gather.ensures

@@ -6,11 +6,13 @@ use Rattle.batch_rules.specs.Touches.{overwritten}
 use Rattle.fallback_locks.proofs.settlements.install.Goals as goal
 
 -- the last change may be made first
-overwritten-push : (db : Database) (ws : List (Key × Option Cells)) (w : Key × Option Cells) → overwritten db (ws ++ w ∷ []) ≡ overwritten (set_at db w.0 w.1) ws
+overwritten-push : (db : Database) (ws : List (Key × Option Cells)) (w : Key × Option Cells)
+    → overwritten db (ws ++ w ∷ []) ≡ overwritten (set_at db w.0 w.1) ws
 overwritten-push db [] w = refl
 overwritten-push db (v ∷ vs) w = ap (λ m. set_at m v.0 v.1) (overwritten-push db vs w)
 
-made : (db new : Database) (ws rest : List (Key × Option Cells)) (key : Key) (found row : Option Cells) → ws ≡ rest ++ (key, found) ∷ [] → found ≡ row → new ≡ set_at db key row
+made : (db new : Database) (ws rest : List (Key × Option Cells)) (key : Key) (found row : Option Cells) → ws ≡ rest ++ (key, found) ∷ [] → found ≡ row
+    → new ≡ set_at db key row
     → overwritten new rest ≡ overwritten db ws
 made db new ws rest key found row e f n =
     ap (λ m. overwritten m rest) n ∙ sym (ap (overwritten db) (e ∙ ap (λ r. rest ++ (key, r) ∷ []) f) ∙ overwritten-push db rest (key, row))

@@ -12,7 +12,8 @@ loop-done-preserved c =
     let rest = into_iter_items c.next.new.self in
     let left = c.in-Some.ensures.steps.0 in
     let kept = c.loop-done.invariant in
-    let len : length c.put.new.lates.items ≡ length c.loop-done.lates.items = ap length c.put.ensures ∙ length-set c.loop-done.lates.items c.in-Some.done.place (Some c.in-Some.done.late) in
+    let len : length c.put.new.lates.items ≡ length c.loop-done.lates.items = ap length c.put.ensures
+    ∙ length-set c.loop-done.lates.items c.in-Some.done.place (Some c.in-Some.done.late) in
     let below = All-rest (λ (d : Done). d.place < length c.loop-done.lates.items) _ _ _ left kept.4 in (
       tt,
       tt,

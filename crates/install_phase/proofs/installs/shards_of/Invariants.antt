@@ -6,4 +6,5 @@ abbrev pub invariant-loop-part : goal.invariant-loop-part
 invariant-loop-part l =
     (goal.iterator-loop-part).can_next l.part-iterator ×
     (goal.iterator-loop-part).is_finite l.part-iterator ×
-    (l.all.items ++ flat_map (λ part. part.shards.items) (into_iter_items l.part-iterator) ≡ flat_map (λ part. part.shards.items) (into_iter_items l.initial.part-iterator))
+    (l.all.items ++ flat_map (λ part. part.shards.items) (into_iter_items l.part-iterator) ≡ flat_map (λ part. part.shards.items)
+    (into_iter_items l.initial.part-iterator))

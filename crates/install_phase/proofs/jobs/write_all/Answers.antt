@@ -20,6 +20,8 @@ loop-key-preserved g c =
       tt,
       number ∙ kept.2,
       subst (λ n. All (λ w. home w.0 ≡ n) (into_iter_items c.next.new.self)) (sym number)
-          (All-rest (λ w. home w.0 ≡ c.loop-key.shard.number) (c.in-Some.key, c.in-Some.row) (into_iter_items c.next.new.self) (into_iter_items c.loop-key.key-iterator) steps kept.3),
-      ap (λ (piece : Piece). applied piece.rows (into_iter_items c.next.new.self)) c.in_ok-write.ensures ∙ sym (ap (applied c.loop-key.shard.rows) steps) ∙ kept.4,
+          (All-rest (λ w. home w.0 ≡ c.loop-key.shard.number) (c.in-Some.key, c.in-Some.row) (into_iter_items c.next.new.self)
+          (into_iter_items c.loop-key.key-iterator) steps kept.3),
+      ap (λ (piece : Piece). applied piece.rows (into_iter_items c.next.new.self)) c.in_ok-write.ensures ∙ sym (ap (applied c.loop-key.shard.rows) steps)
+          ∙ kept.4,
     )

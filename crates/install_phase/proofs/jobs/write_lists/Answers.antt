@@ -23,7 +23,8 @@ loop-list-preserved g c =
     let steps : into_iter_items c.loop-list.list-iterator ≡ c.in-Some.list ∷ into_iter_items c.next.new.self = search rules in
     let number = ap (λ (piece : Piece). piece.number) c.in_ok-shard.ensures in
     let all = subst (λ lists. All (λ write. home write.0 ≡ was.number) (flat_map (λ list. list.items) lists)) steps kept.3 in
-    let later = subst (All (λ write. home write.0 ≡ was.number)) (drop-append_seam mine rest) (All-drop (λ write. home write.0 ≡ was.number) (length mine) _ all) in (
+    let later = subst (All (λ write. home write.0 ≡ was.number)) (drop-append_seam mine rest)
+    (All-drop (λ write. home write.0 ≡ was.number) (length mine) _ all) in (
       tt,
       tt,
       number ∙ kept.2,

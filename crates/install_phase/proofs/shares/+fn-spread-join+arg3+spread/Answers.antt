@@ -11,5 +11,6 @@ returns g t c =
     let theirs = subst (λ r. IfOk r (λ made. makes c.len-first.result c.in_ok-part.part.items made)) c.in_ok-last.was first in
     let second : IfOk c.join-theirs.result.1 (λ r. HaveMade makes 0 c.split_off.new.self.items r.items) = search rules in
     let ours = subst (λ r. IfOk r (λ r. HaveMade makes 0 c.split_off.new.self.items r.items)) c.in_ok-all.was second in
-    made_cut makes c.len-first.result _ c.args.items.items c.split_off.new.self.items c.in_ok-part.part.items c.in_ok-all.all.items c.in_ok-last.last c.push.new.self.items
+    made_cut makes c.len-first.result _ c.args.items.items c.split_off.new.self.items c.in_ok-part.part.items c.in_ok-all.all.items c.in_ok-last.last
+    c.push.new.self.items
     c.in_ok-part.ensures.items c.in_ok-part.ensures.tail (c.len-first.ensures ∙ c.split_off.new.self.ok.0) ours theirs c.in_ok-push.ensures.items

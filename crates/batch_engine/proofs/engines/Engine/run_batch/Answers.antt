@@ -19,7 +19,8 @@ invariant_of-engine g c =
     let calls = c.args.new.items in
     let s = c.in_ok-settled.settled in
     let count : c.len.result ≡ length calls = search rules in
-    let all = done c.self.view_is config calls c.in_ok-last.committed s c.in_ok-list.ensures.list c.into_vec.ensures c.deref.ensures.value c.in_ok-last.ensures.committed c.in_ok-settled.ensures in
+    let all = done c.self.view_is config calls c.in_ok-last.committed s c.in_ok-list.ensures.list c.into_vec.ensures c.deref.ensures.value
+    c.in_ok-last.ensures.committed c.in_ok-settled.ensures in
     ready-is c.self.view_is config calls s all c.from_vec.ensures count
     (subst IsCatalog c.catalog.view_is c.catalog.invariant) c.self.invariant c.requires.fit c.requires.room c.requires.batches c.requires.requests
 
@@ -29,7 +30,8 @@ returns-clause-state g c =
     let calls = c.args.new.items in
     let s = c.in_ok-settled.settled in
     let count : c.len.result ≡ length calls = search rules in
-    let all = done c.self.view_is config calls c.in_ok-last.committed s c.in_ok-list.ensures.list c.into_vec.ensures c.deref.ensures.value c.in_ok-last.ensures.committed c.in_ok-settled.ensures in
+    let all = done c.self.view_is config calls c.in_ok-last.committed s c.in_ok-list.ensures.list c.into_vec.ensures c.deref.ensures.value
+    c.in_ok-last.ensures.committed c.in_ok-settled.ensures in
     state-is c.self.view_is config calls s all c.from_vec.ensures count
 
 pub returns-clause-answer : goal.returns-clause-answer
@@ -37,7 +39,8 @@ returns-clause-answer g c =
     let config = c.args.config.now in
     let calls = c.args.new.items in
     let s = c.in_ok-settled.settled in
-    let all = done c.self.view_is config calls c.in_ok-last.committed s c.in_ok-list.ensures.list c.into_vec.ensures c.deref.ensures.value c.in_ok-last.ensures.committed c.in_ok-settled.ensures in
+    let all = done c.self.view_is config calls c.in_ok-last.committed s c.in_ok-list.ensures.list c.into_vec.ensures c.deref.ensures.value
+    c.in_ok-last.ensures.committed c.in_ok-settled.ensures in
     answer-is c.self.view_is config calls s all
 
 pub returns-clause-serial : goal.returns-clause-serial
@@ -46,7 +49,8 @@ returns-clause-serial g c =
     let calls = c.args.new.items in
     let s = c.in_ok-settled.settled in
     let count : c.len.result ≡ length calls = search rules in
-    let all = done c.self.view_is config calls c.in_ok-last.committed s c.in_ok-list.ensures.list c.into_vec.ensures c.deref.ensures.value c.in_ok-last.ensures.committed c.in_ok-settled.ensures in
+    let all = done c.self.view_is config calls c.in_ok-last.committed s c.in_ok-list.ensures.list c.into_vec.ensures c.deref.ensures.value
+    c.in_ok-last.ensures.committed c.in_ok-settled.ensures in
     serial-is c.self.view_is config calls s all c.from_vec.ensures count c.self.invariant.numbered
 
 pub returns-clause-progress : goal.returns-clause-progress
@@ -55,5 +59,6 @@ returns-clause-progress g c =
     let calls = c.args.new.items in
     let s = c.in_ok-settled.settled in
     let count : c.len.result ≡ length calls = search rules in
-    let all = done c.self.view_is config calls c.in_ok-last.committed s c.in_ok-list.ensures.list c.into_vec.ensures c.deref.ensures.value c.in_ok-last.ensures.committed c.in_ok-settled.ensures in
+    let all = done c.self.view_is config calls c.in_ok-last.committed s c.in_ok-list.ensures.list c.into_vec.ensures c.deref.ensures.value
+    c.in_ok-last.ensures.committed c.in_ok-settled.ensures in
     progress-is c.self.view_is config calls s all c.from_vec.ensures count

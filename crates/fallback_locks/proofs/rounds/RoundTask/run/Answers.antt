@@ -12,5 +12,7 @@ returns c =
     let round = c.args.self.now in
     let place = slice_index_or round.places.now c.args.index 0 in
     let is_one = c.index-self-place.is in
-    let found : slice_get round.waiting.now place ≡ Some c.index-self-place.result = slice_get_read round.waiting.now (length round.waiting.now) place c.index-self-place.result refl (round.within c.args.index 0 c.requires) is_one in
-    IfOk-weaker c.run_again.result _ _ (λ done is. ap Some (is ∙ (λ i. done_at (run_of round.catalog.now) (c.copy.ensures i) place (sym is_one i))) ∙ sym (ap (option_map (done_at (run_of round.catalog.now) round.snapshot place)) found)) c.run_again.ensures
+    let found : slice_get round.waiting.now place ≡ Some c.index-self-place.result =
+    slice_get_read round.waiting.now (length round.waiting.now) place c.index-self-place.result refl (round.within c.args.index 0 c.requires) is_one in
+    IfOk-weaker c.run_again.result _ _ (λ done is. ap Some (is ∙ (λ i. done_at (run_of round.catalog.now) (c.copy.ensures i) place (sym is_one i)))
+    ∙ sym (ap (option_map (done_at (run_of round.catalog.now) round.snapshot place)) found)) c.run_again.ensures

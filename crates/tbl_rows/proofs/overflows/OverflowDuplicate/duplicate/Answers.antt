@@ -3,10 +3,12 @@ use Rattle.tbl_rows.proofs.Trees.{copied-more, from_entries-copied}
 use Rattle.tbl_rows.proofs.overflows.OverflowDuplicate.duplicate.Goals as goal
 
 pub loop-key-preserved-in_ok-insert : goal.loop-key-preserved-in_ok-insert
-loop-key-preserved-in_ok-insert c = copied-more _ _ _ _ _ _ _ _ c.loop-key.invariant c.in-Some.ensures.steps c.in_ok-duplicate.ensures c.in_ok-duplicate-2.ensures c.in_ok-insert.ensures.updates.0
+loop-key-preserved-in_ok-insert c = copied-more _ _ _ _ _ _ _ _ c.loop-key.invariant c.in-Some.ensures.steps c.in_ok-duplicate.ensures
+    c.in_ok-duplicate-2.ensures c.in_ok-insert.ensures.updates.0
 
 pub loop-key-preserved : goal.loop-key-preserved
-loop-key-preserved c = copied-more _ _ _ _ _ _ _ _ c.loop-key.invariant c.in-Some.ensures.steps c.in_ok-duplicate.ensures c.in_ok-duplicate-2.ensures c.in_ok-insert.ensures.updates.0
+loop-key-preserved c = copied-more _ _ _ _ _ _ _ _ c.loop-key.invariant c.in-Some.ensures.steps c.in_ok-duplicate.ensures c.in_ok-duplicate-2.ensures
+    c.in_ok-insert.ensures.updates.0
 
 pub returns : goal.returns
 returns c =

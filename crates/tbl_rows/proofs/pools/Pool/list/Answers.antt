@@ -6,9 +6,11 @@ use Rattle.tbl_rows.proofs.pools.Pool.list.Goals as goal
 pub loop-bucket-preserved : goal.loop-bucket-preserved
 loop-bucket-preserved c =
     let items = c.deref-bucket-items.result.now in
-    adds-more _ _ _ _ _ _ (drop_more items c.loop-bucket.bucket-index c.bucket-item.result c.loop-bucket-test.true ∙ ap (λ b. b ∷ drop (c.loop-bucket.bucket-index + 1) items) (sym c.bucket-item.is)) c.loop-bucket.invariant c.in_ok-list.ensures
+    adds-more _ _ _ _ _ _ (drop_more items c.loop-bucket.bucket-index c.bucket-item.result c.loop-bucket-test.true
+    ∙ ap (λ b. b ∷ drop (c.loop-bucket.bucket-index + 1) items) (sym c.bucket-item.is)) c.loop-bucket.invariant c.in_ok-list.ensures
 
 pub returns : goal.returns
 returns c =
     rw (← c.self.view_is)
-    (adds-all _ _ _ _ _ c.self.invariant.spread (rw c.deref-bucket-items.ensures.value at c.loop-bucket.invariant) (drop_all c.loop-bucket.bucket-index c.self.inside.buckets.items (rw c.deref-bucket-items.ensures.value at c.loop-bucket-test.false)))
+    (adds-all _ _ _ _ _ c.self.invariant.spread (rw c.deref-bucket-items.ensures.value at c.loop-bucket.invariant)
+    (drop_all c.loop-bucket.bucket-index c.self.inside.buckets.items (rw c.deref-bucket-items.ensures.value at c.loop-bucket-test.false)))

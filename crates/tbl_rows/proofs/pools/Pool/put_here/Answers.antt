@@ -6,4 +6,5 @@ pub invariant_of-self-2 : goal.invariant_of-self-2
 invariant_of-self-2 c = IsPool-put _ _ _ _ _ _ _ c.self.invariant c.place_of-place.ensures.slot c.index_mut-bucket.ensures.value c.in_ok-added.ensures.put
 
 pub returns-clause-put : goal.returns-clause-put
-returns-clause-put c = rw (← c.self.view_is) (pooled-put _ _ _ _ _ _ _ c.self.invariant.spread c.place_of-place.ensures.slot c.index_mut-bucket.ensures.value c.in_ok-added.ensures.put)
+returns-clause-put c = rw (← c.self.view_is) (pooled-put _ _ _ _ _ _ _ c.self.invariant.spread c.place_of-place.ensures.slot c.index_mut-bucket.ensures.value
+    c.in_ok-added.ensures.put)

@@ -9,7 +9,8 @@ pub returns-then-delete-clause-found : goal.returns-then-delete-clause-found
 returns-then-delete-clause-found c = rw (← c.self.view_is) (near-found _ _ _ (sym c.delete.ensures.found ∙ c.if-delete.true))
 
 pub returns-then-delete-clause-deleted : goal.returns-then-delete-clause-deleted
-returns-then-delete-clause-deleted c = rw (← c.self.view_is, c.delete.ensures.deleted) (near-removed _ _ _ c.self.invariant (sym c.delete.ensures.found ∙ c.if-delete.true))
+returns-then-delete-clause-deleted c = rw (← c.self.view_is, c.delete.ensures.deleted)
+    (near-removed _ _ _ c.self.invariant (sym c.delete.ensures.found ∙ c.if-delete.true))
 
 pub invariant_of-self-2 : goal.invariant_of-self-2
 invariant_of-self-2 c = rw (c.delete.ensures.deleted, c.delete-2.ensures.deleted) (apart-removed _ _ _ c.self.invariant)

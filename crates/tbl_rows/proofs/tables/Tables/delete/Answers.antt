@@ -4,7 +4,8 @@ use Rattle.tbl_rows.proofs.Together.{get-at_home, IsWhole-put, joined-deleted}
 use Rattle.tbl_rows.proofs.tables.Tables.delete.Goals as goal
 
 pub invariant_of-self : goal.invariant_of-self
-invariant_of-self c = IsWhole-put _ _ _ _ _ c.self.invariant (c.from.ensures ∙ c.shard_at.ensures.home) c.index_mut-shard.ensures.value (ap (λ p. p.number) c.delete_at.ensures.deleted) c.delete_at.ensures.own
+invariant_of-self c = IsWhole-put _ _ _ _ _ c.self.invariant (c.from.ensures ∙ c.shard_at.ensures.home) c.index_mut-shard.ensures.value
+    (ap (λ p. p.number) c.delete_at.ensures.deleted) c.delete_at.ensures.own
 
 pub returns-clause-found : goal.returns-clause-found
 returns-clause-found c = rw (← c.self.view_is)

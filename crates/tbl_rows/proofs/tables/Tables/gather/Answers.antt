@@ -8,6 +8,7 @@ returns-clause-each c =
     let whole : IsWhole c.args.shards.items = record {
       count = c.requires.count;
       numbered = c.requires.numbered;
-      own = λ i d below. rw c.deref-shard-items.ensures.value at (c.loop-shard.invariant i d (omega (arith, below, c.loop-shard-test.false, ap length c.deref-shard-items.ensures.value)));
+      own = λ i d below. rw c.deref-shard-items.ensures.value at (c.loop-shard.invariant i d
+          (omega (arith, below, c.loop-shard-test.false, ap length c.deref-shard-items.ensures.value)));
     } in
     get-joined c.args.shards.items whole

@@ -14,9 +14,12 @@ use Rattle.tbl_rows.proofs.tables.Tables.rows.Goals as goal
 
 pub returns : goal.returns
 returns c =
-    let left : listed (rows_of (drop c.loop-shard.shard-index c.deref-shard-items.result.now)) ≡ [] = ap (λ ps. listed (rows_of ps)) (drop_all c.loop-shard.shard-index c.deref-shard-items.result.now c.loop-shard-test.false) in
-    let all = sym (append-nil (map deref_pair c.loop-shard.rows.items)) ∙ ap (λ es. map deref_pair c.loop-shard.rows.items ++ es) (sym left) ∙ c.loop-shard.invariant ∙ ap (λ ps. listed (rows_of ps)) c.deref-shard-items.ensures.value in
+    let left : listed (rows_of (drop c.loop-shard.shard-index c.deref-shard-items.result.now)) ≡ [] =
+    ap (λ ps. listed (rows_of ps)) (drop_all c.loop-shard.shard-index c.deref-shard-items.result.now c.loop-shard-test.false) in
+    let all = sym (append-nil (map deref_pair c.loop-shard.rows.items)) ∙ ap (λ es. map deref_pair c.loop-shard.rows.items ++ es) (sym left)
+    ∙ c.loop-shard.invariant ∙ ap (λ ps. listed (rows_of ps)) c.deref-shard-items.ensures.value in
     let sorted = c.in_ok-sort_by.ensures in
-    let moved : IsPermutation (fin.entries (joined c.self.inside.shards.items)) (map deref_pair c.loop-shard.rows.items) = rw all (IsPermutation-sym _ _ (joined-permuted c.self.inside.shards.items c.self.invariant)) in
+    let moved : IsPermutation (fin.entries (joined c.self.inside.shards.items)) (map deref_pair c.loop-shard.rows.items) =
+    rw all (IsPermutation-sym _ _ (joined-permuted c.self.inside.shards.items c.self.invariant)) in
     rw (← c.self.view_is) (entries-sorted _ c.loop-shard.rows.items c.sort_by.new.self.items moved sorted.permutation
     (sorted.sorted (λ a b. is_lt (derived_cmp a.0.now b.0.now)) (ranks_by derived_total (λ a. a.0.now)) (answers_always _ _ _ (λ f a r f' k. search rules))))
