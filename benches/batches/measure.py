@@ -1,98 +1,163 @@
-# Runs the program in turns, and prints three tables. Of each way the turn counts that took the least.
-# Arguments: the program, and how many turns there are if not 3.
+# Runs engines and the plain engine in turns, and prints tables. Of each way the turn counts that took the least.
+# Arguments: the program `aria`, which writes the scripts; the plain engine; a folder for scripts and catalogues; how
+# many turns; the engines, each as NAME=PROGRAM; and the names of tables, if not all are wanted.
+import itertools
 import os
+import re
 import subprocess
 import sys
+import time
 
-PHASES = ["executing", "parting", "numbering", "marking", "deciding", "installing", "choosing", "rerunning", "answering"]
-JUDGING = ["numbering", "marking", "deciding"]
-YCSB, TPCC = 0, 1
-ENGINE, PHASED, LISTED = 0, 1, 2
-MULTIPLE = 4
-SIZES = [(50, 1_000), (1_000, 50), (10_000, 5)]
+WORKERS = (1, 2, 4)
+SIZES = {50: 600, 1_000: 40, 10_000: 5}
+TPCC = (50, 40)
 
-program = os.path.abspath(sys.argv[1])
-turns = int(sys.argv[2]) if len(sys.argv) > 2 else 3
-
-
-# The processor time of the program up to the point where it halts with this word, in nanoseconds.
-def halted(ran, word):
-    assert ran.stdout.readline() == word, word
-    with open(f"/proc/{ran.pid}/stat") as stat:
-        ticks = sum(map(int, stat.read().rpartition(")")[2].split()[11:13]))
-    ran.stdin.write(b"\n")
-    ran.stdin.flush()
-    return ticks * 1e9 / os.sysconf("SC_CLK_TCK")
+aria, plain, folder, turns = sys.argv[1:5]
+engines = dict(word.split("=", 1) for word in sys.argv[5:] if "=" in word)
+wanted = [word for word in sys.argv[5:] if "=" not in word]
 
 
-# What the program told, and the processor time of its batches.
-def run(words):
-    ran = subprocess.Popen([program, *map(str, words)], stdin=subprocess.PIPE, stdout=subprocess.PIPE)
-    before = halted(ran, b"ready\n")
-    after = halted(ran, b"done\n")
+class Load:
+    """What is run: `size` is the keys of ycsb or the warehouses of tpcc, `share` its reads or whether they are full."""
+
+    def __init__(self, kind, size, share, requests, batches):
+        self.kind, self.size, self.share, self.requests, self.batches = kind, size, share, requests, batches
+
+    def words(self, workers, touched):
+        kind = ["ycsb", "tpcc"].index(self.kind)
+        return [kind, self.size, self.share, touched, self.requests, self.batches, workers]
+
+    def title(self):
+        if self.kind == "ycsb":
+            return f"ycsb {self.size:,} {self.share}%"
+        return f"tpcc {self.size} {'full' if self.share else 'small'}"
+
+    # The script of this load, which is written once.
+    def script(self):
+        file = f"{folder}/{self.kind}-{self.size}-{self.share}-{self.requests}-{self.batches}"
+        if not os.path.exists(file):
+            amount = ["--kind", self.kind, "--batches", self.batches, "--size", self.requests]
+            if self.kind == "ycsb":
+                own = ["--keys", self.size, "--reads", self.share, "--updates", 100 - self.share]
+            else:
+                customers, items = (3_000, 100_000) if self.share else (30, 100)
+                own = ["--warehouses", self.size, "--customers", customers, "--items", items]
+            with open(file + ".part", "wb") as out:
+                subprocess.run([aria, "gen", *map(str, amount + own)], stdout=out, check=True)
+            os.rename(file + ".part", file)
+        return file
+
+    def by_engine(self, name, workers, touched=0):
+        return [os.path.abspath(engines[name]), *map(str, self.words(workers, touched))]
+
+    def by_plain(self):
+        return [os.path.abspath(plain), f"{folder}/{self.kind}.json", self.script()]
+
+
+# The texts of the built-in catalogues, cut out of the sources.
+def cut_catalogs():
+    crates = os.path.join(os.path.dirname(os.path.abspath(__file__)), "../../crates")
+    for kind in ("ycsb", "tpcc"):
+        with open(f"{crates}/cat_builtin/src/{kind}.rt") as source, open(f"{folder}/{kind}.json", "w") as out:
+            out.write(re.search(r'r#"(.*?)"#', source.read(), re.S)[1])
+
+
+# What a process took of the processors so far, its threads that ended included, in nanoseconds.
+def processors(pid):
+    return time.clock_gettime_ns(((~pid) << 3) | 2)
+
+
+def memory(pid, name):
+    with open(f"/proc/{pid}/status") as status:
+        return next(int(line.split()[1]) for line in status if line.startswith(name)) / 1e3
+
+
+# What the program told, the processor time of its batches, and the most memory that it had, in MB.
+def run(command):
+    ran = subprocess.Popen(command, stdin=subprocess.PIPE, stdout=subprocess.PIPE)
+    seen = []
+    for word in (b"ready\n", b"done\n"):
+        assert ran.stdout.readline() == word, command
+        seen.append(processors(ran.pid))
+        most = memory(ran.pid, "VmHWM")
+        ran.stdin.write(b"\n")
+        ran.stdin.flush()
     told = {name.decode(): int(value) for name, value in map(bytes.split, ran.communicate()[0].splitlines())}
-    assert ran.returncode == 0, words
-    return told | {"processor": after - before}
+    assert ran.returncode == 0, command
+    return told | {"processor": seen[1] - seen[0], "memory": most}
 
 
-def least(runs, by="whole"):
+# Of each command what it told in the turn that took the least by the clock, with the least processor time.
+def least(commands):
     found = {}
-    for _ in range(turns):
-        for name, words in runs.items():
-            told = run(words)
-            if name not in found or told[by] < found[name][by]:
-                found[name] = told
+    for _, (name, command) in itertools.product(range(int(turns)), commands.items()):
+        told = run(command)
+        best = found.setdefault(name, told)
+        kept = told if told["whole"] < best["whole"] else best
+        found[name] = kept | {"processor": min(told["processor"], best["processor"])}
     return found
 
 
 def row(*cells):
-    print(" ".join(f"{cell:>10}" for cell in cells), flush=True)
+    print(" ".join(f"{cell:>{22 if place == 0 else 11}}" for place, cell in enumerate(cells)), flush=True)
 
 
-# Requests a second; what a request costs, in microseconds of all processors; and the phases' shares.
-def workloads():
-    row("", "workers", "engine/s", "phased/s", "listed/s", "engine us", "phased us", "listed us", *PHASES)
-    for title, load, size, batches in (("ycsb", (YCSB, 100_000, 0), 1_000, 20), ("tpcc", (TPCC, 300, 0), 50, 40)):
-        for workers in (1, 2, 4):
-            few = batches if size < 1_000 else 4
-            told = least({way: (*load, size, few if way == LISTED else batches, workers, way, MULTIPLE) for way in (ENGINE, PHASED, LISTED)})
-            assert told[ENGINE]["ended"] == told[PHASED]["ended"], "both ways end the same requests"
-            counts = {way: size * (few if way == LISTED else batches) for way in told}
-            rates = [counts[way] / told[way]["whole"] * 1e9 for way in told]
-            each = [told[way]["processor"] / 1e3 / counts[way] for way in told]
-            whole = sum(told[PHASED][phase] for phase in PHASES)
-            shares = [told[PHASED][phase] / whole for phase in PHASES]
-            row(title, workers, *(f"{r:,.0f}" for r in rates), *(f"{e:,.0f}" for e in each), *(f"{s:.1%}" for s in shares))
+def loads(least_keys=100_000, most_keys=1_000_000):
+    for keys, reads, (size, batches) in itertools.product((least_keys, most_keys), (80, 50), SIZES.items()):
+        yield Load("ycsb", keys, reads, size, batches)
+    for warehouses in (1, 4):
+        yield Load("tpcc", warehouses, 1, *TPCC)
 
 
-# What a request costs one worker by the size of its batch, in microseconds of the processor, which other
-# programs do not lengthen, and the phases' shares of it.
+# Finished requests a second by the clock; what one costs, in microseconds of all processors; and memory.
+def rates():
+    row("finished a second", "requests", "way", "plain", *(f"{w} workers" for w in WORKERS), "1 / plain", "4 / 1",
+        *("us plain", "us 1", "us 2", "us 4", "MB plain", "MB 1", "MB 4"))
+    for load in loads():
+        commands = {"plain": load.by_plain()}
+        commands |= {(name, w): load.by_engine(name, w) for name in engines for w in WORKERS}
+        told = least(commands)
+        assert len({(one["ended"], one["waits"]) for one in told.values()}) == 1, "all ways end the same requests"
+        rate = {way: one["ended"] / one["whole"] * 1e9 for way, one in told.items()}
+        cost = {way: one["processor"] / one["ended"] / 1e3 for way, one in told.items()}
+        for name in engines:
+            ways = ["plain", *((name, w) for w in WORKERS)]
+            one, four = (name, 1), (name, 4)
+            row(load.title(), f"{load.requests:,}", name, *(f"{rate[way]:,.0f}" for way in ways),
+                f"{rate[one] / rate['plain']:.2f}", f"{rate[four] / rate[one]:.2f}",
+                *(f"{cost[way]:.1f}" for way in ways), *(f"{told[way]['memory']:.0f}" for way in ("plain", one, four)))
+
+
+# What a request costs one worker by the size of its batch, over rows that were all written just before, in
+# microseconds of the processor, and the first and the longest batch by the clock.
 def sizes():
-    print()
-    row("requests", "batches", "engine", "phased", *PHASES, "longest ms")
-    for size, batches in SIZES:
-        runs = {way: (YCSB, 1_000_000, 1, size, batches, 1, way, MULTIPLE) for way in (ENGINE, PHASED)}
-        told = least(runs, "processor")
-        each = [told[way]["processor"] / 1e3 / size / batches for way in (ENGINE, PHASED)]
-        whole = sum(told[PHASED][phase] for phase in PHASES)
-        shares = [each[1] * told[PHASED][phase] / whole for phase in PHASES]
-        row(f"{size:,}", batches, *(f"{e:.1f}" for e in each + shares), f"{told[ENGINE]['longest'] / 1e6:.0f}")
+    row("after a large batch", "requests", "way", "us", "first us", "longest us")
+    for keys, (size, batches) in itertools.product((1_000, 1_000_000), SIZES.items()):
+        load = Load("ycsb", keys, 50, size, batches)
+        for name, one in least({name: load.by_engine(name, 1, 1) for name in engines}).items():
+            whole = [one["processor"] / size / batches, one["first"] / size, one["longest"] / size]
+            row(load.title(), f"{size:,}", name, *(f"{nanos / 1e3:.1f}" for nanos in whole))
 
 
-# The same where kept keys begin anew at another multiple of the keys that were touched.
-def multiples():
-    print()
-    row("keys", "requests", "batches", "multiple", "phased", *JUDGING, "anew")
-    for keys in (10_000, 100_000, 1_000_000):
-        for size, batches in SIZES:
-            runs = {multiple: (YCSB, keys, 1, size, batches, 1, PHASED, multiple) for multiple in (1, 2, 4, 8, 16)}
-            for multiple, told in least(runs, "processor").items():
-                each = told["processor"] / 1e3 / size / batches
-                whole = sum(told[phase] for phase in PHASES)
-                shares = [each * told[phase] / whole for phase in JUDGING]
-                row(f"{keys:,}", f"{size:,}", batches, multiple, *(f"{e:.1f}" for e in [each, *shares]), told["afresh"])
+# What a finished request costs one worker in instructions, and what it costs the plain engine.
+def instructions():
+    def count(command):
+        tool = ["valgrind", "--tool=callgrind", "--callgrind-out-file=/dev/null", "--toggle-collect=*timed_batch*"]
+        ran = subprocess.run([*tool, *command], input=b"\n\n", capture_output=True, check=True)
+        told = dict(line.split() for line in ran.stdout.splitlines()[2:])
+        return int(re.search(rb"Collected : (\d+)", ran.stderr)[1]) / int(told[b"ended"])
+
+    row("instructions", "requests", "plain", *engines, *(f"{name}/plain" for name in engines))
+    counted = [Load("ycsb", 100_000, reads, *both) for reads in (80, 50) for both in ((50, 20), (1_000, 2), (10_000, 2))]
+    counted += [Load("tpcc", 1, 0, 50, 20), Load("tpcc", 1, 1, 50, 20)]
+    for load in counted:
+        each = [count(command) for command in (load.by_plain(), *(load.by_engine(name, 1) for name in engines))]
+        row(load.title(), f"{load.requests:,}", *(f"{one:,.0f}" for one in each), *(f"{one / each[0]:.2f}" for one in each[1:]))
 
 
-tables = {"workloads": workloads, "sizes": sizes, "multiples": multiples}
-for name in sys.argv[3:] or tables:
+tables = {"rates": rates, "sizes": sizes, "instructions": instructions}
+os.makedirs(folder, exist_ok=True)
+cut_catalogs()
+for name in wanted or ("rates", "sizes"):
     tables[name]()
+    print(flush=True)

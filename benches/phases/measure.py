@@ -6,7 +6,7 @@ import subprocess
 import sys
 
 ROUNDS = 5
-PHASES = ["numbering", "anew", "marking", "deciding", "installing"]
+PHASES = ["numbering", "marking", "deciding", "installing"]
 BATCHES = [(1_000, 1_000), (1_000, 10_000), (1_000_000, 1_000), (1_000_000, 10_000)]
 WORKERS = [1, 2, 4]
 

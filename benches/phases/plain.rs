@@ -4,8 +4,6 @@ use std::collections::HashMap;
 use std::hint::black_box;
 use std::time::Instant;
 
-const TAG_SPAN: u64 = 1 << 14;
-
 #[derive(Clone, PartialEq, Eq, Hash)]
 enum Part {
     Int(i64),
@@ -72,56 +70,47 @@ impl Draws {
     }
 }
 
-fn number_of(kept: &mut HashMap<Key, u32>, key: &Key) -> u32 {
-    if let Some(number) = kept.get(key) {
-        return *number;
-    }
-    let number = kept.len() as u32;
-    kept.insert(key.clone(), number);
-    number
-}
-
-fn number(kept: &mut HashMap<Key, u32>, sets: &[Sets]) -> Numbered {
+fn number(sets: &[Sets]) -> (Numbered, usize) {
+    let touches = sets.iter().map(|set| set.reads.len() + set.writes.len()).sum();
+    let mut known: HashMap<&Key, u32> = HashMap::with_capacity(touches);
+    let mut number_of = |key| {
+        let next = known.len() as u32;
+        *known.entry(key).or_insert(next)
+    };
     let mut numbered = Numbered::default();
     for set in sets {
-        numbered.reads.push(set.reads.iter().map(|key| number_of(kept, key)).collect());
-        numbered.writes.push(set.writes.iter().map(|key| number_of(kept, key)).collect());
+        numbered.reads.push(set.reads.iter().map(&mut number_of).collect());
+        numbered.writes.push(set.writes.iter().map(&mut number_of).collect());
     }
-    numbered
+    (numbered, known.len())
 }
 
-/// Marks in place: nothing is copied for keys that the batch does not touch.
-fn mark(words: &mut Vec<u64>, numbered: &Numbered, keys: usize, tag: u64) {
-    words.resize(2 * keys, u64::MAX);
-    for (place, (reads, writes)) in numbered.reads.iter().zip(&numbered.writes).enumerate() {
-        let number = tag * TAG_SPAN + place as u64 + 1;
+/// The least numbers of the requests that write and that read each key.
+fn mark(numbered: &Numbered, keys: usize) -> Vec<u32> {
+    let mut words = vec![u32::MAX; 2 * keys];
+    for (tid, (reads, writes)) in (1..).zip(numbered.reads.iter().zip(&numbered.writes)) {
         for &key in reads {
             let word = &mut words[2 * key as usize + 1];
-            *word = (*word).min(number);
+            *word = (*word).min(tid);
         }
         for &key in writes {
             let word = &mut words[2 * key as usize];
-            *word = (*word).min(number);
+            *word = (*word).min(tid);
         }
     }
+    words
 }
 
-fn least(words: &[u64], tag: u64, keys: &[u32], side: usize, tid: u32) -> Option<u32> {
-    keys.iter()
-        .map(|&key| words[2 * key as usize + side])
-        .filter(|word| word / TAG_SPAN == tag)
-        .map(|word| (word % TAG_SPAN) as u32)
-        .filter(|&other| other < tid)
-        .min()
+fn least(words: &[u32], keys: &[u32], side: usize, tid: u32) -> Option<u32> {
+    keys.iter().map(|&key| words[2 * key as usize + side]).filter(|&other| other < tid).min()
 }
 
-fn decide(words: &[u64], numbered: &Numbered, tag: u64) -> Vec<Verdict> {
-    let each = numbered.reads.iter().zip(&numbered.writes).enumerate();
-    each.map(|(place, (reads, writes))| {
-        let tid = place as u32 + 1;
-        let waw = least(words, tag, writes, 0, tid);
-        let raw = least(words, tag, reads, 0, tid);
-        let war = least(words, tag, writes, 1, tid);
+fn decide(words: &[u32], numbered: &Numbered) -> Vec<Verdict> {
+    let each = (1..).zip(numbered.reads.iter().zip(&numbered.writes));
+    each.map(|(tid, (reads, writes))| {
+        let waw = least(words, writes, 0, tid);
+        let raw = least(words, reads, 0, tid);
+        let war = least(words, writes, 1, tid);
         match (waw, raw, war) {
             (Some(waw), _, _) => Verdict::Waw(waw),
             (None, Some(raw), Some(war)) => Verdict::Both(raw, war),
@@ -161,20 +150,16 @@ fn main() {
         sets.push(Sets { reads, writes: written.iter().map(|&n| key(n)).collect() });
         list.push(written.iter().map(|&n| (key(n), Some(row(n)))).collect());
     }
-    let mut kept: HashMap<Key, u32> = (0..keys).map(|n| (key(n), n)).collect();
     let mut tables: HashMap<Key, Row> = (0..keys).map(|n| (key(n), row(n))).collect();
-    let mut words = vec![u64::MAX; 2 * keys as usize];
-    let [mut numbering, mut anew, mut marking, mut deciding, mut installing] = [u128::MAX; 5];
+    let [mut numbering, mut marking, mut deciding, mut installing] = [u128::MAX; 4];
     let mut waiting = 0;
-    for round in (0..rounds).rev() {
-        let tag = u64::from(round);
-        let numbered = timed(&mut numbering, || number(&mut kept, &sets));
-        timed(&mut marking, || mark(&mut words, &numbered, kept.len(), tag));
-        let verdicts = timed(&mut deciding, || decide(&words, &numbered, tag));
+    for _ in 0..rounds {
+        let (numbered, touched) = timed(&mut numbering, || number(&sets));
+        let words = timed(&mut marking, || mark(&numbered, touched));
+        let verdicts = timed(&mut deciding, || decide(&words, &numbered));
         waiting = verdicts.iter().filter(|v| !matches!(v, Verdict::Finish { .. })).count();
         let changes = list.clone();
         timed(&mut installing, || install(&mut tables, changes));
-        timed(&mut anew, || number(&mut HashMap::new(), &sets));
     }
-    println!("numbering {numbering}\nanew {anew}\nmarking {marking}\ndeciding {deciding}\ninstalling {installing}\nwaiting {waiting}");
+    println!("numbering {numbering}\nmarking {marking}\ndeciding {deciding}\ninstalling {installing}\nwaiting {waiting}");
 }

@@ -4,7 +4,7 @@ set -euo pipefail
 here=$(cd "$(dirname "$0")" && pwd)
 source "$here/../workspace.sh"
 
-uses='work_crew resv_phase resv_words key_numbering install_phase dep_rules tbl_rows aria_base'
+uses='work_crew resv_phase resv_words touch_numbers key_numbering install_phase dep_rules tbl_rows aria_base'
 lay_out "$here" Threads "phases_bench: anyhow $uses" $(below "$here/../.." $uses)
 "${RT:-rt}" run -- 1000 10 1 1 > build.log 2>&1 || { cat build.log; exit 1; }
 rustc -O -o out/plain "$here/plain.rs"
