@@ -6,11 +6,16 @@ ghost use Rattle.baton_crew.specs.Hands.{IsHand, IsApart, IsStand, IsHandAt};
 
 use crate::courses::Course;
 use crate::hands::{Done, hand_on, lift};
+use crate::lists::Lists;
 use crate::rules::View;
 use crate::steps::{Board, split, take, unite};
 use aria_base::{Memory, Pace, Place as Step};
 use atomic_table::Seat;
 use std::alloc::Global;
+
+/// From so many ready items on a worker shares them with another one. Two is the least that can be shared. More
+/// would save the start of a thread where runs are short, and leave workers idle where they are long.
+const LEAST_TO_SHARE: usize = 2;
 
 /// A worker's seat, the items that are its to run, and what the items came to that it has run.
 #[derive(Drop)]
@@ -28,13 +33,13 @@ fn run_item<W: Course>(
     alloc: Global,
     board: &Board<W>,
     work: &W,
-    nexts: &[Vec<u32>],
+    nexts: &Lists<u32>,
     hand: &mut HandOf<W>,
     item: u32,
 ) -> Result<(), Memory>
     requires board { IsBoard (W.plan board.now.key) board.now.table_id.words board.now.table_id.slots }
     requires work { board.now.key ≡ work.now }
-    requires nexts { AreNexts (W.plan work.now) 0 (map (λ v. v.items) nexts.now) }
+    requires nexts { AreNexts (W.plan work.now) 0 nexts.now }
     requires own { hand.old.seat.table_id ≡ board.now.table_id }
     requires hand { IsHand (W.plan work.now) (W.gives work.now) work.now hand.old.seat.me (hand.old.ready.items ++ item ∷ []) hand.old.done.items }
     requires apart { IsApart (W.plan work.now) hand.old.seat.me.0.taken }
@@ -48,7 +53,7 @@ fn run_item<W: Course>(
     take(board, &mut hand.seat, item);
     let mut rows = lift(alloc, board, work, &mut hand.seat, touched)?;
     let output = work.run(item, &mut rows)?;
-    let next = &nexts[(work.items() - 1 - item) as usize];
+    let next = nexts.list((work.items() - 1 - item) as usize);
     hand_on(
         board,
         work,
@@ -70,13 +75,13 @@ pub(crate) fn labour<W: Course, P: Pace>(
     alloc: Global,
     board: &Board<W>,
     work: &W,
-    nexts: &[Vec<u32>],
+    nexts: &Lists<u32>,
     hand: HandOf<W>,
     who: u32,
     alone: bool,
     pace: &P,
 ) -> Result<HandOf<W>, Memory>
-    requires stand { IsStand W.plan board.now.key work.now board.now.table_id (map (λ v. v.items) nexts.now) }
+    requires stand { IsStand W.plan board.now.key work.now board.now.table_id nexts.now }
     requires hand { IsHandAt W.plan W.gives work.now board.now.table_id hand }
     requires apart { IsApart (W.plan work.now) hand.seat.me.0.taken }
     ensures hand { IfOk result (IsHandAt W.plan W.gives work.now board.now.table_id) }
@@ -85,7 +90,7 @@ pub(crate) fn labour<W: Course, P: Pace>(
     ensures nothing { IsTrue alone → IfOk result (λ h. h.ready.items ≡ []) }
 {
     let mut hand = hand;
-    while alone || hand.ready.len() < 2 {
+    while alone || hand.ready.len() < LEAST_TO_SHARE {
         let Some(item) = hand.ready.pop() else {
             break;
         };

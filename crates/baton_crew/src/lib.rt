@@ -5,12 +5,15 @@ mod courses;
 mod crews;
 mod hands;
 mod items;
+mod lists;
 mod outputs;
 mod plans;
 mod relays;
 mod rules;
+mod spans;
 mod steps;
 
 pub use courses::Course;
+pub use lists::Lists;
 pub use relays::relay;
 pub use rules::View;

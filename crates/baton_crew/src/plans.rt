@@ -5,26 +5,29 @@ ghost use Rattle.baton_crew.specs.Plans.{AreFirsts, AreNexts, AreCounts, noted, 
 ghost use Rattle.baton_crew.specs.Rule.{first_ready};
 
 use crate::courses::Course;
+use crate::lists::Lists;
 use aria_base::Memory;
 use std::alloc::Global;
 
-/// For each item, from the last one, the next items of its slots; and for each slot the first one. The count
-/// of items stands for none.
+/// For each item, from the last one, the next items of its slots; and for each slot the first one. The count of
+/// items stands for none.
 pub(crate) fn queues<W: Course>(
     alloc: Global,
     work: &W,
-) -> Result<(Vec<Vec<u32>>, Vec<u32>), Memory>
+) -> Result<(Lists<u32>, Vec<u32>), Memory>
     requires { IsCourse (W.plan work.now) }
-    ensures nexts { IfOk result (λ r. AreNexts (W.plan work.now) 0 (map (λ v. v.items) r.0.items)) }
+    ensures nexts { IfOk result (λ r. AreNexts (W.plan work.now) 0 r.0) }
     ensures firsts { IfOk result (λ r. AreFirsts (W.plan work.now) 0 r.1.items) }
 {
     let mut item = work.items();
     let mut firsts = repeated(alloc, item, work.slots())?;
-    let mut nexts = Vec::with_capacity(alloc, item as usize)?;
+    let mut nexts = Lists::with_capacity(alloc, item as usize)?;
+    let mut list = Vec::new(alloc);
     while item > 0 {
         item -= 1;
         let touched = work.touches(item);
-        nexts.push(found(alloc, &firsts, touched)?)?;
+        look_up(&mut list, &firsts, touched)?;
+        nexts.push(list.as_slice())?;
         note(&mut firsts, touched, item);
     }
     Ok((nexts, firsts))
@@ -41,16 +44,16 @@ fn repeated(alloc: Global, number: u32, count: usize) -> Result<Vec<u32>, Memory
     Ok(numbers)
 }
 
-/// What stands at the slots.
-fn found(alloc: Global, firsts: &[u32], touched: &[usize]) -> Result<Vec<u32>, Memory>
+/// What stands at the slots, in the place of what was in the list.
+fn look_up(list: &mut Vec<u32>, firsts: &[u32], touched: &[usize]) -> Result<(), Memory>
     requires { All (λ k. k < length firsts.now) touched.now }
-    ensures { IfOk result (λ v. v.items ≡ looked_up firsts.now touched.now) }
+    ensures { OnOk result (list.new.items ≡ looked_up firsts.now touched.now) }
 {
-    let mut numbers = Vec::with_capacity(alloc, touched.len())?;
+    list.clear();
     for slot in touched {
-        numbers.push(firsts[*slot])?;
+        list.push(firsts[*slot])?;
     }
-    Ok(numbers)
+    Ok(())
 }
 
 /// Notes the item at its slots.

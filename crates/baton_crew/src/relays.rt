@@ -12,6 +12,7 @@ ghost use Rattle.baton_crew.specs.Hands.{HasShares, HasEnded};
 use crate::courses::Course;
 use crate::crews::{Bench, spread};
 use crate::hands::Done;
+use crate::lists::Lists;
 use crate::items::{Hand, HandOf, labour, part, whole};
 use crate::outputs::{all_of, empty_slots, fill};
 use crate::plans::{counts, queues};
@@ -28,7 +29,7 @@ struct Stand<'a, W: Course, P> {
     alloc: Global,
     board: &'a Board<W>,
     work: &'a W,
-    nexts: &'a [Vec<u32>],
+    nexts: &'a Lists<u32>,
     pace: &'a P,
 }
 
@@ -39,9 +40,9 @@ where
 {
     type Hand = HandOf<W>;
 
-    ghost has = { λ s. HasShares W.plan W.gives s.board.now.key s.work.now s.board.now.table_id (map (λ v. v.items) s.nexts.now) };
+    ghost has = { λ s. HasShares W.plan W.gives s.board.now.key s.work.now s.board.now.table_id s.nexts.now };
 
-    ghost ended = { λ s. HasEnded W.plan W.gives s.board.now.key s.work.now s.board.now.table_id (map (λ v. v.items) s.nexts.now) };
+    ghost ended = { λ s. HasEnded W.plan W.gives s.board.now.key s.work.now s.board.now.table_id s.nexts.now };
 
     fn labour(&self, hand: HandOf<W>, who: u32, alone: bool) -> Result<(HandOf<W>, bool), Memory> {
         let hand = labour(

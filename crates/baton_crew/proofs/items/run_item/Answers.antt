@@ -20,24 +20,23 @@ run-requires-clause-rows g c =
     ∙ rows_taken g.W.Course.plan g.W.Course.gives c.args.board.now.key c.args.work.now c.requires.work c.args.hand.now.seat.me c.args.hand.now.ready.items c.args.hand.now.done.items c.args.item c.requires.hand
     c.touches-touched.result.now c.touches-touched.ensures c.take.new.seat.me c.take.ensures.took
 
-pub overflow_sub-next : goal.overflow_sub-next
-overflow_sub-next g c =
+pub overflow_sub-items : goal.overflow_sub-items
+overflow_sub-items g c =
     let lt = within g.W.Course.plan g.W.Course.gives c.args.board.now.key c.args.work.now c.requires.work c.args.hand.now.seat.me c.args.hand.now.ready.items c.args.hand.now.done.items c.args.item c.requires.hand in
     let e = c.items.ensures in
     omega arith
 
-pub overflow_sub-next-2 : goal.overflow_sub-next-2
-overflow_sub-next-2 g c =
+pub overflow_sub-items-2 : goal.overflow_sub-items-2
+overflow_sub-items-2 g c =
     let lt = within g.W.Course.plan g.W.Course.gives c.args.board.now.key c.args.work.now c.requires.work c.args.hand.now.seat.me c.args.hand.now.ready.items c.args.hand.now.done.items c.args.item c.requires.hand in
     let e = c.items.ensures in
     omega arith
 
-pub bounds-nexts-items : goal.bounds-nexts-items
-bounds-nexts-items g c =
+pub list-next-requires : goal.list-next-requires
+list-next-requires g c =
     let lt = within g.W.Course.plan g.W.Course.gives c.args.board.now.key c.args.work.now c.requires.work c.args.hand.now.seat.me c.args.hand.now.ready.items c.args.hand.now.done.items c.args.item c.requires.hand in
     let e = c.items.ensures in
     let each = c.requires.nexts.each in
-    let l = length-map c.args.nexts.now (λ v. v.items) in
     omega arith
 
 pub hand_on-requires-clause-seat : goal.hand_on-requires-clause-seat
@@ -64,8 +63,7 @@ pub hand_on-requires-clause-nexts : goal.hand_on-requires-clause-nexts
 hand_on-requires-clause-nexts g c =
     nexts_key g.W.Course.plan g.W.Course.gives c.args.board.now.key c.args.work.now c.requires.work c.args.hand.now.seat.me c.args.hand.now.ready.items c.args.hand.now.done.items c.args.item c.requires.hand
     c.touches-touched.result.now c.touches-touched.ensures c.take.new.seat.me c.take.ensures.took c.lift.new.seat.me c.in_ok-rows.ensures.view c.in_ok-rows.ensures.slots
-    (map (λ v. v.items) c.args.nexts.now) c.items.result (c.items.result - 1 - c.args.item) c.deref.result.now c.index-nexts-items.result.items c.requires.nexts c.items.ensures refl
-    (c.deref.ensures.value ∙ ap (λ v. v.items) c.index-nexts-items.is ∙ sym (get_or-map (λ v. v.items) c.args.nexts.now (c.items.result - 1 - c.args.item) c.index-nexts-items.result c.index-nexts-items.result.items (let lt = within g.W.Course.plan g.W.Course.gives c.args.board.now.key c.args.work.now c.requires.work c.args.hand.now.seat.me c.args.hand.now.ready.items c.args.hand.now.done.items c.args.item c.requires.hand in let e = c.items.ensures in let each = c.requires.nexts.each in let l = length-map c.args.nexts.now (λ v. v.items) in omega arith)))
+    c.args.nexts.now c.items.result (c.items.result - 1 - c.args.item) c.list-next.result.now [] c.requires.nexts c.items.ensures refl c.list-next.ensures
 
 pub hand_on-requires-clause-rows : goal.hand_on-requires-clause-rows
 hand_on-requires-clause-rows g c =
