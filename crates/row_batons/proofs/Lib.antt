@@ -1,0 +1,9 @@
+pub mod Folds
+pub mod Laid
+pub mod Installing
+pub mod Handed
+pub mod Keyings
+pub mod Slotting
+pub mod Touching
+pub mod Layings
+pub mod Fronts

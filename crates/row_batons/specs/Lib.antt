@@ -1,0 +1,4 @@
+pub mod Fallbacks
+pub mod Windows
+pub mod Numbers
+pub mod Layouts
