@@ -27,7 +27,8 @@ count-none f (y ∷ ys) fails =
 module _ {S W : Type 0} (course : Course S) (id : ℕ) (v : View W) (whole : v.share ≡ all_shares) (none_ready : v.ready ≡ []) (free : v.held ≡ [])
     (s : State S (View W)) (turn : ℕ → ℕ) (kept : KeptAt {W = W} course turn s) (at : get_elem? s.views id ≡ some v) where
   alone_taken : (x : ℕ) → times x v.taken ≡ cond (is_taken s.words x) 1 0
-  alone_taken x = sym (sum_by-alone share_of (taken_of x) s.views id v at (kept.shares ∙ sym whole) (λ i u there none. ap (times x) ((kept.idle i u there).nothing_taken none))) ∙ kept.taken x
+  alone_taken x = sym (sum_by-alone share_of (taken_of x) s.views id v at (kept.shares ∙ sym whole)
+      (λ i u there none. ap (times x) ((kept.idle i u there).nothing_taken none))) ∙ kept.taken x
 
   nobody_ready : (x : ℕ) → ◌≡◌ {A = ℕ} (cond (is_ready course.items s.words x) 1 0) 0
   nobody_ready x =
@@ -38,7 +39,8 @@ module _ {S W : Type 0} (course : Course S) (id : ℕ) (v : View W) (whole : v.s
   -- what was taken has been passed on
   passed_on : (x k : ℕ) → is_taken s.words x ≡ true → 1 ≤ times k (course.touches x) → turn k ≢ x
   passed_on x k was touched e =
-      let mine : 1 ≤ times x v.taken = (let all = alone_taken x in let one : ◌≡◌ {A = ℕ} (cond (is_taken s.words x) 1 0) 1 = ap (λ b. cond b 1 0) was in omega arith) in
+      let mine : 1 ≤ times x v.taken = (let all = alone_taken x in let one : ◌≡◌ {A = ℕ} (cond (is_taken s.words x) 1 0) 1 = ap (λ b. cond b 1 0) was in
+      omega arith) in
       none_there v.held k free ((kept.holders id v at).passed x k mine touched e).1
 
   -- the least that was not taken would wait for nothing, and be ready in a view
@@ -68,7 +70,8 @@ module _ {S W : Type 0} (course : Course S) (id : ℕ) (v : View W) (whole : v.s
   each_once x = alone_taken x ∙ ⊎_elim
       (λ lt. ap (λ b. cond b 1 0) (all_taken x lt) ∙ sym (ap (λ b. cond b 1 0) (is_below x course.items lt)))
       (λ ge.
-      ap (λ b. cond b 1 0) (Rattle.std.proofs.lemmas.Bool.false_from_ne_true (is_taken s.words x) (λ was. absurd (let lt = taken_within s.words x was in let all = kept.words in omega arith)))
+      ap (λ b. cond b 1 0) (Rattle.std.proofs.lemmas.Bool.false_from_ne_true (is_taken s.words x)
+      (λ was. absurd (let lt = taken_within s.words x was in let all = kept.words in omega arith)))
       ∙ sym (ap (λ b. cond b 1 0) (not_below x course.items ge)))
       (cases_lt x course.items)
 
@@ -83,11 +86,13 @@ module _ {S W : Type 0} (course : Course S) (id : ℕ) (v : View W) (whole : v.s
       kept.homes k lt
       ∙ ap (λ (n : ℕ). some (cond (is_taken s.words n) none (some (course.before n k)))) (turn_ends k)
       ∙ ap (λ b. some (cond b none (some (course.before course.items k))))
-      (Rattle.std.proofs.lemmas.Bool.false_from_ne_true (is_taken s.words course.items) (λ was. absurd (let lt = taken_within s.words course.items was in let all = kept.words in omega arith)))
+      (Rattle.std.proofs.lemmas.Bool.false_from_ne_true (is_taken s.words course.items)
+      (λ was. absurd (let lt = taken_within s.words course.items was in let all = kept.words in omega arith)))
 
 -- what closing gives
 pub closes : {S W : Type 0} (course : Course S) (id : ℕ) (v : View W) → v.share ≡ all_shares → v.ready ≡ [] → v.held ≡ [] → (words : List ℕ) (xs : List S)
-    → Final (Seen (Kept course) id v) words xs → IsEachOnce v.taken course.items × ((k : ℕ) → k < course.slots → get_elem? xs k ≡ some (course.before course.items k))
+    → Final (Seen (Kept course) id v) words xs → IsEachOnce v.taken course.items
+    × ((k : ℕ) → k < course.slots → get_elem? xs k ≡ some (course.before course.items k))
 closes course id v whole none_ready free words xs (s, ((turn, kept), at), words_are, count, values) = (
   each_once course id v whole none_ready free s turn kept at,
   λ k lt. values k (course.before course.items k) (home_ends course id v whole none_ready free s turn kept at k lt),

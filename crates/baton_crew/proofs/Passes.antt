@@ -27,7 +27,8 @@ turned_here k j turn = ap (λ b. cond b j (turn k)) (eq-eqb k k refl)
 turned_else : (k j : ℕ) (turn : ℕ → ℕ) (q : ℕ) → q ≢ k → turned_on k j turn q ≡ turn q
 turned_else k j turn q ne = ap (λ b. cond b j (turn q)) (ne_eqb q k ne)
 
-pub gap : {S : Type 0} (course : Course S) (is : IsCourse course) (a d k : ℕ) → a + d ≤ course.items → ((y : ℕ) → a ≤ y → y < a + d → times k (course.touches y) ≡ 0)
+pub gap : {S : Type 0} (course : Course S) (is : IsCourse course) (a d k : ℕ) → a + d ≤ course.items
+    → ((y : ℕ) → a ≤ y → y < a + d → times k (course.touches y) ≡ 0)
     → course.before (a + d) k ≡ course.before a k
 gap course is a zero k le untouched = ap (λ (n : ℕ). course.before n k) (omega arith)
 gap course is a (suc d) k le untouched =
@@ -60,7 +61,8 @@ module _ {S W : Type 0} (course : Course S) (is : IsCourse course) (id : ℕ) (m
   taken_x = mine.mine k holds_k
 
   was_taken : (seat : ℕ) (v : View W) → get_elem? s.views seat ≡ some v → (z : ℕ) → 1 ≤ times z v.taken → is_taken s.words z ≡ true
-  was_taken seat v there z some_times = one_if (is_taken s.words z) (let least = sum_by-at (taken_of z) s.views seat v there in let all = kept.taken z in omega arith)
+  was_taken seat v there z some_times = one_if (is_taken s.words z) (let least = sum_by-at (taken_of z) s.views seat v there in let all = kept.taken z in
+      omega arith)
 
   x_taken : is_taken s.words x ≡ true
   x_taken = was_taken id me.0 at x taken_x
@@ -83,7 +85,8 @@ module _ {S W : Type 0} (course : Course S) (is : IsCourse course) (id : ℕ) (m
   -- the next item's word counts this slot
   pub counted : j < course.items → 1 ≤ word_of s.words j
   counted lt =
-      let some_open = count-some (λ q. nat_lt (turn q) j) k (course.touches j) (to.touches lt) (is_below (turn k) j (let e = turn_k in let later = to.later in omega arith)) in
+      let some_open = count-some (λ q. nat_lt (turn q) j) k (course.touches j) (to.touches lt)
+      (is_below (turn k) j (let e = turn_k in let later = to.later in omega arith)) in
       let count = (waits_j lt).count in
       omega arith
 
@@ -124,20 +127,25 @@ module _ {S W : Type 0} (course : Course S) (is : IsCourse course) (id : ℕ) (m
 
     ready_grows : (z : ℕ) → ◌≡◌ {A = ℕ} (cond (is_ready course.items words' z) 1 0) (cond (is_ready course.items s.words z) 1 0 + times z more)
     ready_grows z = ⊎_elim
-        (λ (e : z ≡ j). subst (λ (w : ℕ). ◌≡◌ {A = ℕ} (cond (is_ready course.items words' w) 1 0) (cond (is_ready course.items s.words w) 1 0 + times w more)) (sym e) (at_j (cases_lt j course.items)))
+        (λ (e : z ≡ j). subst (λ (w : ℕ). ◌≡◌ {A = ℕ} (cond (is_ready course.items words' w) 1 0) (cond (is_ready course.items s.words w) 1 0 + times w more))
+        (sym e) (at_j (cases_lt j course.items)))
         (λ ne.
-        let same : ◌≡◌ {A = ℕ} (cond (is_ready course.items words' z) 1 0) (cond (is_ready course.items s.words z) 1 0) = ap (λ n. cond (nat_lt z course.items && nat_eq n 0) 1 0) (else z ne) in
-        let none_more : times z more ≡ 0 = more_is z ∙ ap (λ b. cond (nat_lt j course.items && nat_eq (word_of s.words j) 1) (cond b 1 0) 0) (ne_eqb j z (λ f. ne (sym f))) ∙ Rattle.baton_crew.proofs.Words.no_matter _ in
+        let same : ◌≡◌ {A = ℕ} (cond (is_ready course.items words' z) 1 0) (cond (is_ready course.items s.words z) 1 0) =
+        ap (λ n. cond (nat_lt z course.items && nat_eq n 0) 1 0) (else z ne) in
+        let none_more : times z more ≡ 0 = more_is z ∙ ap (λ b. cond (nat_lt j course.items && nat_eq (word_of s.words j) 1) (cond b 1 0) 0)
+        (ne_eqb j z (λ f. ne (sym f))) ∙ Rattle.baton_crew.proofs.Words.no_matter _ in
         omega arith)
         (cases_eq z j)
       where
-        at_j : (j < course.items) ⊎ (course.items ≤ j) → ◌≡◌ {A = ℕ} (cond (is_ready course.items words' j) 1 0) (cond (is_ready course.items s.words j) 1 0 + times j more)
+        at_j : (j < course.items) ⊎ (course.items ≤ j) → ◌≡◌ {A = ℕ} (cond (is_ready course.items words' j) 1 0)
+            (cond (is_ready course.items s.words j) 1 0 + times j more)
         at_j (inl lt) =
             Rattle.baton_crew.proofs.Words.ready_down course.items j (word_of s.words j) (word_of words' j) lt (down lt)
             ∙ ap (λ n. cond (is_ready course.items s.words j) 1 0 + n) (sym (more_is j))
         at_j (inr ge) =
             let m : times j more ≡ 0 = more_is j ∙ ap (λ b. cond (b && nat_eq (word_of s.words j) 1) (cond (eqb j j) 1 0) 0) (not_below j course.items ge) in
-            let same : ◌≡◌ {A = ℕ} (cond (is_ready course.items words' j) 1 0) (cond (is_ready course.items s.words j) 1 0) = ap (λ n. cond (nat_lt j course.items && nat_eq n 0) 1 0) (stays ge) in
+            let same : ◌≡◌ {A = ℕ} (cond (is_ready course.items words' j) 1 0) (cond (is_ready course.items s.words j) 1 0) =
+            ap (λ n. cond (nat_lt j course.items && nat_eq n 0) 1 0) (stays ge) in
             omega arith
 
     kept_ready : (z : ℕ) → sum_by (ready_of z) (set s.views id next) ≡ cond (is_ready course.items words' z) 1 0
@@ -200,7 +208,8 @@ module _ {S W : Type 0} (course : Course S) (is : IsCourse course) (id : ℕ) (m
             let later = to.later in
             let tk = turn_k in
             let th = turned_here k j turn in
-            let less = count-less (λ q. nat_lt (turn q) j) (λ q. nat_lt (turn' q) j) k (course.touches j) (omega arith) (is_below (turn k) j (omega arith)) (not_below (turn' k) j (omega arith))
+            let less = count-less (λ q. nat_lt (turn q) j) (λ q. nat_lt (turn' q) j) k (course.touches j) (omega arith) (is_below (turn k) j (omega arith))
+            (not_below (turn' k) j (omega arith))
             (λ q ne. ap (λ n. nat_lt n j) (sym (turned_else k j turn q ne))) in
             let d = down lt' in
             let o = (waits_j lt').count in
@@ -224,7 +233,8 @@ module _ {S W : Type 0} (course : Course S) (is : IsCourse course) (id : ℕ) (m
     value_j =
         value
         ∙ sym (ap (λ (n : ℕ). course.before n k) (let later = to.later in omega arith)
-        ∙ gap course is (suc x) (j - suc x) k (let later = to.later in let le = to.within in omega arith) (λ z from before. to.first z (omega arith) (let later = to.later in omega arith)))
+        ∙ gap course is (suc x) (j - suc x) k (let later = to.later in let le = to.within in omega arith)
+        (λ z from before. to.first z (omega arith) (let later = to.later in omega arith)))
 
     kept_homes : (q : ℕ) → q < course.slots → get_elem? (put_back s.homes me.1) q ≡ some (home_at course turn' words' q)
     kept_homes q lt = ap (λ l. get_elem? (put_back s.homes l) q) carries ∙ ⊎_elim
@@ -255,8 +265,11 @@ module _ {S W : Type 0} (course : Course S) (is : IsCourse course) (id : ℕ) (m
           let h : turn' q ≡ j = subst (λ (w : ℕ). turn' w ≡ j) (sym e) (turned_here k j turn) in
           next_untaken id me.0 at (subst (λ (w : ℕ). 1 ≤ times w me.0.taken) (sym turns ∙ h) there))
           (λ ne.
-          let old = mine.passed z q there touched (sym (turned_else k j turn q ne) ∙ turns) in
-          (old.0, (let none_here : ◌≡◌ {A = ℕ} (cond (eqb k q) 1 0) 0 = ap (λ b. cond b 1 0) (ne_eqb k q (λ f. ne (sym f))) in let in_held = old.1 in omega (arith, held_times q))))
+          let old = mine.passed z q there touched (sym (turned_else k j turn q ne) ∙ turns) in (
+            old.0,
+            (let none_here : ◌≡◌ {A = ℕ} (cond (eqb k q) 1 0) 0 = ap (λ b. cond b 1 0) (ne_eqb k q (λ f. ne (sym f))) in let in_held = old.1 in
+                omega (arith, held_times q)),
+          ))
           (cases_eq q k);
     }
       where
@@ -307,11 +320,17 @@ module _ {S W : Type 0} (course : Course S) (is : IsCourse course) (id : ℕ) (m
           (λ here. subst (Holds course turn') here.1 holds_next)
           (λ else_. holds_other seat v else_.0 else_.1)
           (at_set s.views id seat next v there);
-      idle = each-set Idle s.views id next (record { nothing_ready = λ none. absurd (omega arith); nothing_taken = λ none. absurd (omega arith); nothing_held = λ none. absurd (omega arith) }) kept.idle;
+      idle = each-set Idle s.views id next (record {
+        nothing_ready = λ none. absurd (omega arith);
+        nothing_taken = λ none. absurd (omega arith);
+        nothing_held =
+            λ none. absurd (omega arith);
+      }) kept.idle;
     }
 
 one_fewer : (n : ℕ) → 1 ≤ n → n < 2 ^ 64 → (n + (2 ^ 64 - 1)) % 2 ^ 64 ≡ n - 1
-one_fewer n some_left lt = ap (λ m. m % 2 ^ 64) (let e : n + (2 ^ 64 - 1) ≡ (n - 1) + 2 ^ 64 = omega arith in e) ∙ add-mod_right (n - 1) (2 ^ 64) ∙ mod-eq_of_lt (omega arith)
+one_fewer n some_left lt = ap (λ m. m % 2 ^ 64) (let e : n + (2 ^ 64 - 1) ≡ (n - 1) + 2 ^ 64 = omega arith in e) ∙ add-mod_right (n - 1) (2 ^ 64)
+    ∙ mod-eq_of_lt (omega arith)
 
 times-more : (b : Bool) (z j : ℕ) → ◌≡◌ {A = ℕ} (times z (cond b (j ∷ []) [])) (cond b (cond (eqb j z) 1 0) 0)
 times-more true z j = let h = times-cons z j [] in omega arith
@@ -320,7 +339,8 @@ times-more false z j = refl
 module _ {S W : Type 0} (course : Course S) (is : IsCourse course) (slots id : ℕ) (me : Me S (View W)) (k j : ℕ) (ks : List ℕ) (y : S) (c : List (ℕ × S)) where
   -- The slot goes home for item j, whose word comes down by one.
   pub passes : 0 < me.0.share → me.0.held ≡ k ∷ ks → me.1 ≡ (k, y) ∷ c → y ≡ course.before (suc me.0.item) k → IsNext course me.0.item k j → j < course.items
-      → Allows (Kept course) slots id me (suc j) (λ n. (n + (2 ^ 64 - 1)) % 2 ^ 64) (λ n me'. me' ≡ (with_passed (cond (nat_eq n 1) (j ∷ []) []) me.0, rest me.1))
+      → Allows (Kept course) slots id me (suc j) (λ n. (n + (2 ^ 64 - 1)) % 2 ^ 64)
+      (λ n me'. me' ≡ (with_passed (cond (nat_eq n 1) (j ∷ []) []) me.0, rest me.1))
   passes has_share held_is carries value to lt s (turn, kept) homes at small =
       let found : ℕ = word_of s.words j in
       let some_left : 1 ≤ found = counted course is id me k j ks y c has_share held_is carries value to s turn kept at lt in
@@ -333,7 +353,8 @@ module _ {S W : Type 0} (course : Course S) (is : IsCourse course) (slots id : �
         tt,
         (
           turned_on k j turn,
-          passing course is id me k j ks y c has_share held_is carries value to s turn kept at (set s.words (suc j) word') more (length-set s.words (suc j) word') (word_else s.words j word')
+          passing course is id me k j ks y c has_share held_is carries value to s turn kept at (set s.words (suc j) word') more
+              (length-set s.words (suc j) word') (word_else s.words j word')
               (λ _. let h = word_here s.words j word' room in omega arith)
               (λ ge. absurd (omega arith))
               (λ _. small)
@@ -357,7 +378,8 @@ module _ {S W : Type 0} (course : Course S) (is : IsCourse course) (slots id : �
               (λ lt. absurd (omega arith))
               (λ _. get_or-set_other s.words 0 (suc course.items) n 0 (λ e. absurd (omega arith)))
               (λ lt. absurd (omega arith))
-              (λ z. sym (ap (λ b. cond (b && nat_eq (word_of s.words course.items) 1) (cond (eqb course.items z) 1 0) 0) (not_below course.items course.items (omega arith)))),
+              (λ z. sym (ap (λ b. cond (b && nat_eq (word_of s.words course.items) 1) (cond (eqb course.items z) 1 0) 0)
+              (not_below course.items course.items (omega arith)))),
         ),
         refl,
       )

@@ -30,7 +30,8 @@ module _ {T : Type 0} (items more : List T) where
       ∙ take-length more
 
   -- a list that is added stands behind the others
-  pub pushed : (items' : List T) (spans spans' : List Span) (span : Span) → items' ≡ items ++ more → spans' ≡ spans ++ span ∷ [] → All (IsSpan (length items)) spans
+  pub pushed : (items' : List T) (spans spans' : List Span) (span : Span) → items' ≡ items ++ more → spans' ≡ spans ++ span ∷ []
+      → All (IsSpan (length items)) spans
       → span.start ≡ length items → span.end ≡ length items + length more → map (piece items') spans' ≡ map (piece items) spans ++ more ∷ []
   pushed items' spans spans' span grown added all start end =
       (λ i. map (piece (grown i)) (added i))

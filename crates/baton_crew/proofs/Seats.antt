@@ -36,11 +36,13 @@ module _ {S W : Type 0} (course : Course S) where
       turns = kept.turns;
       queued = kept.queued;
       taken = λ x. (let sum = sum_by-set_push (taken_of x) s.views id v (left_half v) (right_half v) at in omega arith) ∙ kept.taken x;
-      ready = λ x. (let sum = sum_by-set_push (ready_of x) s.views id v (left_half v) (right_half v) at in omega (arith, times-halves x (length v.ready / 2) v.ready)) ∙ kept.ready x;
+      ready = λ x. (let sum = sum_by-set_push (ready_of x) s.views id v (left_half v) (right_half v) at in
+          omega (arith, times-halves x (length v.ready / 2) v.ready)) ∙ kept.ready x;
       waits = kept.waits;
       passes = kept.passes;
       homes = kept.homes;
-      holders = each-push (Holds course turn) (set s.views id (left_half v)) (right_half v) right (each-set (Holds course turn) s.views id (left_half v) left kept.holders);
+      holders = each-push (Holds course turn) (set s.views id (left_half v)) (right_half v) right
+          (each-set (Holds course turn) s.views id (left_half v) left kept.holders);
       idle = each-push Idle (set s.views id (left_half v)) (right_half v) some_right (each-set Idle s.views id (left_half v) some_left kept.idle);
     },
   )
@@ -52,10 +54,21 @@ module _ {S W : Type 0} (course : Course S) where
       left = record { turns = held.turns; once = held.once; mine = held.mine; passed = held.passed }
 
       right : Holds course turn (right_half v)
-      right = record { turns = λ k there. absurd (omega arith); once = λ k. omega arith; mine = λ k there. absurd (omega arith); passed = λ x k there. absurd (omega arith) }
+      right = record {
+        turns = λ k there. absurd (omega arith);
+        once = λ k. omega arith;
+        mine = λ k there. absurd (omega arith);
+        passed =
+            λ x k there. absurd (omega arith);
+      }
 
       some_left : Idle (left_half v)
-      some_left = record { nothing_ready = λ none. absurd (omega arith); nothing_taken = λ none. absurd (omega arith); nothing_held = λ none. absurd (omega arith) }
+      some_left = record {
+        nothing_ready = λ none. absurd (omega arith);
+        nothing_taken = λ none. absurd (omega arith);
+        nothing_held =
+            λ none. absurd (omega arith);
+      }
 
       some_right : Idle (right_half v)
       some_right = record { nothing_ready = λ none. absurd (omega arith); nothing_taken = λ none. refl; nothing_held = λ none. refl }
@@ -69,14 +82,22 @@ module _ {S W : Type 0} (course : Course S) where
       shares = let sum = sum_by-set_two share_of s.views id other v (sum_of v u) u spent_view at at' in let all = kept.shares in omega arith;
       turns = kept.turns;
       queued = kept.queued;
-      taken = λ x. (let sum = sum_by-set_two (taken_of x) s.views id other v (sum_of v u) u spent_view at at' in omega (arith, times-append x v.taken u.taken)) ∙ kept.taken x;
-      ready = λ x. (let sum = sum_by-set_two (ready_of x) s.views id other v (sum_of v u) u spent_view at at' in omega (arith, times-append x v.ready u.ready)) ∙ kept.ready x;
+      taken = λ x. (let sum = sum_by-set_two (taken_of x) s.views id other v (sum_of v u) u spent_view at at' in omega (arith, times-append x v.taken u.taken))
+          ∙ kept.taken x;
+      ready = λ x. (let sum = sum_by-set_two (ready_of x) s.views id other v (sum_of v u) u spent_view at at' in omega (arith, times-append x v.ready u.ready))
+          ∙ kept.ready x;
       waits = kept.waits;
       passes = kept.passes;
       homes = kept.homes;
-      holders = each-set (Holds course turn) (set s.views id (sum_of v u)) other spent_view spent (each-set (Holds course turn) s.views id (sum_of v u) both kept.holders);
-      idle = each-set Idle (set s.views id (sum_of v u)) other spent_view (record { nothing_ready = λ none. refl; nothing_taken = λ none. refl; nothing_held = λ none. refl })
-          (each-set Idle s.views id (sum_of v u) (record { nothing_ready = λ none. absurd (omega arith); nothing_taken = λ none. absurd (omega arith); nothing_held = λ none. absurd (omega arith) }) kept.idle);
+      holders = each-set (Holds course turn) (set s.views id (sum_of v u)) other spent_view spent
+          (each-set (Holds course turn) s.views id (sum_of v u) both kept.holders);
+      idle = each-set Idle (set s.views id (sum_of v u)) other spent_view
+          (record { nothing_ready = λ none. refl; nothing_taken = λ none. refl; nothing_held = λ none. refl })
+          (each-set Idle s.views id (sum_of v u) (record {
+            nothing_ready = λ none. absurd (omega arith);
+            nothing_taken = λ none. absurd (omega arith);
+            nothing_held = λ none. absurd (omega arith);
+          }) kept.idle);
     },
   )
     where
@@ -87,7 +108,13 @@ module _ {S W : Type 0} (course : Course S) where
       theirs = kept.holders other u (sym (set_else s.views id other (sum_of v u) apart) ∙ at')
 
       spent : Holds {W = W} course turn spent_view
-      spent = record { turns = λ k there. absurd (omega arith); once = λ k. omega arith; mine = λ k there. absurd (omega arith); passed = λ x k there. absurd (omega arith) }
+      spent = record {
+        turns = λ k there. absurd (omega arith);
+        once = λ k. omega arith;
+        mine = λ k there. absurd (omega arith);
+        passed =
+            λ x k there. absurd (omega arith);
+      }
 
       both : Holds course turn (sum_of v u)
       both = record {

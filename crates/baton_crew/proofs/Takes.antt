@@ -61,7 +61,8 @@ module _ {S W : Type 0} (course : Course S) (is : IsCourse course) (slots id : �
 
     turn_is : (k : ℕ) → 1 ≤ times k (course.touches x) → turn k ≡ x
     turn_is k touched = ⊎_elim
-        (λ (lt : turn k < x). absurd (let some_open = count-some (λ q. Rattle.std.specs.Prelude.nat_lt (turn q) x) k (course.touches x) touched (is_below (turn k) x lt) in let count = waits_x.count in let none = word_is in omega arith))
+        (λ (lt : turn k < x). absurd (let some_open = count-some (λ q. Rattle.std.specs.Prelude.nat_lt (turn q) x) k (course.touches x) touched
+        (is_below (turn k) x lt) in let count = waits_x.count in let none = word_is in omega arith))
         (λ ge. let le = waits_x.behind k touched in omega arith)
         (cases_lt (turn k) x)
 
@@ -94,8 +95,10 @@ module _ {S W : Type 0} (course : Course S) (is : IsCourse course) (slots id : �
         ⊎_elim
         (λ (e : y ≡ x).
         let one : ◌≡◌ {A = ℕ} (cond (eqb x y) 1 0) 1 = subst (λ (z : ℕ). ◌≡◌ {A = ℕ} (cond (eqb x z) 1 0) 1) (sym e) here_one in
-        let before : ◌≡◌ {A = ℕ} (cond (is_taken s.words y) 1 0) 0 = subst (λ (z : ℕ). ◌≡◌ {A = ℕ} (cond (is_taken s.words z) 1 0) 0) (sym e) (ap (λ b. cond b 1 0) untaken) in
-        let after : ◌≡◌ {A = ℕ} (cond (is_taken words' y) 1 0) 1 = subst (λ (z : ℕ). ◌≡◌ {A = ℕ} (cond (is_taken words' z) 1 0) 1) (sym e) (ap (λ b. cond b 1 0) here_taken) in
+        let before : ◌≡◌ {A = ℕ} (cond (is_taken s.words y) 1 0) 0 =
+        subst (λ (z : ℕ). ◌≡◌ {A = ℕ} (cond (is_taken s.words z) 1 0) 0) (sym e) (ap (λ b. cond b 1 0) untaken) in
+        let after : ◌≡◌ {A = ℕ} (cond (is_taken words' y) 1 0) 1 =
+        subst (λ (z : ℕ). ◌≡◌ {A = ℕ} (cond (is_taken words' z) 1 0) 1) (sym e) (ap (λ b. cond b 1 0) here_taken) in
         omega arith)
         (λ ne.
         let none_more = else_none y ne in
@@ -111,13 +114,17 @@ module _ {S W : Type 0} (course : Course S) (is : IsCourse course) (slots id : �
         ⊎_elim
         (λ (e : y ≡ x).
         let one : ◌≡◌ {A = ℕ} (cond (eqb x y) 1 0) 1 = subst (λ (z : ℕ). ◌≡◌ {A = ℕ} (cond (eqb x z) 1 0) 1) (sym e) here_one in
-        let before : ◌≡◌ {A = ℕ} (cond (is_ready course.items s.words y) 1 0) 1 = subst (λ (z : ℕ). ◌≡◌ {A = ℕ} (cond (is_ready course.items s.words z) 1 0) 1) (sym e) (ap (λ b. cond b 1 0) is_ready_x) in
-        let not : is_ready course.items words' x ≡ false = Rattle.baton_crew.proofs.Words.unready_is course.items x (word_of words' x) (let h = here in omega arith) in
-        let after : ◌≡◌ {A = ℕ} (cond (is_ready course.items words' y) 1 0) 0 = subst (λ (z : ℕ). ◌≡◌ {A = ℕ} (cond (is_ready course.items words' z) 1 0) 0) (sym e) (ap (λ b. cond b 1 0) not) in
+        let before : ◌≡◌ {A = ℕ} (cond (is_ready course.items s.words y) 1 0) 1 =
+        subst (λ (z : ℕ). ◌≡◌ {A = ℕ} (cond (is_ready course.items s.words z) 1 0) 1) (sym e) (ap (λ b. cond b 1 0) is_ready_x) in
+        let not : is_ready course.items words' x ≡ false = Rattle.baton_crew.proofs.Words.unready_is course.items x (word_of words' x)
+        (let h = here in omega arith) in
+        let after : ◌≡◌ {A = ℕ} (cond (is_ready course.items words' y) 1 0) 0 =
+        subst (λ (z : ℕ). ◌≡◌ {A = ℕ} (cond (is_ready course.items words' z) 1 0) 0) (sym e) (ap (λ b. cond b 1 0) not) in
         omega arith)
         (λ ne.
         let none_more = else_none y ne in
-        let same : ◌≡◌ {A = ℕ} (cond (is_ready course.items words' y) 1 0) (cond (is_ready course.items s.words y) 1 0) = ap (λ b. cond b 1 0) (ready_else s.words x gone course.items y ne) in
+        let same : ◌≡◌ {A = ℕ} (cond (is_ready course.items words' y) 1 0) (cond (is_ready course.items s.words y) 1 0) =
+        ap (λ b. cond b 1 0) (ready_else s.words x gone course.items y ne) in
         omega arith)
         (cases_eq y x)
 
@@ -133,13 +140,16 @@ module _ {S W : Type 0} (course : Course S) (is : IsCourse course) (slots id : �
         (λ ne. kept.passes y k (sym (taken_else s.words x gone y ne) ∙ was) touched)
         (cases_eq y x)
 
-    kept_homes : (c : List (ℕ × S)) (k : ℕ) → k < course.slots → get_elem? (homes_after s.homes c (takes_all before_x (course.touches x))) k ≡ some (home_at course turn words' k)
+    kept_homes : (c : List (ℕ × S)) (k : ℕ) → k < course.slots
+        → get_elem? (homes_after s.homes c (takes_all before_x (course.touches x))) k ≡ some (home_at course turn words' k)
     kept_homes c k lt = ⊎_elim
         (λ (touched : 0 < times k (course.touches x)).
         homes-here before_x (course.touches x) s.homes c k (omega arith) (there_below s.homes k _ (kept.homes k lt))
-        ∙ sym (ap (λ (b : Bool). some (cond b none (some (course.before (turn k) k)))) (subst (λ (z : ℕ). is_taken words' z ≡ true) (sym (turn_is k (omega arith))) here_taken)))
+        ∙ sym (ap (λ (b : Bool). some (cond b none (some (course.before (turn k) k))))
+        (subst (λ (z : ℕ). is_taken words' z ≡ true) (sym (turn_is k (omega arith))) here_taken)))
         (λ else.
-        let ne : turn k ≢ x = λ e. absurd (let q = kept.queued k (let lt' = within in omega arith) in let q' : 1 ≤ times k (course.touches x) = subst (λ (z : ℕ). 1 ≤ times k (course.touches z)) e q in omega arith) in
+        let ne : turn k ≢ x = λ e. absurd (let q = kept.queued k (let lt' = within in omega arith) in let q' : 1 ≤ times k (course.touches x) =
+        subst (λ (z : ℕ). 1 ≤ times k (course.touches z)) e q in omega arith) in
         homes-else before_x (course.touches x) s.homes c k (omega arith) ∙ kept.homes k lt
         ∙ sym (ap (λ (b : Bool). some (cond b none (some (course.before (turn k) k)))) (taken_else s.words x gone (turn k) ne)))
         (cases_lt 0 (times k (course.touches x)))
@@ -151,7 +161,8 @@ module _ {S W : Type 0} (course : Course S) (is : IsCourse course) (slots id : �
       mine = λ k there. (let one = here_one in omega (arith, times-push x me.0.taken x));
       passed = λ y k there touched turns. ⊎_elim
           (λ (e : y ≡ x). (e, subst (λ (z : ℕ). 1 ≤ times k (course.touches z)) e touched))
-          (λ ne. none_there me.0.held k free ((kept.holders id me.0 at).passed y k (let none_more = else_none y ne in omega (arith, times-push y me.0.taken x)) touched turns).1)
+          (λ ne. none_there me.0.held k free ((kept.holders id me.0 at).passed y k (let none_more = else_none y ne in omega (arith, times-push y me.0.taken x))
+          touched turns).1)
           (cases_eq y x);
     }
 
@@ -161,7 +172,8 @@ module _ {S W : Type 0} (course : Course S) (is : IsCourse course) (slots id : �
   takes has_share ready_last free empty s (turn, kept) homes at small = (
     next,
     takes_all before_x (course.touches x),
-    takes-valid before_x (course.touches x) s.homes me.1 (at_home has_share ready_last free s turn kept at) (λ k. is.once x k (within has_share ready_last free s turn kept at)),
+    takes-valid before_x (course.touches x) s.homes me.1 (at_home has_share ready_last free s turn kept at)
+        (λ k. is.once x k (within has_share ready_last free s turn kept at)),
     (
       turn,
       record {
@@ -175,8 +187,16 @@ module _ {S W : Type 0} (course : Course S) (is : IsCourse course) (slots id : �
         passes = kept_passes has_share ready_last free s turn kept at;
         homes = kept_homes has_share ready_last free s turn kept at me.1;
         holders = each-set (Holds course turn) s.views id next (holds_next has_share ready_last free s turn kept at) kept.holders;
-        idle = each-set Idle s.views id next (record { nothing_ready = λ none. absurd (omega arith); nothing_taken = λ none. absurd (omega arith); nothing_held = λ none. absurd (omega arith) }) kept.idle;
+        idle = each-set Idle s.views id next (record {
+          nothing_ready = λ none. absurd (omega arith);
+          nothing_taken = λ none. absurd (omega arith);
+          nothing_held = λ none. absurd (omega arith);
+        }) kept.idle;
       },
     ),
-    (ap (λ c. (next, c)) (carried-all before_x (course.touches x) me.1 ∙ ap (λ c. pairs before_x (course.touches x) ++ c) empty ∙ append-nil (pairs before_x (course.touches x))), none_taken has_share ready_last free s turn kept at),
+    (
+      ap (λ c. (next, c)) (carried-all before_x (course.touches x) me.1 ∙ ap (λ c. pairs before_x (course.touches x) ++ c) empty
+          ∙ append-nil (pairs before_x (course.touches x))),
+      none_taken has_share ready_last free s turn kept at,
+    ),
   )

@@ -11,10 +11,7 @@ use std::alloc::Global;
 
 /// For each item, from the last one, the next items of its slots; and for each slot the first one. The count of
 /// items stands for none.
-pub(crate) fn queues<W: Course>(
-    alloc: Global,
-    work: &W,
-) -> Result<(Lists<u32>, Vec<u32>), Memory>
+pub(crate) fn queues<W: Course>(alloc: Global, work: &W) -> Result<(Lists<u32>, Vec<u32>), Memory>
     requires { IsCourse (W.plan work.now) }
     ensures nexts { IfOk result (λ r. AreNexts (W.plan work.now) 0 r.0) }
     ensures firsts { IfOk result (λ r. AreFirsts (W.plan work.now) 0 r.1.items) }

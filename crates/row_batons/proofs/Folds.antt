@@ -35,29 +35,34 @@ below (y ∷ ys) zero x at = omega arith
 below (y ∷ ys) (suc i) x at = let rest = below ys i x at in omega arith
 
 -- a key stands among the keys, or none is it
-pub stands : {K : Type 0} {R : K → K → Ordering} (anti : IsAntisymmetric R) (keys : List K) (q : K) → is_among R keys q ≡ true → (k : ℕ) × (get_elem? keys k ≡ some q)
+pub stands : {K : Type 0} {R : K → K → Ordering} (anti : IsAntisymmetric R) (keys : List K) (q : K) → is_among R keys q ≡ true
+    → (k : ℕ) × (get_elem? keys k ≡ some q)
 stands anti [] q among = absurd (true≢false (sym among))
-stands {R = R} anti (key ∷ keys) q among = elim (eq_by_cmp R q key) as (λ b. eq_by_cmp R q key ≡ b → (b || is_among R keys q) ≡ true → (k : ℕ) × (get_elem? (key ∷ keys) k ≡ some q)) [
-  | true ↦ λ same _. (zero, ap some (sym (same_key anti q key same)))
-  | false ↦ λ other rest. let at = stands anti keys q rest in (suc at.0, at.1)
-] refl among
+stands {R = R} anti (key ∷ keys) q among = elim (eq_by_cmp R q key) as (λ b. eq_by_cmp R q key ≡ b → (b || is_among R keys q) ≡ true
+    → (k : ℕ) × (get_elem? (key ∷ keys) k ≡ some q)) [
+      | true ↦ λ same _. (zero, ap some (sym (same_key anti q key same)))
+      | false ↦ λ other rest. let at = stands anti keys q rest in (suc at.0, at.1)
+    ] refl among
 
 module _ {K : Type 0} {R : K → K → Ordering} (o : IsTotalOrder R) where
   pub among_at : (ks : List K) (k : ℕ) (p : K) → get_elem? ks k ≡ some p → is_among R ks p ≡ true
   among_at [] k p at = absurd (some-ne-none p (sym at))
-  among_at (y ∷ ys) zero p at = ap (λ (z : K). eq_by_cmp R p z || is_among R ys p) (some-injective y p at) ∙ ap (λ b. b || is_among R ys p) ((eq_by_cmp_equiv o).refl p)
+  among_at (y ∷ ys) zero p at = ap (λ (z : K). eq_by_cmp R p z || is_among R ys p) (some-injective y p at)
+      ∙ ap (λ b. b || is_among R ys p) ((eq_by_cmp_equiv o).refl p)
   among_at (y ∷ ys) (suc k) p at = elim (eq_by_cmp R p y) as (λ b. (b || is_among R ys p) ≡ true) [ true ↦ refl | false ↦ among_at ys k p at ]
 
 -- rows of a database are found in it
 found_row : {K V : Type 0} {R : K → K → Ordering} (anti : IsAntisymmetric R) (m : FinMap R V) (ps : List (K × Option V)) (q : K)
     → ((k : ℕ) (p : K × Option V) → get_elem? ps k ≡ some p → p.1 ≡ fin.get m p.0) → is_among R (keys_of ps) q ≡ true → find R q ps ≡ Some (fin.get m q)
 found_row anti m [] q rows among = absurd (true≢false (sym among))
-found_row {R = R} anti m (p ∷ ps) q rows among = elim (eq_by_cmp R q p.0) as (λ b. eq_by_cmp R q p.0 ≡ b → (b || is_among R (keys_of ps) q) ≡ true → cond b (Some p.1) (find R q ps) ≡ Some (fin.get m q)) [
-  | true ↦ λ same _. ap Some (rows zero p refl ∙ ap (fin.get m) (sym (same_key anti q p.0 same)))
-  | false ↦ λ _ rest. found_row anti m ps q (λ k p at. rows (suc k) p at) rest
-] refl among
+found_row {R = R} anti m (p ∷ ps) q rows among = elim (eq_by_cmp R q p.0) as (λ b. eq_by_cmp R q p.0 ≡ b → (b || is_among R (keys_of ps) q) ≡ true
+    → cond b (Some p.1) (find R q ps) ≡ Some (fin.get m q)) [
+      | true ↦ λ same _. ap Some (rows zero p refl ∙ ap (fin.get m) (sym (same_key anti q p.0 same)))
+      | false ↦ λ _ rest. found_row anti m ps q (λ k p at. rows (suc k) p at) rest
+    ] refl among
 
-module _ {K V W A : Type 0} {R : K → K → Ordering} (o : IsTotalOrder R) (anti : IsAntisymmetric R) (is_done : A → Bool) (declared_of : W → Declared K) (tree : W → Tree K V A) where
+module _ {K V W A : Type 0} {R : K → K → Ordering} (o : IsTotalOrder R) (anti : IsAntisymmetric R) (is_done : A → Bool) (declared_of : W → Declared K)
+    (tree : W → Tree K V A) where
   -- what the next place finds
   pub found_next : (db : FinMap R V) (ws : List W) (x : ℕ) (w : W) → get_elem? ws x ≡ some w
       → found_at is_done declared_of tree db ws (suc x) ≡ late_map is_done (declared_of w) (tree w) (found_at is_done declared_of tree db ws x)
@@ -66,10 +71,12 @@ module _ {K V W A : Type 0} {R : K → K → Ordering} (o : IsTotalOrder R) (ant
   found_next db (v ∷ ws) (suc x) w at = found_next (late_map is_done (declared_of v) (tree v) db) ws x w at
 
   -- a late run leaves alone what it may not write
-  pub left_alone : (db : FinMap R V) (w : W) (q : K) → may_write R (declared_of w) q ≡ false → fin.get (late_map is_done (declared_of w) (tree w) db) q ≡ fin.get db q
+  pub left_alone : (db : FinMap R V) (w : W) (q : K) → may_write R (declared_of w) q ≡ false
+      → fin.get (late_map is_done (declared_of w) (tree w) db) q ≡ fin.get db q
   left_alone db w q not =
       ap (λ m. fin.get m q) (late_map-is o anti is_done (declared_of w) (tree w) db)
-      ∙ get-apart o anti db (late_rows is_done (declared_of w) (tree w) db) q (false_from_ne_true _ (λ among. true≢false (sym (late_keys o anti is_done (declared_of w) (tree w) db q among) ∙ not)))
+      ∙ get-apart o anti db (late_rows is_done (declared_of w) (tree w) db) q
+      (false_from_ne_true _ (λ among. true≢false (sym (late_keys o anti is_done (declared_of w) (tree w) db q among) ∙ not)))
 
   -- a key that no request may write has its first row all the while
   pub untouched : (db : FinMap R V) (ws : List W) (q : K) → ((x : ℕ) (w : W) → get_elem? ws x ≡ some w → may_write R (declared_of w) q ≡ false)
@@ -86,13 +93,15 @@ module _ {K V W A : Type 0} {R : K → K → Ordering} (o : IsTotalOrder R) (ant
 
     frame : (x k : ℕ) → x < length ws → times k (touches x) ≡ 0
         → row_at (found_at is_done declared_of tree db ws (suc x)) (get_elem? keys k) ≡ row_at (found_at is_done declared_of tree db ws x) (get_elem? keys k)
-    frame x k lt apart = elim (get_elem? keys k) as (λ s. get_elem? keys k ≡ s → row_at (found_at is_done declared_of tree db ws (suc x)) s ≡ row_at (found_at is_done declared_of tree db ws x) s) [
-      | none ↦ λ _. refl
-      | some q ↦ λ at.
-          let w = there ws x lt in
-          let not : may_write R (declared_of w.0) q ≡ false = false_from_ne_true _ (λ may. absurd (let touched = laid.read x k w.0 q w.1 (may_read_too w.0 q may) at in omega arith)) in
-          ap (λ m. fin.get m q) (found_next db ws x w.0 w.1) ∙ left_alone (found_at is_done declared_of tree db ws x) w.0 q not
-    ] refl
+    frame x k lt apart = elim (get_elem? keys k) as (λ s. get_elem? keys k ≡ s
+        → row_at (found_at is_done declared_of tree db ws (suc x)) s ≡ row_at (found_at is_done declared_of tree db ws x) s) [
+          | none ↦ λ _. refl
+          | some q ↦ λ at.
+              let w = there ws x lt in
+              let not : may_write R (declared_of w.0) q ≡ false =
+              false_from_ne_true _ (λ may. absurd (let touched = laid.read x k w.0 q w.1 (may_read_too w.0 q may) at in omega arith)) in
+              ap (λ m. fin.get m q) (found_next db ws x w.0 w.1) ∙ left_alone (found_at is_done declared_of tree db ws x) w.0 q not
+        ] refl
 
     -- the waiting requests are a course
     pub is_course : IsCourse (course_of is_done declared_of tree db ws keys touches)
@@ -103,55 +112,69 @@ module _ {K V W A : Type 0} {R : K → K → Ordering} (o : IsTotalOrder R) (ant
         → ((k : ℕ) (q : K) → 1 ≤ times k (touches x) → get_elem? keys k ≡ some q → fin.get m q ≡ fin.get (found_at is_done declared_of tree db ws x) q)
         → ((q : K) → is_among R keys q ≡ false → fin.get m q ≡ fin.get db q)
         → AgreeWithin (declared_of w) m (found_at is_done declared_of tree db ws x)
-    enough x w m at handed else q may = elim (is_among R keys q) as (λ b. is_among R keys q ≡ b → fin.get m q ≡ fin.get (found_at is_done declared_of tree db ws x) q) [
-      | true ↦ λ among. let k = stands anti keys q among in handed k.0 q (laid.read x k.0 w q at may k.1) k.1
-      | false ↦ λ apart.
-          else q apart
-          ∙ sym (untouched db ws q (λ y v there_. false_from_ne_true _ (λ may_write_. absurd (true≢false (sym (laid.written y v q there_ may_write_) ∙ apart)))) x)
-    ] refl
+    enough x w m at handed else q may = elim (is_among R keys q) as (λ b. is_among R keys q ≡ b
+        → fin.get m q ≡ fin.get (found_at is_done declared_of tree db ws x) q) [
+          | true ↦ λ among. let k = stands anti keys q among in handed k.0 q (laid.read x k.0 w q at may k.1) k.1
+          | false ↦ λ apart.
+              else q apart
+              ∙ sym (untouched db ws q (λ y v there_. false_from_ne_true _
+              (λ may_write_. absurd (true≢false (sym (laid.written y v q there_ may_write_) ∙ apart)))) x)
+        ] refl
 
     -- The first database with the last rows of all slots written over it is what the late fold leaves.
-    pub left_is : (ps : List (K × Option V)) → keys_of ps ≡ keys → ((k : ℕ) (p : K × Option V) → get_elem? ps k ≡ some p → p.1 ≡ fin.get (late_left is_done declared_of tree db ws) p.0)
+    pub left_is : (ps : List (K × Option V)) → keys_of ps ≡ keys
+        → ((k : ℕ) (p : K × Option V) → get_elem? ps k ≡ some p → p.1 ≡ fin.get (late_left is_done declared_of tree db ws) p.0)
         → overwritten db ps ≡ late_left is_done declared_of tree db ws
-    left_is ps same rows = same_map o anti _ _ (λ q. get-overwritten o db ps q ∙ elim (is_among R (keys_of ps) q) as (λ b. is_among R (keys_of ps) q ≡ b → unwrap_or (find R q ps) (fin.get db q) ≡ fin.get (late_left is_done declared_of tree db ws) q) [
-      | true ↦ λ among. ap (λ (f : Option (Option V)). unwrap_or f (fin.get db q)) (found_row anti (late_left is_done declared_of tree db ws) ps q rows among)
-      | false ↦ λ apart.
-          ap (λ (f : Option (Option V)). unwrap_or f (fin.get db q)) (not_found R ps q apart)
-          ∙ sym (ap (λ l. fin.get (late_left is_done declared_of tree db l) q) (sym (take-length ws))
-          ∙ untouched db ws q (λ y v there_. false_from_ne_true _ (λ may_write_. absurd (true≢false (sym (laid.written y v q there_ may_write_) ∙ ap (λ ks. is_among R ks q) (sym same) ∙ apart)))) (length ws))
-    ] refl)
+    left_is ps same rows = same_map o anti _ _ (λ q. get-overwritten o db ps q
+        ∙ elim (is_among R (keys_of ps) q) as (λ b. is_among R (keys_of ps) q ≡ b
+        → unwrap_or (find R q ps) (fin.get db q) ≡ fin.get (late_left is_done declared_of tree db ws) q) [
+          | true ↦ λ among. ap (λ (f : Option (Option V)). unwrap_or f (fin.get db q)) (found_row anti (late_left is_done declared_of tree db ws) ps q rows among)
+          | false ↦ λ apart.
+              ap (λ (f : Option (Option V)). unwrap_or f (fin.get db q)) (not_found R ps q apart)
+              ∙ sym (ap (λ l. fin.get (late_left is_done declared_of tree db l) q) (sym (take-length ws))
+              ∙ untouched db ws q (λ y v there_. false_from_ne_true _
+              (λ may_write_. absurd (true≢false (sym (laid.written y v q there_ may_write_) ∙ ap (λ ks. is_among R ks q) (sym same) ∙ apart)))) (length ws))
+        ] refl)
 
   -- fates place by place are those of the fold
   pub fates_are : (db : FinMap R V) (ws : List W) (fates : List (Fate K A)) → length fates ≡ length ws
-      → ((x : ℕ) (w : W) (f : Fate K A) → get_elem? ws x ≡ some w → get_elem? fates x ≡ some f → f ≡ late_fate (declared_of w) (tree w) (found_at is_done declared_of tree db ws x))
+      → ((x : ℕ) (w : W) (f : Fate K A) → get_elem? ws x ≡ some w → get_elem? fates x ≡ some f
+      → f ≡ late_fate (declared_of w) (tree w) (found_at is_done declared_of tree db ws x))
       → fates ≡ late_fates is_done declared_of tree db ws
   fates_are db [] [] same each = refl
   fates_are db [] (f ∷ fs) same each = absurd (omega arith)
   fates_are db (w ∷ ws) [] same each = absurd (omega arith)
   fates_are db (w ∷ ws) (f ∷ fs) same each =
       ap (λ g. g ∷ fs) (each zero w f refl refl)
-      ∙ ap (λ gs. late_fate (declared_of w) (tree w) db ∷ gs) (fates_are (late_map is_done (declared_of w) (tree w) db) ws fs (omega arith) (λ x v g at at'. each (suc x) v g at at'))
+      ∙ ap (λ gs. late_fate (declared_of w) (tree w) db ∷ gs)
+      (fates_are (late_map is_done (declared_of w) (tree w) db) ws fs (omega arith) (λ x v g at at'. each (suc x) v g at at'))
 
-  module _ (db : FinMap R V) (ws : List W) (keys : List K) (touches : ℕ → List ℕ) (laid_out : IsLaidOut R declared_of ws keys touches) (x : ℕ) (w : W) (m : FinMap R V) (at : get_elem? ws x ≡ some w)
+  module _ (db : FinMap R V) (ws : List W) (keys : List K) (touches : ℕ → List ℕ) (laid_out : IsLaidOut R declared_of ws keys touches) (x : ℕ) (w : W)
+      (m : FinMap R V) (at : get_elem? ws x ≡ some w)
       (handed : (k : ℕ) (q : K) → 1 ≤ times k (touches x) → get_elem? keys k ≡ some q → fin.get m q ≡ fin.get (found_at is_done declared_of tree db ws x) q)
       (else : (q : K) → is_among R keys q ≡ false → fin.get m q ≡ fin.get db q) where
     same_run : (late_fate (declared_of w) (tree w) m ≡ late_fate (declared_of w) (tree w) (found_at is_done declared_of tree db ws x))
         × (late_rows is_done (declared_of w) (tree w) m ≡ late_rows is_done (declared_of w) (tree w) (found_at is_done declared_of tree db ws x))
-    same_run = late_agree o anti is_done (declared_of w) (tree w) m (found_at is_done declared_of tree db ws x) (enough db ws keys touches laid_out x w m at handed else)
+    same_run = late_agree o anti is_done (declared_of w) (tree w) m (found_at is_done declared_of tree db ws x)
+        (enough db ws keys touches laid_out x w m at handed else)
 
     -- what becomes of the request on the handed rows is what the fold says
     pub same_fate : late_fate (declared_of w) (tree w) m ≡ late_fate (declared_of w) (tree w) (found_at is_done declared_of tree db ws x)
     same_fate = same_run.0
 
     -- and so are the rows of its slots afterwards
-    pub same_rows : (k : ℕ) → 1 ≤ times k (touches x) → row_at (late_map is_done (declared_of w) (tree w) m) (get_elem? keys k) ≡ row_at (found_at is_done declared_of tree db ws (suc x)) (get_elem? keys k)
-    same_rows k touched = elim (get_elem? keys k) as (λ s. get_elem? keys k ≡ s → row_at (late_map is_done (declared_of w) (tree w) m) s ≡ row_at (found_at is_done declared_of tree db ws (suc x)) s) [
-      | none ↦ λ _. refl
-      | some q ↦ λ key.
-          ap (λ n. fin.get n q) (late_map-is o anti is_done (declared_of w) (tree w) m)
-          ∙ get-overwritten o m (late_rows is_done (declared_of w) (tree w) m) q
-          ∙ ap (λ l. unwrap_or (find R q l) (fin.get m q)) same_run.1
-          ∙ ap (unwrap_or (find R q (late_rows is_done (declared_of w) (tree w) (found_at is_done declared_of tree db ws x)))) (handed k q touched key)
-          ∙ sym (get-overwritten o (found_at is_done declared_of tree db ws x) (late_rows is_done (declared_of w) (tree w) (found_at is_done declared_of tree db ws x)) q)
-          ∙ sym (ap (λ n. fin.get n q) (found_next db ws x w at ∙ late_map-is o anti is_done (declared_of w) (tree w) (found_at is_done declared_of tree db ws x)))
-    ] refl
+    pub same_rows : (k : ℕ) → 1 ≤ times k (touches x) → row_at (late_map is_done (declared_of w) (tree w) m) (get_elem? keys k) ≡ row_at
+        (found_at is_done declared_of tree db ws (suc x)) (get_elem? keys k)
+    same_rows k touched = elim (get_elem? keys k) as (λ s. get_elem? keys k ≡ s
+        → row_at (late_map is_done (declared_of w) (tree w) m) s ≡ row_at (found_at is_done declared_of tree db ws (suc x)) s) [
+          | none ↦ λ _. refl
+          | some q ↦ λ key.
+              ap (λ n. fin.get n q) (late_map-is o anti is_done (declared_of w) (tree w) m)
+              ∙ get-overwritten o m (late_rows is_done (declared_of w) (tree w) m) q
+              ∙ ap (λ l. unwrap_or (find R q l) (fin.get m q)) same_run.1
+              ∙ ap (unwrap_or (find R q (late_rows is_done (declared_of w) (tree w) (found_at is_done declared_of tree db ws x)))) (handed k q touched key)
+              ∙ sym (get-overwritten o (found_at is_done declared_of tree db ws x)
+              (late_rows is_done (declared_of w) (tree w) (found_at is_done declared_of tree db ws x)) q)
+              ∙ sym (ap (λ n. fin.get n q) (found_next db ws x w at
+              ∙ late_map-is o anti is_done (declared_of w) (tree w) (found_at is_done declared_of tree db ws x)))
+        ] refl

@@ -26,7 +26,8 @@ all_under P f xs all i d lt = subst P (get_or-map f xs i d (f d) lt) (all i (f d
 
 -- ---- those of a batch
 
-module _ (sheet : Sheet) (tids : List ℕ) (waiting : List Waiting) (stand : StandFor sheet tids waiting) (is : IsSheet sheet) (are : All (λ tid. IsTid sheet tid) tids) where
+module _ (sheet : Sheet) (tids : List ℕ) (waiting : List Waiting) (stand : StandFor sheet tids waiting) (is : IsSheet sheet)
+    (are : All (λ tid. IsTid sheet tid) tids) where
   at_tids : map (reads_at sheet) tids ≡ map (λ w. map stand.number w.declared.reads) waiting
   at_tids =
       sym (map-map (λ d. d.reads) (numbers_at sheet) tids)
@@ -39,7 +40,8 @@ module _ (sheet : Sheet) (tids : List ℕ) (waiting : List Waiting) (stand : Sta
       ∙ ap (map (λ d. d.writes)) stand.lists
       ∙ map-map (λ d. d.writes) (numbers_in stand.number) waiting
 
-  pub batch_numbers : (reads writes : List (List ℕ)) (count : ℕ) → reads ≡ map (reads_at sheet) tids → writes ≡ map (writes_at sheet) tids → count ≡ sheet.keys → AreNumbersOf reads writes count waiting
+  pub batch_numbers : (reads writes : List (List ℕ)) (count : ℕ) → reads ≡ map (reads_at sheet) tids → writes ≡ map (writes_at sheet) tids → count ≡ sheet.keys
+      → AreNumbersOf reads writes count waiting
   batch_numbers reads writes count reads_are writes_are count_is = record {
     keys = stand.keys;
     number = stand.number;
@@ -52,7 +54,8 @@ module _ (sheet : Sheet) (tids : List ℕ) (waiting : List Waiting) (stand : Sta
     writes_below = below writes (writes_at sheet) writes_are (λ tid low high. is.writes_below (tid - 1) [] (let same = is.same in omega arith));
   }
     where
-      below : (lists : List (List ℕ)) (at : ℕ → List ℕ) → lists ≡ map at tids → ((tid : ℕ) → 1 ≤ tid → tid ≤ length sheet.reads → All (λ n. n < sheet.keys) (at tid)) → AllBelow count lists
+      below : (lists : List (List ℕ)) (at : ℕ → List ℕ) → lists ≡ map at tids
+          → ((tid : ℕ) → 1 ≤ tid → tid ≤ length sheet.reads → All (λ n. n < sheet.keys) (at tid)) → AllBelow count lists
       below lists at same each = subst (λ (m : ℕ). AllBelow m lists) (sym count_is) (subst (AllBelow sheet.keys) (sym same)
           (All-map (λ list. All (λ n. n < sheet.keys) list) at tids (λ i d lt. let tid = are i d lt in each (get_or tids i d) tid.0 tid.1)))
 
@@ -70,19 +73,26 @@ module _ (waiting : List Waiting) where
   abbrev all : Numbers
   all = with_waiting fin.empty waiting
 
-  pub keyed_numbers : (reads writes : List (List ℕ)) (count : ℕ) → reads ≡ read_numbers all waiting → writes ≡ write_numbers all waiting → count ≡ fin.len all → AreNumbersOf reads writes count waiting
+  pub keyed_numbers : (reads writes : List (List ℕ)) (count : ℕ) → reads ≡ read_numbers all waiting → writes ≡ write_numbers all waiting → count ≡ fin.len all
+      → AreNumbersOf reads writes count waiting
   keyed_numbers reads writes count reads_are writes_are count_is =
       let are = are_sets (map sets_of waiting) fin.empty AreNumbers-empty in
       record {
         keys = fin.keys all;
         number = number_in all;
         one_to_one = one_to_one all are;
-        reads_among = all_under (λ (s : Sets). All (λ k. is_among key_cmp (fin.keys all) k ≡ true) s.reads) sets_of waiting (reads_among fin.empty (map sets_of waiting));
-        writes_among = all_under (λ (s : Sets). All (λ k. is_among key_cmp (fin.keys all) k ≡ true) s.writes) sets_of waiting (writes_among fin.empty (map sets_of waiting));
+        reads_among = all_under (λ (s : Sets). All (λ k. is_among key_cmp (fin.keys all) k ≡ true) s.reads) sets_of waiting
+            (reads_among fin.empty (map sets_of waiting));
+        writes_among = all_under (λ (s : Sets). All (λ k. is_among key_cmp (fin.keys all) k ≡ true) s.writes) sets_of waiting
+            (writes_among fin.empty (map sets_of waiting));
         reads_are = reads_are;
         writes_are = writes_are;
-        reads_below = subst (λ (m : ℕ). AllBelow m reads) (sym count_is) (subst (AllBelow (fin.len all)) (sym (reads_are ∙ sym (map-map (λ (s : Sets). map (number_in all) s.reads) sets_of waiting))) (reads_below fin.empty all (map sets_of waiting) refl are));
-        writes_below = subst (λ (m : ℕ). AllBelow m writes) (sym count_is) (subst (AllBelow (fin.len all)) (sym (writes_are ∙ sym (map-map (λ (s : Sets). map (number_in all) s.writes) sets_of waiting))) (writes_below fin.empty all (map sets_of waiting) refl are));
+        reads_below = subst (λ (m : ℕ). AllBelow m reads) (sym count_is)
+            (subst (AllBelow (fin.len all)) (sym (reads_are ∙ sym (map-map (λ (s : Sets). map (number_in all) s.reads) sets_of waiting)))
+            (reads_below fin.empty all (map sets_of waiting) refl are));
+        writes_below = subst (λ (m : ℕ). AllBelow m writes) (sym count_is)
+            (subst (AllBelow (fin.len all)) (sym (writes_are ∙ sym (map-map (λ (s : Sets). map (number_in all) s.writes) sets_of waiting)))
+            (writes_below fin.empty all (map sets_of waiting) refl are));
       }
 
 -- a list that begins with these has the same numbers by the end
@@ -93,7 +103,8 @@ pub same_key_at_end : (m final : Numbers) (k : Key) → Keeps (with_key m k) fin
 same_key_at_end m final k keeps = same_number (with_key m k) final k keeps (has_key m k)
 
 -- one key more has its number
-pub one_key : (m m' final : Numbers) (keys : List Key) (i : ℕ) (key : Key) (list list' whole : List ℕ) (n : ℕ) → i < length keys → key ≡ get_or keys i key → m' ≡ with_key m key → n ≡ number_in (with_key m key) key
+pub one_key : (m m' final : Numbers) (keys : List Key) (i : ℕ) (key : Key) (list list' whole : List ℕ) (n : ℕ) → i < length keys → key ≡ get_or keys i key
+    → m' ≡ with_key m key → n ≡ number_in (with_key m key) key
     → list' ≡ list ++ n ∷ [] → with_keys m (drop i keys) ≡ final → list ++ map (number_in final) (drop i keys) ≡ whole
     → (with_keys m' (drop (i + 1) keys) ≡ final) × (list' ++ map (number_in final) (drop (i + 1) keys) ≡ whole)
 one_key m m' final keys i key list list' whole n lt at is number grown before so_far =
@@ -104,18 +115,22 @@ one_key m m' final keys i key list list' whole n lt at is number grown before so
     let same : n ≡ number_in final key = number ∙ same_key_at_end m final key (subst (Keeps (with_key m key)) end (keeps_keys (with_key m key) rest)) in (
       ap (λ z. with_keys z rest) is ∙ end,
       ap (λ l. l ++ map (number_in final) rest) grown
-      ∙ append_assoc list (n ∷ []) (map (number_in final) rest)
-      ∙ ap (λ (k : ℕ). list ++ k ∷ map (number_in final) rest) same
-      ∙ ap (λ l. list ++ map (number_in final) l) (sym cut)
-      ∙ so_far,
+          ∙ append_assoc list (n ∷ []) (map (number_in final) rest)
+          ∙ ap (λ (k : ℕ). list ++ k ∷ map (number_in final) rest) same
+          ∙ ap (λ l. list ++ map (number_in final) l) (sym cut)
+          ∙ so_far,
     )
 
 -- and so have those of one request more
-pub one_request : (m m1 m2 final : Numbers) (ws : List Waiting) (i : ℕ) (w : Waiting) (reads reads' writes writes' : List (List ℕ)) → i < length ws → w ≡ get_or ws i w
+pub one_request : (m m1 m2 final : Numbers) (ws : List Waiting) (i : ℕ) (w : Waiting) (reads reads' writes writes' : List (List ℕ)) → i < length ws
+    → w ≡ get_or ws i w
     → m1 ≡ with_keys m w.declared.reads → m2 ≡ with_keys m1 w.declared.writes
-    → reads' ≡ reads ++ map (number_in (with_keys m w.declared.reads)) w.declared.reads ∷ [] → writes' ≡ writes ++ map (number_in (with_keys m1 w.declared.writes)) w.declared.writes ∷ []
-    → with_waiting m (drop i ws) ≡ final → reads ++ read_numbers final (drop i ws) ≡ read_numbers final ws → writes ++ write_numbers final (drop i ws) ≡ write_numbers final ws
-    → (with_waiting m2 (drop (i + 1) ws) ≡ final) × (reads' ++ read_numbers final (drop (i + 1) ws) ≡ read_numbers final ws) × (writes' ++ write_numbers final (drop (i + 1) ws) ≡ write_numbers final ws)
+    → reads' ≡ reads ++ map (number_in (with_keys m w.declared.reads)) w.declared.reads ∷ []
+    → writes' ≡ writes ++ map (number_in (with_keys m1 w.declared.writes)) w.declared.writes ∷ []
+    → with_waiting m (drop i ws) ≡ final → reads ++ read_numbers final (drop i ws) ≡ read_numbers final ws
+    → writes ++ write_numbers final (drop i ws) ≡ write_numbers final ws
+    → (with_waiting m2 (drop (i + 1) ws) ≡ final) × (reads' ++ read_numbers final (drop (i + 1) ws) ≡ read_numbers final ws)
+    × (writes' ++ write_numbers final (drop (i + 1) ws) ≡ write_numbers final ws)
 one_request m m1 m2 final ws i w reads reads' writes writes' lt at is1 is2 read written before reads_so_far writes_so_far =
     let e : suc i ≡ i + 1 = omega arith in
     let rest = drop (i + 1) ws in
@@ -128,15 +143,15 @@ one_request m m1 m2 final ws i w reads reads' writes writes' lt at is1 is2 read 
     let written_here = written ∙ ap (λ z. writes ++ map (number_in (with_keys z w.declared.writes)) w.declared.writes ∷ []) is1 in (
       ap (λ z. with_waiting z rest) (is2 ∙ ap (λ z. with_keys z w.declared.writes) is1) ∙ end,
       ap (λ l. l ++ read_numbers final rest) read
-      ∙ append_assoc reads (map (number_in mid) w.declared.reads ∷ []) (read_numbers final rest)
-      ∙ ap (λ (l : List ℕ). reads ++ l ∷ read_numbers final rest) (same_at_end m final w.declared.reads first)
-      ∙ ap (λ l. reads ++ read_numbers final l) (sym cut)
-      ∙ reads_so_far,
+          ∙ append_assoc reads (map (number_in mid) w.declared.reads ∷ []) (read_numbers final rest)
+          ∙ ap (λ (l : List ℕ). reads ++ l ∷ read_numbers final rest) (same_at_end m final w.declared.reads first)
+          ∙ ap (λ l. reads ++ read_numbers final l) (sym cut)
+          ∙ reads_so_far,
       ap (λ l. l ++ write_numbers final rest) written_here
-      ∙ append_assoc writes (map (number_in both) w.declared.writes ∷ []) (write_numbers final rest)
-      ∙ ap (λ (l : List ℕ). writes ++ l ∷ write_numbers final rest) (same_at_end mid final w.declared.writes behind)
-      ∙ ap (λ l. writes ++ write_numbers final l) (sym cut)
-      ∙ writes_so_far,
+          ∙ append_assoc writes (map (number_in both) w.declared.writes ∷ []) (write_numbers final rest)
+          ∙ ap (λ (l : List ℕ). writes ++ l ∷ write_numbers final rest) (same_at_end mid final w.declared.writes behind)
+          ∙ ap (λ l. writes ++ write_numbers final l) (sym cut)
+          ∙ writes_so_far,
     )
 
 -- ---- how many entries a map has

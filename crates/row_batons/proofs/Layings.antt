@@ -72,7 +72,8 @@ module _ (ws : List Waiting) (reads writes : List (List ℕ)) (count : ℕ) (are
   steps : AreSteps are.keys are.number are.one_to_one (no_slots count) all ws
   steps = subst (λ l. AreSteps are.keys are.number are.one_to_one (no_slots count) (all_with_slots (no_slots count) ws l) ws) (sym are.writes_are)
       (all_steps are.keys are.number are.one_to_one ws (no_slots count) (none_tells are.keys are.number are.one_to_one count) are.writes_among
-      (subst (λ (m : ℕ). Rattle.dep_rules.specs.Sheets.AllBelow m (map written ws)) (sym (replicate-length count None)) (subst (Rattle.dep_rules.specs.Sheets.AllBelow count) are.writes_are are.writes_below)))
+      (subst (λ (m : ℕ). Rattle.dep_rules.specs.Sheets.AllBelow m (map written ws)) (sym (replicate-length count None))
+      (subst (Rattle.dep_rules.specs.Sheets.AllBelow count) are.writes_are are.writes_below)))
 
   module _ (s : Slotted) (is : s ≡ all) where
     tells : Tells are.keys are.number are.one_to_one s
@@ -88,7 +89,8 @@ module _ (ws : List Waiting) (reads writes : List (List ℕ)) (count : ℕ) (are
 
     written_slot : (x : ℕ) (w : Waiting) (q : Key) → get_elem? ws x ≡ some w → is_among key_cmp w.declared.writes q ≡ true → HasSlot s (are.number q)
     written_slot x w q at among = subst (λ z. HasSlot z (are.number q)) (sym is)
-        (all_at (HasSlot all) are.number w.declared.writes (subst (λ (v : Waiting). All (HasSlot all) (written v)) (get_or_there ws x w w at) (steps.have x w (length_there ws x w at))) q among)
+        (all_at (HasSlot all) are.number w.declared.writes (subst (λ (v : Waiting). All (HasSlot all) (written v)) (get_or_there ws x w w at)
+        (steps.have x w (length_there ws x w at))) q among)
 
     module _ (touches : List (List ℕ)) (touch : AreTouches s.table (length s.keys) reads writes touches (length reads)) where
       at_place : (x : ℕ) → x < length ws → IsTouch s.table (length s.keys) (get_or reads x []) (get_or writes x []) (get_or touches x [])
@@ -97,12 +99,14 @@ module _ (ws : List Waiting) (reads writes : List (List ℕ)) (count : ℕ) (are
       of_read : (x : ℕ) (w : Waiting) → get_elem? ws x ≡ some w → AllTouched s.table (read w) (get_or touches x [])
       of_read x w at =
           let lt = length_there ws x w at in
-          subst (λ l. AllTouched s.table l (get_or touches x [])) (ap (λ l. get_or l x []) are.reads_are ∙ get_or-map read ws x w [] lt ∙ ap read (get_or_there ws x w w at)) (at_place x lt).reads_touched
+          subst (λ l. AllTouched s.table l (get_or touches x [])) (ap (λ l. get_or l x []) are.reads_are ∙ get_or-map read ws x w [] lt
+          ∙ ap read (get_or_there ws x w w at)) (at_place x lt).reads_touched
 
       of_written : (x : ℕ) (w : Waiting) → get_elem? ws x ≡ some w → AllTouched s.table (written w) (get_or touches x [])
       of_written x w at =
           let lt = length_there ws x w at in
-          subst (λ l. AllTouched s.table l (get_or touches x [])) (ap (λ l. get_or l x []) are.writes_are ∙ get_or-map written ws x w [] lt ∙ ap written (get_or_there ws x w w at)) (at_place x lt).writes_touched
+          subst (λ l. AllTouched s.table l (get_or touches x [])) (ap (λ l. get_or l x []) are.writes_are ∙ get_or-map written ws x w [] lt
+          ∙ ap written (get_or_there ws x w w at)) (at_place x lt).writes_touched
 
       pub laid_out : length ws ≤ 10000 → IsLaidOut key_cmp (λ w. touchable w.declared) ws s.keys (touches_in touches)
       laid_out few = record {
@@ -112,11 +116,15 @@ module _ (ws : List Waiting) (reads writes : List (List ℕ)) (count : ℕ) (are
         written = λ x w q at may.
             let slot = written_slot x w q at may in
             let there = tells.there (are.number q) slot.0 slot.1 in
-            let known = all_keys are.keys w.declared.writes (subst (λ (v : Waiting). All (Known are.keys are.number are.one_to_one) v.declared.writes) (get_or_there ws x w w at) (are.writes_among x w (length_there ws x w at))) q may in
+            let known = all_keys are.keys w.declared.writes
+            (subst (λ (v : Waiting). All (Known are.keys are.number are.one_to_one) v.declared.writes) (get_or_there ws x w w at)
+            (are.writes_among x w (length_there ws x w at))) q may in
             let same : there.0 ≡ q = same_of are.keys are.number are.one_to_one there.0 q (tells.among slot.0 there.0 there.1) known there.2 in
             among_at key_cmp_total s.keys slot.0 q (there.1 ∙ ap some same);
         read = λ x k w q at may key. either_or (is_among key_cmp w.declared.reads q) (is_among key_cmp w.declared.writes q) may
-            (λ among. all_at (λ n. (j : ℕ) → slot_in s.table n ≡ Some j → 1 ≤ times j (get_or touches x [])) are.number w.declared.reads (of_read x w at) q among k (tells.at k q key))
-            (λ among. all_at (λ n. (j : ℕ) → slot_in s.table n ≡ Some j → 1 ≤ times j (get_or touches x [])) are.number w.declared.writes (of_written x w at) q among k (tells.at k q key));
+            (λ among. all_at (λ n. (j : ℕ) → slot_in s.table n ≡ Some j → 1 ≤ times j (get_or touches x [])) are.number w.declared.reads
+            (of_read x w at) q among k (tells.at k q key))
+            (λ among. all_at (λ n. (j : ℕ) → slot_in s.table n ≡ Some j → 1 ≤ times j (get_or touches x [])) are.number w.declared.writes
+            (of_written x w at) q among k (tells.at k q key));
         apart = λ j k q at at'. some_same j k (sym (tells.at j q at) ∙ tells.at k q at');
       }

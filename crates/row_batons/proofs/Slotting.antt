@@ -26,7 +26,8 @@ some_same : (m n : ℕ) → Some m ≡ Some n → m ≡ n
 some_same m n e = ap (λ o. unwrap_or o 0) e
 
 -- what stands at a place of a list with one item more
-at_snoc : (keys : List Key) (key : Key) (j : ℕ) (q : Key) → get_elem? (keys ++ key ∷ []) j ≡ some q → (get_elem? keys j ≡ some q) ⊎ ((key ≡ q) × (j ≡ length keys))
+at_snoc : (keys : List Key) (key : Key) (j : ℕ) (q : Key) → get_elem? (keys ++ key ∷ []) j ≡ some q
+    → (get_elem? keys j ≡ some q) ⊎ ((key ≡ q) × (j ≡ length keys))
 at_snoc [] key zero q at = inr (some-injective key q at, refl)
 at_snoc [] key (suc j) q at = absurd (some-ne-none q (sym at))
 at_snoc (k ∷ keys) key zero q at = inl at
@@ -101,20 +102,23 @@ module _ (keys : List Key) (number : Key → ℕ) (one : IsOneToOneOn key_cmp ke
     }
 
   one_step : (s : Slotted) (key : Key) → Tells s → Known key → number key < length s.table → IsStep s (with_slot s key (number key)) (number key ∷ [])
-  one_step s key tells known lt = elim (slot_in s.table (number key)) as (λ o. slot_in s.table (number key) ≡ o → IsStep s (with_slot_by o s key (number key)) (number key ∷ [])) [
-    | None ↦ λ none. one_more s key tells known lt none
-    | Some k ↦ λ at. record { tells = tells; same = refl; stays = λ n j is. is; have = All-cons (HasSlot s) (number key) [] (k, at) (All-nil (HasSlot s)) }
-  ] refl
+  one_step s key tells known lt = elim (slot_in s.table (number key)) as (λ o. slot_in s.table (number key) ≡ o
+      → IsStep s (with_slot_by o s key (number key)) (number key ∷ [])) [
+        | None ↦ λ none. one_more s key tells known lt none
+        | Some k ↦ λ at. record { tells = tells; same = refl; stays = λ n j is. is; have = All-cons (HasSlot s) (number key) [] (k, at) (All-nil (HasSlot s)) }
+      ] refl
 
   abbrev AllLess : ℕ → List ℕ → Type 0
   AllLess m numbers = All (λ n. n < m) numbers
 
-  steps : (ks : List Key) (s : Slotted) → Tells s → All Known ks → AllLess (length s.table) (map number ks) → IsStep s (with_slots s ks (map number ks)) (map number ks)
+  steps : (ks : List Key) (s : Slotted) → Tells s → All Known ks → AllLess (length s.table) (map number ks)
+      → IsStep s (with_slots s ks (map number ks)) (map number ks)
   steps [] s tells known below = record { tells = tells; same = refl; stays = λ n k at. at; have = All-nil (HasSlot s) }
   steps (key ∷ ks) s tells known below =
       let first = one_step s key tells (All-head Known key ks known) (All-head (λ n. n < length s.table) (number key) (map number ks) below) in
       let s1 = with_slot s key (number key) in
-      let rest = steps ks s1 first.tells (All-tail Known key ks known) (subst (λ m. AllLess m (map number ks)) (sym first.same) (All-tail (λ n. n < length s.table) (number key) (map number ks) below)) in
+      let rest = steps ks s1 first.tells (All-tail Known key ks known)
+      (subst (λ m. AllLess m (map number ks)) (sym first.same) (All-tail (λ n. n < length s.table) (number key) (map number ks) below)) in
       let end = with_slots s1 ks (map number ks) in
       let has = All-head (HasSlot s1) (number key) [] first.have in
       record {
@@ -132,19 +136,22 @@ module _ (keys : List Key) (number : Key → ℕ) (one : IsOneToOneOn key_cmp ke
     pub stays : Stays s s'
     pub have : All (λ w. All (HasSlot s') (numbers_of w)) ws
 
-  pub all_steps : (ws : List Waiting) (s : Slotted) → Tells s → HasKeysOf key_cmp keys (λ w. w.declared.writes) ws → AllBelow (length s.table) (map numbers_of ws)
+  pub all_steps : (ws : List Waiting) (s : Slotted) → Tells s → HasKeysOf key_cmp keys (λ w. w.declared.writes) ws
+      → AllBelow (length s.table) (map numbers_of ws)
       → AreSteps s (all_with_slots s ws (map numbers_of ws)) ws
   all_steps [] s tells known below = record { tells = tells; stays = λ n k at. at; have = All-nil (λ w. All (HasSlot s) (numbers_of w)) }
   all_steps (w ∷ ws) s tells known below =
-      let first = steps w.declared.writes s tells (All-head (λ (v : Waiting). All Known v.declared.writes) w ws known) (All-head (AllLess (length s.table)) (numbers_of w) (map numbers_of ws) below) in
+      let first = steps w.declared.writes s tells (All-head (λ (v : Waiting). All Known v.declared.writes) w ws known)
+      (All-head (AllLess (length s.table)) (numbers_of w) (map numbers_of ws) below) in
       let s1 = with_slots s w.declared.writes (numbers_of w) in
       let rest = all_steps ws s1 first.tells (All-tail (λ (v : Waiting). All Known v.declared.writes) w ws known)
-          (subst (λ m. AllBelow m (map numbers_of ws)) (sym first.same) (All-tail (AllLess (length s.table)) (numbers_of w) (map numbers_of ws) below)) in
+      (subst (λ m. AllBelow m (map numbers_of ws)) (sym first.same) (All-tail (AllLess (length s.table)) (numbers_of w) (map numbers_of ws) below)) in
       let end = all_with_slots s1 ws (map numbers_of ws) in
       record {
         tells = rest.tells;
         stays = λ n k at. rest.stays n k (first.stays n k at);
-        have = All-cons (λ v. All (HasSlot end) (numbers_of v)) w ws (λ i d lt. let has = first.have i d lt in (has.0, rest.stays (get_or (numbers_of w) i d) has.0 has.1)) rest.have;
+        have = All-cons (λ v. All (HasSlot end) (numbers_of v)) w ws
+            (λ i d lt. let has = first.have i d lt in (has.0, rest.stays (get_or (numbers_of w) i d) has.0 has.1)) rest.have;
       }
 
   -- where none has a slot, that is told too
@@ -183,32 +190,40 @@ every_same_length s (w ∷ ws) [] = refl
 every_same_length s (w ∷ ws) (list ∷ lists) = every_same_length (with_slots s w.declared.writes list) ws lists ∙ all_same_length s w.declared.writes list
 
 -- one key more
-pub one_slot : (s s' : Slotted) (keys : List Key) (numbers : List ℕ) (i j : ℕ) (key : Key) (n : ℕ) (end : Slotted) → i < length keys → length numbers ≡ length keys → j ≡ i → key ≡ get_or keys i key → n ≡ get_or numbers j 0
+pub one_slot : (s s' : Slotted) (keys : List Key) (numbers : List ℕ) (i j : ℕ) (key : Key) (n : ℕ) (end : Slotted) → i < length keys
+    → length numbers ≡ length keys → j ≡ i → key ≡ get_or keys i key → n ≡ get_or numbers j 0
     → s' ≡ with_slot s key n → with_slots s (drop i keys) (drop i numbers) ≡ end → with_slots s' (drop (i + 1) keys) (drop (i + 1) numbers) ≡ end
 one_slot s s' keys numbers i j key n end lt same here at is step before =
     let e : suc i ≡ i + 1 = omega arith in
     let cut : drop i keys ≡ key ∷ drop (i + 1) keys = drop-cons keys i key lt ∙ (λ p. sym at p ∷ drop (e p) keys) in
-    let cut_numbers : drop i numbers ≡ n ∷ drop (i + 1) numbers = drop-cons numbers i 0 (omega arith) ∙ (λ p. (sym (is ∙ ap (λ (k : ℕ). get_or numbers k 0) here)) p ∷ drop (e p) numbers) in
+    let cut_numbers : drop i numbers ≡ n ∷ drop (i + 1) numbers = drop-cons numbers i 0 (omega arith)
+    ∙ (λ p. (sym (is ∙ ap (λ (k : ℕ). get_or numbers k 0) here)) p ∷ drop (e p) numbers) in
     ap (λ z. with_slots z (drop (i + 1) keys) (drop (i + 1) numbers)) step
     ∙ sym (λ p. with_slots s (cut p) (cut_numbers p))
     ∙ before
 
 -- one request more
-pub one_request : (s s' : Slotted) (ws : List Waiting) (lists : List (List ℕ)) (i j : ℕ) (w : Waiting) (list : List ℕ) (end : Slotted) → i < length ws → AreAsMany lists ws → j ≡ i → w ≡ get_or ws i w → list ≡ get_or lists j []
-    → s' ≡ with_slots s w.declared.writes list → all_with_slots s (drop i ws) (drop i lists) ≡ end → all_with_slots s' (drop (i + 1) ws) (drop (i + 1) lists) ≡ end
+pub one_request : (s s' : Slotted) (ws : List Waiting) (lists : List (List ℕ)) (i j : ℕ) (w : Waiting) (list : List ℕ) (end : Slotted) → i < length ws
+    → AreAsMany lists ws → j ≡ i → w ≡ get_or ws i w → list ≡ get_or lists j []
+    → s' ≡ with_slots s w.declared.writes list → all_with_slots s (drop i ws) (drop i lists) ≡ end
+    → all_with_slots s' (drop (i + 1) ws) (drop (i + 1) lists) ≡ end
 one_request s s' ws lists i j w list end lt many here at is step before =
     let e : suc i ≡ i + 1 = omega arith in
     let each = many.each in
     let cut : drop i ws ≡ w ∷ drop (i + 1) ws = drop-cons ws i w lt ∙ (λ p. sym at p ∷ drop (e p) ws) in
-    let cut_lists : drop i lists ≡ list ∷ drop (i + 1) lists = drop-cons lists i [] (omega arith) ∙ (λ p. (sym (is ∙ ap (λ (k : ℕ). get_or lists k []) here)) p ∷ drop (e p) lists) in
+    let cut_lists : drop i lists ≡ list ∷ drop (i + 1) lists = drop-cons lists i [] (omega arith)
+    ∙ (λ p. (sym (is ∙ ap (λ (k : ℕ). get_or lists k []) here)) p ∷ drop (e p) lists) in
     ap (λ z. all_with_slots z (drop (i + 1) ws) (drop (i + 1) lists)) step
     ∙ sym (λ p. all_with_slots s (cut p) (cut_lists p))
     ∙ before
 
 -- a request's list has a number for each key, all of them below the count
-pub many_there : (ws : List Waiting) (lists : List (List ℕ)) (i j : ℕ) (w : Waiting) (list : List ℕ) → i < length ws → AreAsMany lists ws → j ≡ i → w ≡ get_or ws i w → list ≡ get_or lists j [] → length list ≡ length w.declared.writes
+pub many_there : (ws : List Waiting) (lists : List (List ℕ)) (i j : ℕ) (w : Waiting) (list : List ℕ) → i < length ws → AreAsMany lists ws → j ≡ i
+    → w ≡ get_or ws i w → list ≡ get_or lists j [] → length list ≡ length w.declared.writes
 many_there ws lists i j w list lt many here at is =
     ap length (is ∙ ap (λ (k : ℕ). get_or lists k []) here) ∙ many.many i w lt ∙ ap (λ (v : Waiting). length v.declared.writes) (sym at)
 
-pub list_there : (lists : List (List ℕ)) (count m j : ℕ) (list : List ℕ) → j < length lists → list ≡ get_or lists j [] → AllBelow count lists → m ≡ count → All (λ n. n < m) list
-list_there lists count m j list lt is all same = subst (λ (k : ℕ). All (λ n. n < k) list) (sym same) (subst (λ l. All (λ n. n < count) l) (sym is) (all j [] lt))
+pub list_there : (lists : List (List ℕ)) (count m j : ℕ) (list : List ℕ) → j < length lists → list ≡ get_or lists j [] → AllBelow count lists → m ≡ count
+    → All (λ n. n < m) list
+list_there lists count m j list lt is all same = subst (λ (k : ℕ). All (λ n. n < k) list) (sym same)
+    (subst (λ l. All (λ n. n < count) l) (sym is) (all j [] lt))

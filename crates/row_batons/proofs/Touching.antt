@@ -18,7 +18,8 @@ none_touched stamp stamps below = record {
 module _ (stamp : ℕ) (stamps touched : List ℕ) (are : AreStamped stamp stamps touched) where
   -- a slot that has the stamp was touched
   pub was_touched : (slot : ℕ) → get_or stamps slot 0 ≡ stamp → 1 ≤ times slot touched
-  was_touched slot same = ⊎_elim (λ (none : times slot touched < 1). let none_here : times slot touched ≡ 0 = omega arith in let less = are.others slot none_here in absurd (omega arith)) (λ some_here. some_here) (cases_lt (times slot touched) 1)
+  was_touched slot same = ⊎_elim (λ (none : times slot touched < 1). let none_here : times slot touched ≡ 0 = omega arith in let less =
+      are.others slot none_here in absurd (omega arith)) (λ some_here. some_here) (cases_lt (times slot touched) 1)
 
   -- no greater stamp stands anywhere
   pub next_below : AreBelow (suc stamp) stamps
@@ -64,7 +65,8 @@ module _ (stamp : ℕ) (stamps touched : List ℕ) (are : AreStamped stamp stamp
     }
 
 -- what was touched stays so
-pub all_still : (table : List (Option ℕ)) (numbers before after : List ℕ) → StayTouched before after → AllTouched table numbers before → AllTouched table numbers after
+pub all_still : (table : List (Option ℕ)) (numbers before after : List ℕ) → StayTouched before after → AllTouched table numbers before
+    → AllTouched table numbers after
 all_still table numbers before after stay all i d lt k at = stay k (all i d lt k at)
 
 -- one number more
@@ -76,18 +78,22 @@ one_more table numbers i before after so_far stay here j k lt at = ⊎_elim
     (cases_lt j i)
 
 -- and so all of them
-pub all_of_them : (table : List (Option ℕ)) (numbers : List ℕ) (i : ℕ) (touched : List ℕ) → length numbers ≤ i → TouchedBefore table numbers i touched → AllTouched table numbers touched
+pub all_of_them : (table : List (Option ℕ)) (numbers : List ℕ) (i : ℕ) (touched : List ℕ) → length numbers ≤ i → TouchedBefore table numbers i touched
+    → AllTouched table numbers touched
 all_of_them table numbers i touched end so_far j d lt k at = so_far j k (omega arith) (ap (slot_in table) (get_or_default numbers j 0 d lt) ∙ at)
 
 -- one request more
-pub one_touch : (table : List (Option ℕ)) (slots : ℕ) (reads writes touches : List (List ℕ)) (p : ℕ) (list : List ℕ) → AreTouches table slots reads writes touches p
+pub one_touch : (table : List (Option ℕ)) (slots : ℕ) (reads writes touches : List (List ℕ)) (p : ℕ) (list : List ℕ)
+    → AreTouches table slots reads writes touches p
     → IsTouch table slots (get_or reads p []) (get_or writes p []) list → AreTouches table slots reads writes (touches ++ list ∷ []) (p + 1)
 one_touch table slots reads writes touches p list are is = record {
   each = (let l = length-append touches (list ∷ []) in let e = are.each in omega arith);
   touch = λ x lt. ⊎_elim
-      (λ (less : x < p). subst (IsTouch table slots (get_or reads x []) (get_or writes x [])) (sym (get_or_append_left touches (list ∷ []) [] x (let e = are.each in omega arith))) (are.touch x less))
+      (λ (less : x < p). subst (IsTouch table slots (get_or reads x []) (get_or writes x []))
+      (sym (get_or_append_left touches (list ∷ []) [] x (let e = are.each in omega arith))) (are.touch x less))
       (λ ge. let last : p ≡ x = omega arith in
       subst (λ (n : ℕ). IsTouch table slots (get_or reads n []) (get_or writes n []) (get_or (touches ++ list ∷ []) n [])) last
-      (subst (IsTouch table slots (get_or reads p []) (get_or writes p [])) (sym (ap (λ (n : ℕ). get_or (touches ++ list ∷ []) n []) (sym are.each) ∙ get_or-append_seam touches list [] [])) is))
+      (subst (IsTouch table slots (get_or reads p []) (get_or writes p []))
+      (sym (ap (λ (n : ℕ). get_or (touches ++ list ∷ []) n []) (sym are.each) ∙ get_or-append_seam touches list [] [])) is))
       (cases_lt x p);
 }

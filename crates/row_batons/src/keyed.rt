@@ -99,12 +99,7 @@ impl Keyed {
     }
 
     /// Appends the numbers of the keys.
-    fn append(
-        &mut self,
-        alloc: Global,
-        list: &mut Vec<usize>,
-        keys: &[Key],
-    ) -> Result<(), Memory>
+    fn append(&mut self, alloc: Global, list: &mut Vec<usize>, keys: &[Key]) -> Result<(), Memory>
         ensures keys { OnOk result (self.new ≡ with_keys self.old keys.now) }
         ensures list { OnOk result (list.new.items ≡ list.old.items ++ map (number_in (with_keys self.old keys.now)) keys.now) }
     {
@@ -127,7 +122,12 @@ pub(crate) fn numbers_of(alloc: Global, waiting: &[Waiting]) -> Result<Numbers, 
     let mut list = Vec::new(alloc);
     for one in waiting {
         keyed.add(alloc, &mut reads, &mut list, one.declared.reads.as_slice())?;
-        keyed.add(alloc, &mut writes, &mut list, one.declared.writes.as_slice())?;
+        keyed.add(
+            alloc,
+            &mut writes,
+            &mut list,
+            one.declared.writes.as_slice(),
+        )?;
     }
     Ok(Numbers {
         reads,

@@ -158,7 +158,9 @@ fn rerun_by<P: Pace + Sync, R: Threads + Sync>(
     let slots = slots_of(alloc, waiting, &numbers.writes, numbers.keys)?;
     let touches = touches_of(alloc, slots.table(), slots.len(), numbers)?;
     let keys = slots.into_keys();
-    let (rows, lates) = relayed(rt, alloc, catalog, &tables, waiting, &keys, &touches, workers, pace)?;
+    let (rows, lates) = relayed(
+        rt, alloc, catalog, &tables, waiting, &keys, &touches, workers, pace,
+    )?;
     let mut tables = tables;
     install(&mut tables, keys, rows)?;
     Ok((tables, lates))

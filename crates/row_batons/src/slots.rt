@@ -52,12 +52,7 @@ impl Slots {
     }
 
     /// Gives each of the keys a slot where its number has none.
-    fn give_all(
-        &mut self,
-        alloc: Global,
-        keys: &[Key],
-        numbers: &[usize],
-    ) -> Result<(), Memory>
+    fn give_all(&mut self, alloc: Global, keys: &[Key], numbers: &[usize]) -> Result<(), Memory>
         requires same { length numbers.now ≡ length keys.now }
         requires below { All (λ n. n < length self.old.table) numbers.now }
         ensures { OnOk result (self.new ≡ with_slots self.old keys.now numbers.now) }

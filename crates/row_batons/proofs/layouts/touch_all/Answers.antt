@@ -10,8 +10,10 @@ loop-number-preserved c =
       length = now.length ∙ kept.length;
       stamped = now.stamped;
       kept = λ k there. now.kept k (kept.kept k there);
-      so_far = one_more c.args.table.now c.args.numbers.now c.loop-number.number-index c.loop-number.touched.items c.touch_one.new.touched.items kept.so_far now.kept now.there;
+      so_far = one_more c.args.table.now c.args.numbers.now c.loop-number.number-index c.loop-number.touched.items c.touch_one.new.touched.items kept.so_far
+          now.kept now.there;
     }
 
 pub returns-clause-all : goal.returns-clause-all
-returns-clause-all c = all_of_them c.args.table.now c.args.numbers.now c.loop-number.number-index c.loop-number.touched.items (let end = c.loop-number-test.false in omega arith) c.loop-number.invariant.so_far
+returns-clause-all c = all_of_them c.args.table.now c.args.numbers.now c.loop-number.number-index c.loop-number.touched.items
+    (let end = c.loop-number-test.false in omega arith) c.loop-number.invariant.so_far

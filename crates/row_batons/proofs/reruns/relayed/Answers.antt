@@ -21,14 +21,17 @@ pub relay-requires-sync-W : goal.relay-requires-sync-W
 relay-requires-sync-W g c κs within = search (one.the_sync, snapshot.the_sync, key.the_sync, catalog_sync, crosses, sendable) depth 30
 
 pub relay-requires-clause-course : goal.relay-requires-clause-course
-relay-requires-clause-course g c κs within = is_course key_cmp_total key_cmp-IsAntisymmetric is_done (λ w. touchable w.declared) (λ w. run_of c.args.catalog.now w.request) c.of.result c.args.waiting.now c.args.keys.now (touches_in c.args.touches.now) c.requires.laid
+relay-requires-clause-course g c κs within = is_course key_cmp_total key_cmp-IsAntisymmetric is_done (λ w. touchable w.declared)
+    (λ w. run_of c.args.catalog.now w.request) c.of.result c.args.waiting.now c.args.keys.now (touches_in c.args.touches.now) c.requires.laid
 
 pub relay-requires-clause-rows : goal.relay-requires-clause-rows
-relay-requires-clause-rows g c κs within = first_are (run_of c.args.catalog.now) c.of.result c.args.waiting.now c.args.keys.now (touches_in c.args.touches.now) c.in_ok-rows.rows.items
-        (c.in_ok-rows.ensures ∙ ap (λ d. rows_in d c.args.keys.now) (sym c.of.ensures))
+relay-requires-clause-rows g c κs within = first_are (run_of c.args.catalog.now) c.of.result c.args.waiting.now c.args.keys.now
+    (touches_in c.args.touches.now) c.in_ok-rows.rows.items
+    (c.in_ok-rows.ensures ∙ ap (λ d. rows_in d c.args.keys.now) (sym c.of.ensures))
 
 pub returns-clause-fold : goal.returns-clause-fold
 returns-clause-fold g c = both_ok c.relay.result _ _ _ (λ r are given.
     subst (λ d. IsLateFold (run_of c.args.catalog.now) d c.args.waiting.now r.1.items (overwritten d (paired c.args.keys.now r.0.items))) c.of.ensures
-    (fold_is (run_of c.args.catalog.now) c.of.result c.args.waiting.now c.args.keys.now (touches_in c.args.touches.now) c.requires.laid r.0.items r.1.items are given))
+    (fold_is (run_of c.args.catalog.now) c.of.result c.args.waiting.now c.args.keys.now (touches_in c.args.touches.now) c.requires.laid r.0.items r.1.items are
+    given))
     c.relay.ensures.rows c.relay.ensures.given

@@ -5,7 +5,8 @@ use Rattle.row_batons.proofs.windows.rows_back.Goals as goal
 
 pub take_back-requires : goal.take_back-requires
 take_back-requires c =
-    let many = enough_writes key_cmp_total key_cmp-IsAntisymmetric c.args.keys.now c.requires.apart c.args.touched.now c.args.window.noted.writes c.requires.front in
+    let many = enough_writes key_cmp_total key_cmp-IsAntisymmetric c.args.keys.now c.requires.apart c.args.touched.now c.args.window.noted.writes
+    c.requires.front in
     let same = c.requires.rows in
     omega arith
 
@@ -13,4 +14,5 @@ pub returns : goal.returns
 returns c =
     c.take_back.ensures
     ∙ ap (λ (n : ℕ). map (λ w. w.1) (take n c.args.window.noted.writes)) c.requires.rows
-    ∙ front_rows key_cmp_total key_cmp-IsAntisymmetric c.args.keys.now c.requires.apart c.args.touched.now c.args.window.noted.writes c.args.window.base c.requires.once c.requires.front
+    ∙ front_rows key_cmp_total key_cmp-IsAntisymmetric c.args.keys.now c.requires.apart c.args.touched.now c.args.window.noted.writes c.args.window.base
+    c.requires.once c.requires.front

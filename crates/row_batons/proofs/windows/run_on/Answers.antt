@@ -16,4 +16,5 @@ rows_back-requires-clause-front c =
     let new = seen_of c.interpret_lent_within.new.access in
     let ended = subst (EndsWithin (touchable c.args.one.now.declared) run old new) c.in-Ended.is c.in_ok-end.ensures in
     subst (AreAt c.args.keys.now c.args.touched.now) (sym (ap (λ s. take (length c.args.touched.now) s.noted.writes) ended.1.1))
-        (still_at key_cmp_total key_cmp-IsAntisymmetric c.args.keys.now c.requires.apart c.args.touched.now old.noted (trace_of run old.map) c.in_ok-fill.ensures.front)
+    (still_at key_cmp_total key_cmp-IsAntisymmetric c.args.keys.now c.requires.apart c.args.touched.now old.noted
+    (trace_of run old.map) c.in_ok-fill.ensures.front)
