@@ -1,6 +1,7 @@
 -- What arguments print, by what they ask for.
 use Rattle.std.proofs.Common.{◌≡◌, ◌≢◌, ◌⊎◌, inl, inr, ◌∙◌, sym, subst, ap, ℕ, List, [], Option, Some, None, Bool, true, false, arith}
 use Rattle.std.proofs.KnownBytes.{Appends-nil}
+use Rattle.std.specs.Io.KnownBytes.{Appends}
 use Rattle.std.specs.Option.{IfSome}
 use Rattle.std.specs.Prelude.{option_map}
 use Rattle.aria_base.specs.Streams.{AppendsFront}
@@ -109,6 +110,9 @@ leaves_untouched (Some (task.Once settings)) images found left disk now = tt
 leaves_untouched (Some (task.Init settings)) images found left disk now = record {
   refused = λ e. still_none disk;
   unmade = each_text left (λ text. (init.out_of settings (is_taken images) text).status ≢ DONE → Still disk disk) (λ text other. still_none disk);
+  stored = each_text left
+      (λ text. (init.out_of settings (is_taken images) text).status ≡ DONE → Appends now now [] ⊎ init.IsMade settings left disk)
+      (λ text done. inl (Appends-nil now));
   made = λ e. absurd (omega (arith, e));
 }
 leaves_untouched (Some (task.Run settings)) images found left disk now = record {

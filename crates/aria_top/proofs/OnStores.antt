@@ -1,5 +1,5 @@
 -- What a command on a store comes to, by what its files read as.
-use Rattle.std.proofs.Common.{◌≡◌, ◌≢◌, ◌⊎◌, inl, inr, ◌∙◌, sym, ap, subst, refl, ℕ, ◌<◌, ◌||◌, Bool, true, false, List, Option, Some, None, arith}
+use Rattle.std.proofs.Common.{◌≡◌, ◌≢◌, ◌⊎◌, inl, inr, ◌∙◌, sym, ap, subst, refl, ℕ, ◌<◌, ◌||◌, Bool, true, false, List, [], Option, Some, None, arith}
 use Rattle.std.specs.Prelude.{Result, Ok, Err, IfSome, IsSomeAnd}
 use Rattle.std.specs.Io.KnownBytes.{Appends}
 use Rattle.aria_base.specs.Streams.{AppendsFront}
@@ -19,7 +19,7 @@ use Rattle.script_course.specs.declared.statuses.TheConstants.{DONE}
 use Rattle.script_course.specs.declared.stops.Stop.{Stop}
 use Rattle.script_course.specs.declared.stops.Stop.TheVariants as stop
 use Rattle.store_commands.specs.Drafts.{told_of}
-use Rattle.store_commands.specs.Inits.{Inits, Leaves, out_of}
+use Rattle.store_commands.specs.Inits.{Inits, IsMade, Leaves, out_of}
 use Rattle.store_files.specs.Attachments.{IsTaken}
 use Rattle.store_openings.specs.Openings.{ReadsAs}
 use Rattle.aria_top.specs.Disks.{is_taken}
@@ -59,6 +59,10 @@ module _ (disk : History) (images : ℕ → List ℕ) (reads : ReadsAs disk imag
     pub init_unmade : IfSome left (λ text. (out_of settings (is_taken images) text).status ≢ DONE → Still disk is)
     init_unmade = subst (λ (taken : Bool). IfSome left (λ text. (out_of settings taken text).status ≢ DONE → Still disk is))
         (taken_is h.taken h.looked) h.unwritten
+
+    pub init_stored : IfSome left (λ text. (out_of settings (is_taken images) text).status ≡ DONE → Appends old new [] ⊎ IsMade settings left is)
+    init_stored = subst (λ (taken : Bool). IfSome left (λ text. (out_of settings taken text).status ≡ DONE → Appends old new [] ⊎ IsMade settings left is))
+        (taken_is h.taken h.looked) h.stored
 
 -- ---- a command that prints what this output is
 

@@ -1,5 +1,6 @@
 -- What a command needs to know of the disk, and what it leaves of it.
-use Rattle.std.specs.Prelude.{◌≡◌, ◌≢◌, ◌⊎◌, ℕ, ◌||◌, Bool, List, Option, Some, None, IfSome}
+use Rattle.std.specs.Prelude.{◌≡◌, ◌≢◌, ◌⊎◌, ℕ, ◌||◌, Bool, List, [], Option, Some, None, IfSome}
+use Rattle.std.specs.Io.KnownBytes.{Appends}
 use Rattle.aria_store.specs.Reopens.{Reopened, Reopens}
 use Rattle.checkpoint.specs.Slots.{is_open}
 use Rattle.command_words.specs.declared.settings.Init.{Init}
@@ -27,11 +28,13 @@ Sees other disk images found = Unit {0}
 
 -- ---- after
 
--- A head that does not make a store leaves every file as it was at every moment, whatever the answer is. Where the store is made, it is
--- that of the head.
-pub record InitLeaves (settings : Init) (taken : Bool) (left : Option (List ℕ)) (was is : History) (status : ℕ) : Type 0 where
+-- A head that does not make a store leaves every file as it was at every moment, whatever the answer is. Where a head makes one and
+-- anything was written, the store is made, whatever the answer is. A store that is made is that of the head.
+pub record InitLeaves (settings : Init) (taken : Bool) (left : Option (List ℕ)) (was is : History) (old new : Option (List ℕ))
+    (status : ℕ) : Type 0 where
   pub refused : (status ≡ REFUSED) ⊎ (status ≡ READ_FAULT) ⊎ (status ≡ STORE_REFUSED) → Still was is
   pub unmade : IfSome left (λ text. (init.out_of settings taken text).status ≢ DONE → Still was is)
+  pub stored : IfSome left (λ text. (init.out_of settings taken text).status ≡ DONE → Appends old new [] ⊎ init.IsMade settings left is)
   pub made : status ≡ DONE → init.IsMade settings left is
 
 -- What a stop leaves of a script over a store at any moment, and now; and what the disk holds of a script that was read to its end or to
@@ -44,7 +47,7 @@ pub record RunLeaves (settings : Run) (found : Reopened) (left : Option (List �
 -- a task that does not use the disk has a clause of its own
 abbrev pub LeavesDisk : Option Task → (ℕ → List ℕ) → Reopened → Option (List ℕ) → History → History
     → Option (List ℕ) → Option (List ℕ) → ℕ → Type 0
-LeavesDisk (Some (task.Init settings)) images found left was is old new status = InitLeaves settings (is_taken images) left was is status
+LeavesDisk (Some (task.Init settings)) images found left was is old new status = InitLeaves settings (is_taken images) left was is old new status
 LeavesDisk (Some (task.Run settings)) images found left was is old new status =
     RunLeaves settings (opened images found) left was is old new status
 LeavesDisk (Some (task.Replay settings)) images found left was is old new status = LeavesAll was is (MayLeave was was.now)

@@ -15,7 +15,10 @@ use Rattle.script_course.specs.declared.stops.Stop.{Stop}
 use Rattle.script_course.specs.declared.stops.Stop.TheVariants as stop
 use Rattle.store_files.specs.Attachments.{IsTaken}
 use Rattle.aria_store.specs.Causes.{HasGate}
-use Rattle.store_commands.specs.Inits.{Ends, Leaves, store_out}
+use Rattle.store_commands.specs.Inits.{Ends, Leaves, closed_by, store_out}
+use Rattle.store_commands.specs.declared.drafts.Draft.{Draft}
+use Rattle.script_places.specs.declared.places.Place.{Place}
+use Rattle.script_text.specs.declared.refusals.RefusalKind.{RefusalKind}
 use Rattle.script_course.specs.declared.statuses.TheConstants.{DONE, STORE_REFUSED}
 
 -- ---- the gates
@@ -54,44 +57,60 @@ forgiven false over e = refl
 kept : (over : Bool) → over ≡ false → true && not over ≡ true
 kept over e = rw e refl
 
-module _ (settings : Init) (was is : History) (old new : Option (List ℕ)) (result : Result ℕ Stop) where
+-- where there was a store in the way, the status is not that of a store made
+kept_apart : {X : Type 0} → (choice true).status ≡ DONE → X
+kept_apart done = let wrong : STORE_REFUSED ≡ DONE = done in absurd (cc wrong)
+
+module _ (settings : Init) (made : Type 0) (was is : History) (old new : Option (List ℕ)) (result : Result ℕ Stop) where
   abbrev By : Bool → Type 0
   By refused = Finishes (choice refused) old new result × ((choice refused).status ≢ DONE → Still was is)
+      × ((choice refused).status ≡ DONE → (new ≡ old) ⊎ made)
 
-  ends_by : (taken : Bool) → IsTaken was taken → By (taken && not settings.over) → Ends (store_out settings) was is old new result
-  ends_by taken looks by = record { taken = taken; looked = looks; finishes = by.0; unwritten = by.1 }
+  abbrev EndsHere : Type 0
+  EndsHere = Ends (store_out settings) made was is old new result
 
-  made_by : (over : Bool) → settings.over ≡ over → (settings.over ≡ false → IsTaken was false) → By false → Ends (store_out settings) was is old new result
+  ends_by : (taken : Bool) → IsTaken was taken → By (taken && not settings.over) → EndsHere
+  ends_by taken looks by = record { taken = taken; looked = looks; finishes = by.0; unwritten = by.1; stored = by.2 }
+
+  made_by : (over : Bool) → settings.over ≡ over → (settings.over ≡ false → IsTaken was false) → By false → EndsHere
   made_by true e free by = let l = looked was in ends_by l.0 l.1 (subst By (sym (forgiven l.0 settings.over e)) by)
   made_by false e free by = ends_by false (free e) by
 
   -- the store was made
-  pub ends_made : (settings.over ≡ false → IsTaken was false) → Finishes (choice false) old new result → Ends (store_out settings) was is old new result
-  ends_made free all = made_by settings.over refl free (all, λ other. absurd (other refl))
+  pub ends_made : (settings.over ≡ false → IsTaken was false) → made → Finishes (choice false) old new result → EndsHere
+  ends_made free stands all = made_by settings.over refl free (all, λ other. absurd (other refl), λ done. inr stands)
 
   -- there was one that may not be written over
-  pub ends_kept : settings.over ≡ false → IsTaken was true → Still was is → Finishes (choice true) old new result
-      → Ends (store_out settings) was is old new result
-  ends_kept off taken still all = ends_by true taken (subst By (sym (kept settings.over off)) (all, λ other. still))
+  pub ends_kept : settings.over ≡ false → IsTaken was true → Still was is → Finishes (choice true) old new result → EndsHere
+  ends_kept off taken still all = ends_by true taken (subst By (sym (kept settings.over off)) (all, λ other. still, λ done. kept_apart done))
 
-  cut_by : (taken over : Bool) → (taken ≡ true → HasGate was) → (over ≡ false → HasGate was → Still was is)
+  cut_by : (taken over : Bool) → (taken ≡ true → HasGate was) → (over ≡ false → HasGate was → Still was is) → new ≡ old
       → ((refused : Bool) → Finishes (choice refused) old new result)
       → By (taken && not over)
-  cut_by true true open_gate unwritten all = (all false, λ other. absurd (other refl))
-  cut_by true false open_gate unwritten all = (all true, λ other. unwritten refl (open_gate refl))
-  cut_by false over open_gate unwritten all = (all false, λ other. absurd (other refl))
+  cut_by true true open_gate unwritten same all = (all false, λ other. absurd (other refl), λ done. inl same)
+  cut_by true false open_gate unwritten same all = (all true, λ other. unwritten refl (open_gate refl), λ done. inl same)
+  cut_by false over open_gate unwritten same all = (all false, λ other. absurd (other refl), λ done. inl same)
 
-  -- it was cut off
-  pub ends_cut : (settings.over ≡ false → HasGate was → Still was is) → ((refused : Bool) → Finishes (choice refused) old new result)
-      → Ends (store_out settings) was is old new result
-  ends_cut unwritten all = let l = looked was in ends_by l.0 l.1 (cut_by l.0 settings.over l.2 unwritten all)
+  -- it was cut off before anything was given
+  pub ends_cut : (settings.over ≡ false → HasGate was → Still was is) → new ≡ old → ((refused : Bool) → Finishes (choice refused) old new result)
+      → EndsHere
+  ends_cut unwritten same all = let l = looked was in ends_by l.0 l.1 (cut_by l.0 settings.over l.2 unwritten same all)
 
 -- ---- the end of a head
 
 -- the end is refused, or it was cut off before the store was looked at
-pub ends_untouched : (out : Bool → Out) (was : History) (old new : Option (List ℕ)) (result : Result ℕ Stop)
-    → ((taken : Bool) → Finishes (out taken) old new result) → Ends out was was old new result
-ends_untouched out was old new result all = let l = looked was in record { taken = l.0; looked = l.1; finishes = all l.0; unwritten = λ other. still_none was }
+pub ends_untouched : (out : Bool → Out) (made : Type 0) (was : History) (old new : Option (List ℕ)) (result : Result ℕ Stop)
+    → ((taken : Bool) → (out taken).status ≡ DONE → new ≡ old) → ((taken : Bool) → Finishes (out taken) old new result)
+    → Ends out made was was old new result
+ends_untouched out made was old new result same all =
+    let l = looked was in
+    record { taken = l.0; looked = l.1; finishes = all l.0; unwritten = λ other. still_none was; stored = λ done. inl (same l.0 done) }
+
+-- where the end is refused, its status is not that of a store made
+pub refused_apart : {X : Type 0} (settings : Init) (taken : Bool) (d : Draft) (end : Result Place RefusalKind) (kind : RefusalKind) → end ≡ Err kind
+    → (closed_by settings taken d end).status ≡ DONE → X
+refused_apart settings taken d (Ok place) kind is done = absurd (cc is)
+refused_apart settings taken d (Err other) kind is done = let wrong : status_of stop.Refused ≡ DONE = done in absurd (cc wrong)
 
 -- ---- what is left of the disk
 

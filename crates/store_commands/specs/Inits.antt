@@ -1,5 +1,6 @@
 -- The command `init`: what it prints, and what it leaves of the disk.
-use Rattle.std.specs.Prelude.{◌≡◌, ◌≢◌, ℕ, Bool, not, ◌&&◌, if◌then◌else◌, List, [], Option, Some, Result, Ok, Err, IfSome}
+use Rattle.std.specs.Prelude.{◌≡◌, ◌≢◌, ◌⊎◌, ℕ, Bool, not, ◌&&◌, if◌then◌else◌, List, [], Option, Some, Result, Ok, Err, IfSome}
+use Rattle.std.specs.Io.KnownBytes.{Appends}
 use Rattle.aria_base.specs.Orders.{Database}
 use Rattle.answer_text.specs.Notices.{ready_text, refused_text}
 use Rattle.answer_text.specs.declared.notices.Refused.TheVariants.{StoreExists}
@@ -90,16 +91,19 @@ IsUngiven old new result = result ≡ Err stop.NoDisk → new ≡ old
 -- ---- the command
 
 -- The output is that by whether a gate was open. Where its status is not that of a store made, nothing was written, whatever
--- the answer is.
+-- the answer is. Where it is and anything was given, the store is made, whatever the answer is.
 pub record Inits (settings : Init) (was is : History) (left rest old new : Option (List ℕ)) (result : Result ℕ Stop) : Type 0 where
   pub taken : Bool
   pub looked : IsTaken was taken
   pub completes : Completes told_of (out_of settings taken) left rest old new result
   pub unwritten : IfSome left (λ text. (out_of settings taken text).status ≢ DONE → Still was is)
+  pub stored : IfSome left (λ text. (out_of settings taken text).status ≡ DONE → Appends old new [] ⊎ IsMade settings left is)
 
--- So it is behind a head that was read to its end: what follows has an output by whether a gate was open.
-pub record Ends (out : Bool → Out) (was is : History) (old new : Option (List ℕ)) (result : Result ℕ Stop) : Type 0 where
+-- So it is behind a head that was read to its end: what follows has an output by whether a gate was open, and says what it is that the
+-- store is made.
+pub record Ends (out : Bool → Out) (made : Type 0) (was is : History) (old new : Option (List ℕ)) (result : Result ℕ Stop) : Type 0 where
   pub taken : Bool
   pub looked : IsTaken was taken
   pub finishes : Finishes (out taken) old new result
   pub unwritten : (out taken).status ≢ DONE → Still was is
+  pub stored : (out taken).status ≡ DONE → (new ≡ old) ⊎ made

@@ -39,7 +39,8 @@ pub fn init<S: Source, K: Sink, D: Disk>(
 
     // What is printed is the output of the text, by whether a gate was open; where it was cut off, a prefix
     // of it was printed, and where the source failed, nothing. Where that output says that no store is made,
-    // every image meanwhile is one from before, whatever the answer is.
+    // every image meanwhile is one from before, whatever the answer is. Where it says that one is made, and
+    // a byte of it was given, the store is made, whatever the answer is.
     ensures inits { Inits settings.now (D.history disk.old) (D.history disk.new) (S.left input.old) (S.left input.new) (K.given out.old) (K.given out.new) result }
 
     // What the disk holds.
@@ -85,7 +86,7 @@ fn close<K: Sink, D: Disk>(
 ) -> Result<u8, Stop>
     requires fallback { settings.now.fallback ≤ MOST_PERCENT }
     requires fitting { IsFitting last }
-    ensures ends { Ends (λ taken. on_end settings.now taken last) (D.history disk.old) (D.history disk.new) (K.given out.old) (K.given out.new) result }
+    ensures ends { Ends (λ taken. on_end settings.now taken last) (IsSomeAnd (values_by last (closing last.place)) (λ values. IsMadeOf settings.now values (D.history disk.new))) (D.history disk.old) (D.history disk.new) (K.given out.old) (K.given out.new) result }
     ensures made { result ≡ Ok status.DONE → IsSomeAnd (values_by last (closing last.place)) (λ values. IsMadeOf settings.now values (D.history disk.new)) }
     ensures leaves { Leaves D.history disk.old disk.new result }
     ensures ungiven { IsUngiven (K.given out.old) (K.given out.new) result }
@@ -114,7 +115,7 @@ fn make<K: Sink, D: Disk>(
 ) -> Result<u8, Stop>
     requires fallback { settings.now.fallback ≤ MOST_PERCENT }
     requires rows { IsConsistent (plan_in head).tables tables }
-    ensures ends { Ends (store_out settings.now) (D.history disk.old) (D.history disk.new) (K.given out.old) (K.given out.new) result }
+    ensures ends { Ends (store_out settings.now) (IsMadeOf settings.now (plan_in head, tables) (D.history disk.new)) (D.history disk.old) (D.history disk.new) (K.given out.old) (K.given out.new) result }
     ensures made { result ≡ Ok status.DONE → IsMadeOf settings.now (plan_in head, tables) (D.history disk.new) }
     ensures leaves { Leaves D.history disk.old disk.new result }
     ensures ungiven { IsUngiven (K.given out.old) (K.given out.new) result }

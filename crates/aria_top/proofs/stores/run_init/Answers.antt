@@ -2,7 +2,7 @@ use Rattle.std.proofs.Common.{◌≡◌, ap, ℕ}
 use Rattle.std.specs.Prelude.{Ok, Err}
 use Rattle.store_commands.specs.Inits.{out_of}
 use Rattle.aria_top.specs.Disks.{is_taken}
-use Rattle.aria_top.proofs.OnStores.{init_completes, init_unmade, never_done, unmade_cut, unmade_ok}
+use Rattle.aria_top.proofs.OnStores.{init_completes, init_stored, init_unmade, never_done, unmade_cut, unmade_ok}
 use Rattle.aria_top.proofs.Stopped.{answered_cut, answered_end, front_cut, front_end}
 use Rattle.aria_top.proofs.stores.run_init.Goals as goal
 
@@ -28,6 +28,9 @@ returns-in-Ok-clause-leaves g c images reads = record {
   unmade = init_unmade (g.D.Disk.history c.args.disk.now) images reads c.args.settings.now (g.D.Disk.history c.init.new.disk)
       (g.S.Source.left c.args.input.now) (g.S.Source.left c.init.new.input)
       (g.K.Sink.given c.args.out.now) (g.K.Sink.given c.init.new.out) (Ok c.in-Ok.status) c.in-Ok.ensures.inits;
+  stored = init_stored (g.D.Disk.history c.args.disk.now) images reads c.args.settings.now (g.D.Disk.history c.init.new.disk)
+      (g.S.Source.left c.args.input.now) (g.S.Source.left c.init.new.input)
+      (g.K.Sink.given c.args.out.now) (g.K.Sink.given c.init.new.out) (Ok c.in-Ok.status) c.in-Ok.ensures.inits;
   made = λ done. c.in-Ok.ensures.made (ap (λ (n : ℕ). Ok n) done);
 }
 
@@ -51,6 +54,9 @@ pub returns-in-Err-clause-leaves : goal.returns-in-Err-clause-leaves
 returns-in-Err-clause-leaves g c images reads = record {
   refused = λ unmade. unmade_cut g.D.Disk.history c.args.disk.now c.init.new.disk c.in-Err.stop c.status.result c.status.ensures c.in-Err.ensures.leaves unmade;
   unmade = init_unmade (g.D.Disk.history c.args.disk.now) images reads c.args.settings.now (g.D.Disk.history c.init.new.disk)
+      (g.S.Source.left c.args.input.now) (g.S.Source.left c.init.new.input)
+      (g.K.Sink.given c.args.out.now) (g.K.Sink.given c.init.new.out) (Err c.in-Err.stop) c.in-Err.ensures.inits;
+  stored = init_stored (g.D.Disk.history c.args.disk.now) images reads c.args.settings.now (g.D.Disk.history c.init.new.disk)
       (g.S.Source.left c.args.input.now) (g.S.Source.left c.init.new.input)
       (g.K.Sink.given c.args.out.now) (g.K.Sink.given c.init.new.out) (Err c.in-Err.stop) c.in-Err.ensures.inits;
   made = λ done. absurd (never_done c.in-Err.stop c.status.result c.status.ensures done);
