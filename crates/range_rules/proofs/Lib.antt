@@ -1,8 +1,8 @@
 pub mod Counts
 pub mod Courses
-mod Moving
+pub mod Moving
 mod Parted
-mod Printed
+pub mod Printed
 pub mod Serials
 pub mod Tells
 pub mod Walks
