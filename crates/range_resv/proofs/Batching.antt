@@ -3,7 +3,10 @@ use Rattle.std.proofs.Common.{◌≡◌, refl, sym, ap, subst, ◌∙◌, ℕ, s
 use Rattle.std.proofs.Common.{length-append}
 use Rattle.std.specs.List.{All}
 use Rattle.std.proofs.lemmas.List.Elements.{All-nil, All-cons, All-head, All-tail, All-append, All-filter}
-use Rattle.aria_base.specs.Orders.{Database}
+use Rattle.aria_base.specs.Orders.{Cells, Database}
+use Rattle.aria_base.specs.declared.calls.Request.{Request}
+use Rattle.aria_base.specs.declared.keys.Key.{Key}
+use Rattle.std.proofs.lemmas.List.{length-map}
 use Rattle.aria_base.specs.Schemas.{IsConsistent}
 use Rattle.aria_base.specs.declared.limits.TheConstants.{GREATEST_NUMBER}
 use Rattle.batch_core.specs.Serial.{RiseWithin}
@@ -11,6 +14,10 @@ use Rattle.batch_core.specs.declared.answers.Answer.{Answer}
 use Rattle.batch_core.proofs.Numbers.{rise-above, rise-below, rise-append, rise-filter}
 use Rattle.batch_rules.specs.declared.verdicts.Rule.{Rule}
 use Rattle.batch_rules.specs.declared.verdicts.Verdict.{Verdict}
+use Rattle.batch_rules.specs.Trees.{Tree}
+use Rattle.batch_rules.specs.Verdicts.{through}
+use Rattle.batch_rules.proofs.Judges.{length-judged}
+use Rattle.proc_lang.specs.declared.ends.End.{End}
 use Rattle.proc_lang.specs.Catalogs.{IsCatalog, run_of}
 use Rattle.reorder.specs.Orders.{placed_tids}
 use Rattle.range_rules.specs.declared.routines.Action.{Action}
@@ -19,7 +26,8 @@ use Rattle.range_rules.specs.declared.routines.RoutineCall.{RoutineCall}
 use Rattle.range_rules.specs.declared.routines.Seen.{Seen}
 use Rattle.range_rules.specs.declared.routines.Work.{Work}
 use Rattle.range_rules.specs.declared.routines.TheConstants.{MOST_WORKS}
-use Rattle.range_rules.specs.Batches.{Outcome, answer_of, numbered}
+use Rattle.range_rules.specs.Batches.{Outcome, answer_of, depends, numbered}
+use Rattle.range_rules.specs.Courses.{ran_on}
 use Rattle.range_rules.specs.Laws.{LeavesConsistent}
 use Rattle.range_rules.specs.Serials.{is_named, IsSerialAnswer, IsProgress}
 use Rattle.range_rules.proofs.Moving.{few_kept, progress}
@@ -61,16 +69,22 @@ pub record May (taken : RoutineCall → Bool) (act : ℕ → RoutineCall → Lis
   pub requests : b.requests + length works ≤ GREATEST_NUMBER
 
 -- what it leaves, and its answer
-pub record Done (taken : RoutineCall → Bool) (act : ℕ → RoutineCall → List Seen → Action) (rule : Rule) (works : List Work) (b after : Between)
-    (answer : Answer) : Type 0 where
+pub record Done (by : RoutineCall → Bool) (act : ℕ → RoutineCall → List Seen → Action) (rule : Rule) (works : List Work) (b after : Between)
+    (told : Answer) : Type 0 where
   pub plan : after.plan ≡ b.plan
   pub counts : (after.batches ≡ b.batches + 1) × (after.requests ≡ b.requests + length works)
-  pub answer : answer ≡ answer_of (b.batches + 1) (batch_from act rule b works)
+  pub answer : told ≡ answer_of (b.batches + 1) (batch_from act rule b works)
   pub rows : after.rows ≡ (batch_from act rule b works).rows
   pub waiting : after.carried ≡ (batch_from act rule b works).carried
-  pub taken : All (λ w. is_taken b.plan taken w.work ≡ true) after.carried
-  pub serial : IsSerialAnswer (run_of b.plan) act b.rows (list_from b works) answer after.rows after.carried
-  pub progress : 0 < length (list_from b works) → IsProgress (run_of b.plan) act b.rows (list_from b works) answer after.carried
+  pub taken : All (λ w. is_taken b.plan by w.work ≡ true) after.carried
+  pub serial : IsSerialAnswer (run_of b.plan) act b.rows (list_from b works) told after.rows after.carried
+  pub progress : 0 < length (list_from b works) → IsProgress (run_of b.plan) act b.rows (list_from b works) told after.carried
+
+-- as many are decided as there are works
+pub many-verdicts : (tree : Request → Tree Key Cells End) (act : ℕ → RoutineCall → List Seen → Action) (rule : Rule) (start : Database)
+    (list : List NumberedWork) (c : Committed) → IsCommitted tree act rule start list c → length c.verdicts.items ≡ length list
+many-verdicts tree act rule start list c h =
+    ap length h.verdicts ∙ length-map _ (λ d. d.verdict) ∙ length-judged (through (ran_on tree act start) depends) rule _ list
 
 module _ (taken : RoutineCall → Bool) (act : ℕ → RoutineCall → List Seen → Action) (rule : Rule) (works : List Work) (b : Between)
     (behave : (w : NumberedWork) (db : Database) → Behaves b.plan taken act w db) (whole : IsCatalog b.plan)

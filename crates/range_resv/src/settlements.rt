@@ -36,7 +36,7 @@ pub(crate) fn settle(
     ends: Vec<End>,
     verdicts: &[Verdict],
 ) -> Result<Settled, Memory>
-    requires { length verdicts.now ≤ MOST_REQUESTS }
+    requires few { length verdicts.now ≤ MOST_REQUESTS }
     ensures lines { IfOk result (λ s. s.lines ≡ (let numbers = map (λ w. w.q) list.items in lines_in (number_in numbers) numbers ends.items verdicts.now)) }
     ensures order { IfOk result (λ s. s.order ≡ map (number_in (map (λ w. w.q) list.items)) (placed_tids verdicts.now)) }
     ensures carried { IfOk result (λ s. s.carried.items ≡ waiting_among list.items verdicts.now) }

@@ -74,7 +74,7 @@ pub has-with_keys : (index : Listed) (ks : List Key) (q : Key)
     → fin.contains_key (with_keys index ks) q ≡ (fin.contains_key index q || is_among key_cmp ks q)
 has-with_keys index [] q = or_none (fin.contains_key index q)
 has-with_keys index (k ∷ ks) q = has-with_keys (fin.insert index k tt) ks q
-    ∙ ap (λ h. h || is_among key_cmp ks q) (has-followed index k (Some tt) q)
+    ∙ ap (λ h. h || is_among key_cmp ks q) (has-followed {X = Unit {0}} index k (Some tt) q)
     ∙ one_more (eq_by_cmp key_cmp q k) (fin.contains_key index q) (is_among key_cmp ks q)
 
 pub all_listed : (index : Listed) (db : Database) → index ≡ with_keys fin.empty (fin.keys db) → IsIndexOf index db

@@ -1,3 +1,2 @@
 pub mod Indexes
-pub mod Runs
 pub mod Windows

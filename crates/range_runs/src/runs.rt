@@ -1,6 +1,5 @@
 // Runs of works on a snapshot.
-ghost use Rattle.std.specs.Prelude.{◌≡◌, ◌≤◌, List, [], map, length, if◌then◌else◌, IfOk};
-ghost use Rattle.aria_base.specs.declared.limits.TheConstants.{MOST_REQUESTS, MOST_WORKERS};
+ghost use Rattle.std.specs.Prelude.{◌≡◌, [], map, if◌then◌else◌, IfOk};
 ghost use Rattle.proc_lang.specs.Catalogs.{run_of};
 ghost use Rattle.proc_lang.specs.Meaning.{is_done};
 ghost use Rattle.range_rules.specs.Courses.{proc_ran, ran_by, ran_on, request_for, run_routine};
@@ -8,7 +7,7 @@ ghost use Rattle.range_runs.specs.Indexes.{IsIndexOf};
 
 use crate::indexes::Index;
 use crate::windows::Window;
-use aria_base::{Call, Changes, Duplicate, Memory, Pace, Place, Request};
+use aria_base::{Call, Changes, Duplicate, Memory, Request};
 use exec_phase::execute;
 use proc_exec::Outcome;
 use proc_lang::{Catalog, End, Trap};
@@ -16,84 +15,33 @@ use range_rules::{
     Action, MOST_ACTIONS, NumberedWork, Prefixes, Ran, Routine, RoutineCall, Work,
 };
 use std::alloc::Global;
-use std::thread::Threads;
 use tbl_snapshot::Snapshot;
-use work_crew::{Task, gather};
 
-/// The works of a batch, on the rows that it begins with.
-#[derive(Drop)]
-struct Runs<'a, R: Routine> {
-    alloc: Global,
-    catalog: &'a Catalog,
-    routines: &'a R,
-    snapshot: Snapshot<'a>,
-    index: &'a Index,
-    list: &'a [NumberedWork],
-    count: u32,
-    ghost counted: { count ≡ length list.now },
-    ghost indexed: { IsIndexOf index.now snapshot },
-}
-
-impl<'a, R: Routine> Task for Runs<'a, R> {
-    ghost use Rattle.std.specs.Prelude.{length};
-    ghost use Rattle.proc_lang.specs.Catalogs.{run_of};
-    ghost use Rattle.range_runs.specs.Runs.{ComesTo};
-
-    type Output = Ran;
-
-    ghost count = { λ e. length e.list.now };
-
-    ghost gives = { λ e. ComesTo (run_of e.catalog.now) (R.act e.routines.now) e.snapshot e.list.now };
-
-    fn len(&self) -> u32 {
-        self.count
-    }
-
-    fn step(&self) -> Place {
-        Place::Execute
-    }
-
-    fn run(&self, place: u32) -> Result<Ran, Memory> {
-        run_work(
-            self.alloc,
-            self.catalog,
-            self.routines,
-            &self.list[place as usize],
-            self.snapshot.copy(),
-            self.index,
-        )
-    }
-}
-
-/// What each work comes to on the snapshot, in the order of the list, which has at most 10,000. The index
-/// has the snapshot's keys. The workers, from 1 to 64, draw the works one by one, so that none waits for
-/// another. An error: there was no memory.
-pub fn run_all<R: Routine + Sync, P: Pace + Sync, T: Threads + Sync>(
-    rt: &T,
+/// What each work comes to on the snapshot, in the order of the list, one after the other. The index has the
+/// snapshot's keys. An error: there was no memory.
+pub fn run_all<R: Routine>(
     alloc: Global,
     catalog: &Catalog,
     routines: &R,
     snapshot: Snapshot,
     index: &Index,
     list: &[NumberedWork],
-    workers: u32,
-    pace: &P,
 ) -> Result<Vec<Ran>, Memory>
-    requires list { length list.now ≤ MOST_REQUESTS }
-    requires workers { (1 ≤ workers) × (workers ≤ MOST_WORKERS) }
-    requires index { IsIndexOf index.now snapshot }
+    requires { IsIndexOf index.now snapshot }
     ensures { IfOk result (λ all. all.items ≡ map (ran_on (run_of catalog.now) (R.act routines.now) snapshot.entry) list.now) }
 {
-    let runs = Runs {
-        alloc,
-        catalog,
-        routines,
-        snapshot,
-        index,
-        list,
-        count: list.len() as u32,
-    };
-    gather(rt, alloc, &runs, workers, pace)
+    let mut rans = Vec::with_capacity(alloc, list.len())?;
+    for asked in list {
+        rans.push(run_work(
+            alloc,
+            catalog,
+            routines,
+            asked,
+            snapshot.copy(),
+            index,
+        )?)?;
+    }
+    Ok(rans)
 }
 
 /// What the work's run on the snapshot comes to. The index has the snapshot's keys. An error: there was no

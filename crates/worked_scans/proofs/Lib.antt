@@ -1,1 +1,2 @@
+mod Readiness
 mod Suiting

@@ -1,8 +1,10 @@
 // Databases of pairs between two batches, and the next batch.
-ghost use Rattle.std.specs.Prelude.{◌≡◌, ◌≤◌, true};
+ghost use Rattle.std.specs.Prelude.{◌≡◌, ◌≤◌, ◌∷◌, [], pos, true, IfOk};
 ghost use Rattle.std.specs.List.{list_all};
 ghost use Rattle.aria_base.specs.Schemas.{IsConsistent};
+ghost use Rattle.aria_base.specs.declared.keys.Part.TheVariants as part;
 ghost use Rattle.aria_base.specs.declared.limits.TheConstants.{MOST_WORKERS};
+ghost use Rattle.aria_base.specs.declared.values.Value.TheVariants as value;
 ghost use Rattle.range_suits.specs.Suits.{is_taken};
 ghost use Rattle.worked_scans.specs.Counting.{has_two};
 ghost use Rattle.worked_scans.specs.Pairs.{HasPairs, MayRun};
@@ -16,7 +18,6 @@ use proc_lang::Catalog;
 use range_resv::{NumberedWork, RoutineCall, ScanEngine, Work};
 use std::alloc::Global;
 use std::process::Abort;
-use std::test::Fail;
 use std::thread::Threads;
 use tbl_rows::Tables;
 
@@ -30,7 +31,9 @@ const TEXT: &str = concat!(
 );
 
 /// The key of a pair.
-pub fn key(a: i64, b: i64) -> Key {
+pub fn key(a: i64, b: i64) -> Key
+    ensures { result ≡ record { table = 0; parts = part.Int a ∷ part.Int b ∷ [] } }
+{
     Key {
         table: 0,
         parts: Parts::two(Part::Int(a), Part::Int(b)),
@@ -38,13 +41,16 @@ pub fn key(a: i64, b: i64) -> Key {
 }
 
 /// A row of one number.
-pub fn row(alloc: Global, number: i64) -> Result<Row, Memory> {
+pub fn row(alloc: Global, number: i64) -> Result<Row, Memory>
+    ensures { IfOk result (λ row. row ≡ value.Int number ∷ []) }
+{
     let mut values = Vec::new(alloc);
     values.push(Value::Int(number))?;
     Ok(Row::from_vec(values))
 }
 
 /// Puts a pair.
+#[tactic(auto, using(crate::proofs::Readiness::fit_with))]
 fn put(rt: &impl Abort, alloc: Global, catalog: &Catalog, tables: &mut Tables, pair: (i64, i64, i64))
     requires { IsConsistent catalog.now.tables tables.old }
     ensures { IsConsistent catalog.now.tables tables.new }
@@ -56,6 +62,7 @@ fn put(rt: &impl Abort, alloc: Global, catalog: &Catalog, tables: &mut Tables, p
 }
 
 /// The tables of these pairs.
+#[tactic(auto, using(crate::proofs::Readiness::fit_nowhere))]
 fn tables(rt: &impl Abort, alloc: Global, catalog: &Catalog, pairs: &[(i64, i64, i64)]) -> Tables
     ensures { IsConsistent catalog.now.tables result }
 {
@@ -111,6 +118,7 @@ fn waiting_taken(engine: &ScanEngine, waiting: &[NumberedWork]) -> bool
 }
 
 /// Whether a batch of these works may be run on the engine.
+#[tactic(auto, using(crate::proofs::Readiness::all_taken))]
 fn may_run(engine: &ScanEngine, works: &Vec<Work>) -> bool
     ensures { result ≡ true → MayRun engine.now works.now.items }
 {
@@ -125,6 +133,7 @@ fn may_run(engine: &ScanEngine, works: &Vec<Work>) -> bool
 }
 
 /// Runs the next batch.
+#[tactic(auto, using(crate::proofs::Suiting::counting_suits))]
 pub fn run<T: Abort + Threads + Sync>(
     rt: &T,
     alloc: Global,
