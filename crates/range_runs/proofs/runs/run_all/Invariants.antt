@@ -5,4 +5,4 @@ use Rattle.range_runs.proofs.runs.run_all.Given as goal
 
 abbrev pub invariant-loop-asked : goal.invariant-loop-asked
 invariant-loop-asked g l =
-    l.rans.items ≡ map (ran_on (run_of l.catalog) (g.R.Routine.act l.routines) l.snapshot) (take l.asked-index l.list)
+    l.rans.items ≡ map (ran_on (run_of l.catalog) (g.R.Routine.act l.routines) l.fn.snapshot) (take l.asked-index l.list)
