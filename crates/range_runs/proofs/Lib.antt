@@ -1,0 +1,4 @@
+pub mod Following
+mod Ranges
+mod RowsUnder
+pub mod Trees

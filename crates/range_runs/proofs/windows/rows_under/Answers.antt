@@ -1,0 +1,30 @@
+use Rattle.std.proofs.Common.{◌≡◌, ◌+◌, ◌++◌, [], ◌∷◌, map, take, cond, None, sym, ap, ◌∙◌}
+use Rattle.std.specs.FinMap as fin
+use Rattle.std.proofs.lemmas.List.{take_more, map-append, take_all}
+use Rattle.aria_base.specs.Orders.{key_cmp}
+use Rattle.batch_rules.specs.Touches.{is_among}
+use Rattle.range_runs.specs.Windows.{put_if}
+use Rattle.range_runs.proofs.RowsUnder.{found-is, found-more}
+use Rattle.range_runs.proofs.windows.rows_under.Goals as goal
+
+pub loop-key-init : goal.loop-key-init
+loop-key-init c q = ap (λ m. fin.get m q) c.new-found.ensures ∙ fin.get-empty key_cmp q
+
+pub loop-key-preserved : goal.loop-key-preserved
+loop-key-preserved c q =
+    let xs = c.deref-key-items.result.now in
+    let i = c.loop-key.key-index in
+    let k = c.key-item.result.now in
+    let more : map (λ k. k.now) (take (i + 1) xs) ≡ map (λ k. k.now) (take i xs) ++ k ∷ [] =
+    ap (map (λ k. k.now)) (take_more xs i c.key-item.result c.loop-key-test.true)
+    ∙ map-append (λ k. k.now) (take i xs) _ ∙ ap (λ x. map (λ k. k.now) (take i xs) ++ x.now ∷ []) (sym c.key-item.is) in
+    ap (λ m. fin.get m q) (c.in_ok-put_found.ensures ∙ ap (put_if c.loop-key.found k) c.get.ensures)
+    ∙ found-more c.args.snapshot.now c.loop-key.found (map (λ k. k.now) (take i xs)) k c.loop-key.invariant q
+    ∙ ap (λ ks. cond (is_among key_cmp ks q) (fin.get c.args.snapshot.now q) None) (sym more)
+
+pub returns : goal.returns
+returns c =
+    let xs = c.deref-key-items.result.now in
+    let all = ap (map (λ k. k.now)) (take_all c.loop-key.key-index xs c.loop-key-test.false ∙ c.deref-key-items.ensures.value) ∙ c.in_ok-keys.ensures in
+    found-is c.args.index.now c.args.snapshot.now c.loop-key.found c.args.prefix.now c.requires
+    (λ q. c.loop-key.invariant q ∙ ap (λ ks. cond (is_among key_cmp ks q) (fin.get c.args.snapshot.now q) None) all)

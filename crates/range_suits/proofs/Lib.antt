@@ -1,0 +1,4 @@
+mod Guarded
+mod Noting
+mod Routines
+mod Works
