@@ -24,14 +24,14 @@ module _ {X : Type 0} where
       → (q : Key) → fin.contains_key (fin.remove m k) q ≡ true → is_among key_cmp ks q ≡ true
   behind m k ks all q h = elim (eq_by_cmp key_cmp q k) as (λ e. eq_by_cmp key_cmp q k ≡ e → is_some (cond e None (fin.get m q)) ≡ true → is_among key_cmp ks q
       ≡ true) [
-    | true ↦ λ t none. cc
-    | false ↦ λ t some. sym (ap (λ b. b || is_among key_cmp ks q) t) ∙ all q some
-  ] refl (sym (ap is_some (fin.get-remove key_cmp_total m k q)) ∙ h)
+        | true ↦ λ t none. cc
+        | false ↦ λ t some. sym (ap (λ b. b || is_among key_cmp ks q) t) ∙ all q some
+      ] refl (sym (ap is_some (fin.get-remove key_cmp_total m k q)) ∙ h)
 
   nothing_in : (m : fin.FinMap key_cmp X) → ((q : Key) → fin.contains_key m q ≡ true → false ≡ true) → m ≡ fin.empty
   nothing_in m all = fin.same_map key_cmp_total key_cmp-IsAntisymmetric m fin.empty (λ q.
       elim (fin.get m q) as (λ r. fin.get m q ≡ r → r ≡ fin.get {R = key_cmp} fin.empty q)
-          [ None ↦ λ r. sym (fin.get-empty key_cmp q) | Some x ↦ λ r. cc (all q (ap is_some r)) ] refl)
+      [ None ↦ λ r. sym (fin.get-empty key_cmp q) | Some x ↦ λ r. cc (all q (ap is_some r)) ] refl)
 
   pub len_within : (m : fin.FinMap key_cmp X) (ks : List Key) → ((q : Key) → fin.contains_key m q ≡ true → is_among key_cmp ks q ≡ true) → fin.len m ≤ length ks
   len_within m [] all = let none : fin.len m ≡ 0 = ap fin.len (nothing_in m all) ∙ fin.len-empty key_cmp X in omega arith
@@ -65,7 +65,7 @@ module _ (keys : List Key) where
   with_sets-inside n (s ∷ ss) inside all =
       let own = All-head (IsWithin keys) s ss all in
       with_sets-inside (with_keys (with_keys n s.reads) s.writes) ss
-          (with_keys-inside (with_keys n s.reads) s.writes (with_keys-inside n s.reads inside own.reads) own.writes) (All-tail (IsWithin keys) s ss all)
+      (with_keys-inside (with_keys n s.reads) s.writes (with_keys-inside n s.reads inside own.reads) own.writes) (All-tail (IsWithin keys) s ss all)
 
   none-inside : Inside fin.empty
   none-inside = record { all = λ q h. cc (sym (ap is_some (fin.get-empty {X = ℕ} key_cmp q)) ∙ h) }

@@ -44,12 +44,12 @@ module _ (whole : Key → Bool) (keys : List Key) (number : Key → ℕ) (scanne
 
   verdicts-behind : (earlier rest : List Spot) → spots ≡ earlier ++ rest
       → map (scan_verdict rule sheet counts) (range_with_len (length earlier + 1) (length rest))
-          ≡ map (λ d. d.verdict) (judged (through (λ s. s.ran) depends) rule earlier rest)
+      ≡ map (λ d. d.verdict) (judged (through (λ s. s.ran) depends) rule earlier rest)
   verdicts-behind earlier [] e = refl
   verdicts-behind earlier (s ∷ rest) e =
       let first = one-verdict earlier s rest e in
       let next = ap (λ n. map (scan_verdict rule sheet counts) (range_with_len (n + 1) (length rest))) (sym (length-append earlier (s ∷ [])))
-          ∙ verdicts-behind (earlier ++ s ∷ []) rest (e ∙ sym (append_assoc earlier (s ∷ []) rest)) in
+      ∙ verdicts-behind (earlier ++ s ∷ []) rest (e ∙ sym (append_assoc earlier (s ∷ []) rest)) in
       λ i. first i ∷ next i
 
   -- the verdicts of all, by what the spots carry

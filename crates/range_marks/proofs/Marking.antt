@@ -89,19 +89,19 @@ same_parts (p ∷ ps) (x ∷ xs) (suc n) below = tied_then (part_cmp p x) (slice
 same_front : (p : Prefix) (k : Key) (n : ℕ) → n ≤ length k.parts → eq_by_cmp key_cmp (key_of p) (front_of k n) ≡ (is_under p k && nat_eq (length p.parts) n)
 same_front p k n below = tied_then (nat_cmp p.table k.table) (slice_cmp part_cmp p.parts (take n k.parts))
     ∙ (λ i. unsigned_tied p.table k.table i && same_parts p.parts k.parts n below i) ∙ and_assoc (nat_eq p.table k.table) (begins p.parts k.parts)
-        (nat_eq (length p.parts) n)
+    (nat_eq (length p.parts) n)
 
 -- a scanned prefix is the front that was looked up, or it is not there
 looked_up : (scanned : Listed) (q f : Key) → fin.contains_key scanned q ≡ true → is_among key_cmp (if fin.contains_key scanned f then f ∷ [] else []) q
     ≡ eq_by_cmp key_cmp q f
 looked_up scanned q f there = elim (fin.contains_key scanned f) as (λ b. fin.contains_key scanned f ≡ b → is_among key_cmp (if b then f ∷ [] else []) q
     ≡ eq_by_cmp key_cmp q f) [
-  | true ↦ λ e. or_none (eq_by_cmp key_cmp q f)
-  | false ↦ λ e. elim (eq_by_cmp key_cmp q f) as (λ b. eq_by_cmp key_cmp q f ≡ b → false ≡ b) [
-    | true ↦ λ t. sym e ∙ ap (fin.contains_key scanned) (sym (same_key key_cmp-IsAntisymmetric q f t)) ∙ there
-    | false ↦ λ t. refl
-  ] refl
-] refl
+      | true ↦ λ e. or_none (eq_by_cmp key_cmp q f)
+      | false ↦ λ e. elim (eq_by_cmp key_cmp q f) as (λ b. eq_by_cmp key_cmp q f ≡ b → false ≡ b) [
+        | true ↦ λ t. sym e ∙ ap (fin.contains_key scanned) (sym (same_key key_cmp-IsAntisymmetric q f t)) ∙ there
+        | false ↦ λ t. refl
+      ] refl
+    ] refl
 
 fronts_each : (scanned : Listed) (k : Key) (n : ℕ) (p : Prefix) → n ≤ length k.parts → 1 ≤ length p.parts → fin.contains_key scanned (key_of p) ≡ true
     → is_among key_cmp (fronts_up_to scanned k n) (key_of p) ≡ (is_under p k && nat_lt (length p.parts) (suc n))
@@ -122,12 +122,12 @@ begins_within (p ∷ ps) (x ∷ xs) e = elim (eq_by_cmp part_cmp p x) as (λ b. 
 under_within : (p : Prefix) (k : Key) → (is_under p k && nat_lt (length p.parts) (suc (length k.parts))) ≡ is_under p k
 under_within p k = elim (nat_eq p.table k.table) as (λ t. ((t && begins p.parts k.parts) && nat_lt (length p.parts) (suc (length k.parts)))
     ≡ (t && begins p.parts k.parts)) [
-  | true ↦ elim (begins p.parts k.parts) as (λ b. begins p.parts k.parts ≡ b → (b && nat_lt (length p.parts) (suc (length k.parts))) ≡ b) [
-    | true ↦ λ e. let few = begins_within p.parts k.parts e in lt-ltb (length p.parts) (suc (length k.parts)) (omega arith)
-    | false ↦ λ e. refl
-  ] refl
-  | false ↦ refl
-]
+      | true ↦ elim (begins p.parts k.parts) as (λ b. begins p.parts k.parts ≡ b → (b && nat_lt (length p.parts) (suc (length k.parts))) ≡ b) [
+        | true ↦ λ e. let few = begins_within p.parts k.parts e in lt-ltb (length p.parts) (suc (length k.parts)) (omega arith)
+        | false ↦ λ e. refl
+      ] refl
+      | false ↦ refl
+    ]
 
 -- a scanned prefix is marked exactly where one of the keys is under it
 pub marked_each : (scanned : Listed) (ks : List Key) (p : Prefix) → 1 ≤ length p.parts → fin.contains_key scanned (key_of p) ≡ true

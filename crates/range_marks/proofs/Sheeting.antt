@@ -100,7 +100,7 @@ module _ (rs : List Ran) (apart : AreApart rs) (sheet : Sheet) (n : NumbersSets 
     pub are_counted : AreCounted sheet counts
     are_counted =
         let many : length sheet.reads ≡ length rs = ap length numbered.reads_are ∙ length-map spots (λ s. map n.number s.sets.reads)
-            ∙ length-map rs spot in record {
+        ∙ length-map rs spot in record {
           each = ap length counted ∙ length-map rs (λ r. length (written r)) ∙ sym many;
           own = λ tid first last. own_in tid (omega (arith, first, last, many)) (any rs (omega (arith, first, last, many)));
         }

@@ -90,7 +90,7 @@ marks_cover scanned keys marks (p ∷ ps) are all long =
     let In : Prefix → Type 0 = λ p. is_among key_cmp scanned (key_of p) ≡ true in
     let Long : Prefix → Type 0 = λ p. 1 ≤ length p.parts in
     λ i. are.each p (All-head Long p ps long) (All-head In p ps all) i || marks_cover scanned keys marks ps are (All-tail In p ps all)
-        (All-tail Long p ps long) i
+    (All-tail Long p ps long) i
 
 -- ---- two runs of a batch
 
@@ -105,7 +105,7 @@ module _ (whole : Key → Bool) (scanned : List Key) (parts : All (λ k. whole k
   pub waw_is : meets key_cmp (written me.ran) other.sets.writes ≡ meets key_cmp (written me.ran) (written other.ran)
   waw_is = ap (meets key_cmp (written me.ran)) its.writes ∙ meets_behind (written me.ran) (written other.ran) its.marks
       ∙ ap (λ b. meets key_cmp (written me.ran) (written other.ran) || b)
-          (none_met whole true (written me.ran) its.marks mine.writes (all_marks (written other.ran) its.marks its.are)) ∙ or_false _
+      (none_met whole true (written me.ran) its.marks mine.writes (all_marks (written other.ran) its.marks its.are)) ∙ or_false _
 
   pub raw_is : meets key_cmp me.sets.reads other.sets.writes ≡ (meets key_cmp me.ran.reads (written other.ran) || covers_any me.ran.scans (written other.ran))
   raw_is =
@@ -114,7 +114,7 @@ module _ (whole : Key → Bool) (scanned : List Key) (parts : All (λ k. whole k
       (λ i. meets key_cmp (my.reads i) (its.writes i)) ∙ list_any-append (is_among key_cmp (theirs_written ++ its.marks)) me.ran.reads scans
       ∙ (λ i. (meets_behind me.ran.reads theirs_written its.marks
       ∙ ap (λ b. meets key_cmp me.ran.reads theirs_written || b)
-          (none_met whole true me.ran.reads its.marks mine.reads (all_marks theirs_written its.marks its.are)) ∙ or_false _) i
+      (none_met whole true me.ran.reads its.marks mine.reads (all_marks theirs_written its.marks its.are)) ∙ or_false _) i
       || (meets_behind scans theirs_written its.marks
       ∙ ap (λ b. b || meets key_cmp scans its.marks) (none_met whole false scans theirs_written (all_scans me mine) theirs.writes)
       ∙ marks_cover scanned theirs_written its.marks me.ran.scans its.are my.scans mine.long) i)
@@ -193,11 +193,11 @@ module _ (whole : Key → Bool) (keys : List Key) (number : Key → ℕ) (scanne
         waw = ap (λ mine. map (λ t. meets nat_cmp mine (writes_at sheet t)) (tids_before tid)) (own-is counts count)
             ∙ all (λ s. written s.ran) (λ s. s.sets.writes) own_lists sheet.writes refl n.writes_are has_own n.writes_among
             ∙ each (λ s. meets key_cmp (written me.ran) s.sets.writes) (λ s. depends.waw me.ran s.ran)
-                (λ k d below. waw_is whole scanned is.parts me (get_or spots k d) my (is.spots_are k d below) mine (is.tell k d below));
+            (λ k d below. waw_is whole scanned is.parts me (get_or spots k d) my (is.spots_are k d below) mine (is.tell k d below));
         raw = all (λ s. s.sets.reads) (λ s. s.sets.writes) sheet.reads sheet.writes n.reads_are n.writes_are n.reads_among n.writes_among
             ∙ each (λ s. meets key_cmp me.sets.reads s.sets.writes) (λ s. depends.raw me.ran s.ran)
-                (λ k d below. raw_is whole scanned is.parts me (get_or spots k d) my (is.spots_are k d below) mine (is.tell k d below));
+            (λ k d below. raw_is whole scanned is.parts me (get_or spots k d) my (is.spots_are k d below) mine (is.tell k d below));
         war = all (λ s. s.sets.writes) (λ s. s.sets.reads) sheet.writes sheet.reads n.writes_are n.reads_are n.writes_among n.reads_among
             ∙ each (λ s. meets key_cmp me.sets.writes s.sets.reads) (λ s. depends.war me.ran s.ran)
-                (λ k d below. war_is whole scanned is.parts me (get_or spots k d) my (is.spots_are k d below) mine (is.tell k d below));
+            (λ k d below. war_is whole scanned is.parts me (get_or spots k d) my (is.spots_are k d below) mine (is.tell k d below));
       })

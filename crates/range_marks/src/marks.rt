@@ -76,7 +76,11 @@ impl Scanned {
     }
 
     /// The prefixes that one of the keys written is under: at most five are looked up for each. One may stand there several times.
-    pub(crate) fn marks(&self, alloc: Global, writes: &[(Key, Option<Row>)]) -> Result<Vec<Key>, Memory>
+    pub(crate) fn marks(
+        &self,
+        alloc: Global,
+        writes: &[(Key, Option<Row>)],
+    ) -> Result<Vec<Key>, Memory>
         ensures { IfOk result (λ marks. marks.items ≡ marks_on self.now (keys_of writes.now)) }
     {
         let mut marks = Vec::new(alloc);

@@ -50,8 +50,10 @@ length-numbered n (work ∷ works) = ap suc (length-numbered (n + 1) works)
 
 numbered-rise : (n : ℕ) (works : List Work) → RiseWithin (λ w. w.q) n (numbered n works) (n + length works)
 numbered-rise n [] = omega arith
-numbered-rise n (work ∷ works) = (omega arith,
-    subst (λ high. RiseWithin (λ w. w.q) (n + 1) (numbered (n + 1) works) high) (omega arith) (numbered-rise (n + 1) works))
+numbered-rise n (work ∷ works) = (
+  omega arith,
+  subst (λ high. RiseWithin (λ w. w.q) (n + 1) (numbered (n + 1) works) high) (omega arith) (numbered-rise (n + 1) works),
+)
 
 taken-numbered : (test : Work → Bool) (n : ℕ) (works : List Work) → All (λ work. test work ≡ true) works
     → All (λ w. test w.work ≡ true) (numbered n works)
@@ -199,9 +201,17 @@ module _ {e self : Between} (view : e ≡ self) (taken : RoutineCall → Bool) (
           (record { plan = e.plan; rows = c.tables; carried = left; batches = e.batches + 1; requests = e.requests + count })
           (record { number = e.batches + 1; lines = s.lines; order = s.order })) view
           (subst (λ (p : Between × Answer). Done taken act rule works e p.0 p.1)
-          (λ i. (record { plan = e.plan; rows = sym all.rows i; carried = sym (l ∙ settled.carried) i; batches = e.batches + 1; requests = e.requests + sym n
-              i },
-          record { number = e.batches + 1; lines = sym settled.lines i; order = sym settled.order i }))
+          (λ i. (
+            record {
+              plan = e.plan;
+              rows = sym all.rows i;
+              carried = sym (l ∙ settled.carried) i;
+              batches = e.batches + 1;
+              requests = e.requests + sym n
+                  i;
+            },
+            record { number = e.batches + 1; lines = sym settled.lines i; order = sym settled.order i },
+          ))
           (all-done taken act rule works e behave whole ready may-e))
 
       pub ready-again : IsReady e.plan c.tables left (e.batches + 1) (e.requests + count)

@@ -112,7 +112,9 @@ impl ScanEngine {
         let total = requests + new.len() as u64;
         let list = number_works(carried.into_vec(), new, requests)?;
         let index = index_for(alloc, index, &tables)?;
-        let committed = commit(rt, alloc, &catalog, routines, tables, index, &list, config, pace)?;
+        let committed = commit(
+            rt, alloc, &catalog, routines, tables, index, &list, config, pace,
+        )?;
         let Committed {
             tables,
             index,

@@ -22,9 +22,9 @@ written_more : (ws : List (Key × Option Cells)) (k : Key) (row : Option Cells) 
 written_more [] k row = omega arith
 written_more (w ∷ ws) k row = elim (eq_by_cmp key_cmp k w.0)
     as (λ b. length (if b then (w.0, row) ∷ ws else w ∷ with_write key_cmp ws k row) ≤ suc (suc (length ws))) [
-  | true ↦ (let e : suc (length ws) ≤ suc (suc (length ws)) = omega arith in e)
-  | false ↦ (let rest = written_more ws k row in omega arith)
-]
+      | true ↦ (let e : suc (length ws) ≤ suc (suc (length ws)) = omega arith in e)
+      | false ↦ (let rest = written_more ws k row in omega arith)
+    ]
 
 abbrev pub touched : Course → ℕ
 touched c = (length c.noted.reads + length c.noted.writes) + length c.scans
@@ -40,9 +40,9 @@ touched_on act zero c = elim (stop_of (act c.seen)) as (λ s. touched (ended_by 
     [ None ↦ omega arith | Some e ↦ omega arith ]
 touched_on act (suc n) c = elim (stop_of (act c.seen))
     as (λ s. touched (ended_by s c (run_from act n (after_action c (act c.seen)))).course ≤ touched c + suc n) [
-  | None ↦ (let rest = touched_on act n (after_action c (act c.seen)) in let one = one_touch c (act c.seen) in omega arith)
-  | Some e ↦ omega arith
-]
+      | None ↦ (let rest = touched_on act n (after_action c (act c.seen)) in let one = one_touch c (act c.seen) in omega arith)
+      | Some e ↦ omega arith
+    ]
 
 pub touches_few : (act : List Seen → Action) (db : Database) → touched (run_routine act db).course ≤ MOST_ACTIONS
 unfolding run_routine

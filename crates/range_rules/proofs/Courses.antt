@@ -29,10 +29,10 @@ under_scanned : (scans : List Prefix) (p : Prefix) (k : Key) → is_among key_cm
 under_scanned [] p k e u = cc
 under_scanned (q ∷ qs) p k e u = elim (eq_by_cmp key_cmp (key_of p) (key_of q)) as (λ b. eq_by_cmp key_cmp (key_of p) (key_of q) ≡ b
     → (b || is_among key_cmp (map key_of qs) (key_of p)) ≡ true → (is_under q k || is_under_any qs k) ≡ true) [
-  | true ↦ λ t _. or_left _ _
-      (sym (ap (λ (x : Key). is_under (record { table = x.table; parts = x.parts }) k) (same_key key_cmp-IsAntisymmetric (key_of p) (key_of q) t)) ∙ u)
-  | false ↦ λ t rest. or_right _ _ (under_scanned qs p k rest u)
-] refl e
+      | true ↦ λ t _. or_left _ _
+          (sym (ap (λ (x : Key). is_under (record { table = x.table; parts = x.parts }) k) (same_key key_cmp-IsAntisymmetric (key_of p) (key_of q) t)) ∙ u)
+      | false ↦ λ t rest. or_right _ _ (under_scanned qs p k rest u)
+    ] refl e
 
 scan_kept : (scans : List Prefix) (p : Prefix) (k : Key) → is_under_any scans k ≡ true → is_under_any (with_scan scans p) k ≡ true
 scan_kept scans p k e = elim (is_among key_cmp (map key_of scans) (key_of p)) as (λ b. is_under_any (if b then scans else scans ++ p ∷ []) k ≡ true) [
@@ -43,16 +43,16 @@ scan_kept scans p k e = elim (is_among key_cmp (map key_of scans) (key_of p)) as
 scan_covers : (scans : List Prefix) (p : Prefix) (k : Key) → is_under p k ≡ true → is_under_any (with_scan scans p) k ≡ true
 scan_covers scans p k u = elim (is_among key_cmp (map key_of scans) (key_of p)) as (λ b. is_among key_cmp (map key_of scans) (key_of p) ≡ b
     → is_under_any (if b then scans else scans ++ p ∷ []) k ≡ true) [
-  | true ↦ λ e. under_scanned scans p k e u
-  | false ↦ λ e. list_any-append (λ q. is_under q k) scans (p ∷ []) ∙ or_right _ _ (or_left _ _ u)
-] refl
+      | true ↦ λ e. under_scanned scans p k e u
+      | false ↦ λ e. list_any-append (λ q. is_under q k) scans (p ∷ []) ∙ or_right _ _ (or_left _ _ u)
+    ] refl
 
 -- maps that agree under a prefix have the same rows there
 pub scan_agrees : (x y : Database) (p : Prefix) → ((k : Key) → is_under p k ≡ true → fin.get x k ≡ fin.get y k) → scan x p ≡ scan y p
 scan_agrees x y p h = ap fin.entries (same_map key_cmp_total key_cmp-IsAntisymmetric (fin.retain_keys x (is_under p)) (fin.retain_keys y (is_under p)) (λ k.
     fin.get-retain_keys x (is_under p) k (λ z t. ap (is_under p) (sym (key_cmp-IsAntisymmetric k z t)))
     ∙ elim (is_under p k) as (λ b. is_under p k ≡ b → (if b then fin.get x k else None) ≡ (if b then fin.get y k else None))
-        [ true ↦ λ u. h k u | false ↦ λ u. refl ] refl
+    [ true ↦ λ u. h k u | false ↦ λ u. refl ] refl
     ∙ sym (fin.get-retain_keys y (is_under p) k (λ z t. ap (is_under p) (sym (key_cmp-IsAntisymmetric k z t))))))
 
 module _ (act : List Seen → Action) where
@@ -121,32 +121,32 @@ module _ (act : List Seen → Action) where
   agree : (n : ℕ) (c : Course) (y : Database) → Agree (run_from act n c) c y → SameEnded (run_from act n c) (run_from act n (on_map c y))
   agree zero c y h = elim (stop_of (act c.seen))
       as (λ s. SameEnded (ended_by s c (record { end = too_many; course = c })) (ended_by s (on_map c y) (record { end = too_many; course = on_map c y }))) [
-    | None ↦ record { end = refl; noted = refl; scans = refl }
-    | Some e ↦ record { end = refl; noted = refl; scans = refl }
-  ]
+        | None ↦ record { end = refl; noted = refl; scans = refl }
+        | Some e ↦ record { end = refl; noted = refl; scans = refl }
+      ]
   agree (suc n) c y h = elim (act c.seen) as (λ a. Agree (step n c a) c y → SameEnded (step n c a) (step n (on_map c y) a)) [
     | Read k ↦ λ h.
         let next = after_action c (Read k) in
         let same : fin.get c.map k
-            ≡ fin.get y k = h k (weaker _ _ _ (λ e. or_left _ _ (kept_on act (HasRead k) (λ c. read_kept k c (act c.seen)) n next (record { is = e })).is)
-            (has_read key_cmp_total c.noted k)) in
+        ≡ fin.get y k = h k (weaker _ _ _ (λ e. or_left _ _ (kept_on act (HasRead k) (λ c. read_kept k c (act c.seen)) n next (record { is = e })).is)
+        (has_read key_cmp_total c.noted k)) in
         let other : on_map next y
-            ≡ after_action (on_map c y) (Read k) = λ i. record { map = y; noted = next.noted; scans = c.scans; seen = c.seen ++ One (same i) ∷ [] } in
+        ≡ after_action (on_map c y) (Read k) = λ i. record { map = y; noted = next.noted; scans = c.scans; seen = c.seen ++ One (same i) ∷ [] } in
         subst (λ d. SameEnded (run_from act n next) (run_from act n d)) other (agree n next y h)
     | Write k row ↦ λ h.
         let next = after_action c (Write k row) in
         let r = run_from act n next in
         agree n next (set_at y k row) (λ q e. set_agree key_cmp_total c.map y k row q (λ apart. h q (
         sym (ap (λ b. seen_by r q || b) (is_among-with_write key_cmp_total key_cmp-IsAntisymmetric c.noted.writes k row q
-            ∙ ap (λ b. b || is_among key_cmp (keys_of c.noted.writes) q) apart)) ∙ e)))
+        ∙ ap (λ b. b || is_among key_cmp (keys_of c.noted.writes) q) apart)) ∙ e)))
     | Scan p ↦ λ h.
         let next = after_action c (Scan p) in
         let same : scan c.map p
-            ≡ scan y p = scan_agrees c.map y p
-            (λ k u. h k (or_left _ _
-            (or_right _ _ (kept_on act (HasScanned k) (λ c. scanned_kept k c (act c.seen)) n next (record { is = scan_covers c.scans p k u })).is))) in
+        ≡ scan y p = scan_agrees c.map y p
+        (λ k u. h k (or_left _ _
+        (or_right _ _ (kept_on act (HasScanned k) (λ c. scanned_kept k c (act c.seen)) n next (record { is = scan_covers c.scans p k u })).is))) in
         let other : on_map next y
-            ≡ after_action (on_map c y) (Scan p) = λ i. record { map = y; noted = c.noted; scans = next.scans; seen = c.seen ++ Many (same i) ∷ [] } in
+        ≡ after_action (on_map c y) (Scan p) = λ i. record { map = y; noted = c.noted; scans = next.scans; seen = c.seen ++ Many (same i) ∷ [] } in
         subst (λ d. SameEnded (run_from act n next) (run_from act n d)) other (agree n next y h)
     | Stop e ↦ λ h. record { end = refl; noted = refl; scans = refl }
   ] h

@@ -56,9 +56,9 @@ module _ {X : Type 0} (test : X → Bool) where
   stood [] i below = absurd (omega (arith, below))
   stood (x ∷ xs) i below = elim (test x) as (λ b. i < length (cond b (x ∷ filter test xs) (filter test xs))
       → StoodAt (x ∷ xs) (cond b (x ∷ filter test xs) (filter test xs)) i) [
-    | true ↦ λ below. in_front x xs (filter test xs) i below (stood xs)
-    | false ↦ λ below. one_on x xs (filter test xs) i (stood xs i below)
-  ] below
+        | true ↦ λ below. in_front x xs (filter test xs) i below (stood xs)
+        | false ↦ λ below. one_on x xs (filter test xs) i (stood xs i below)
+      ] below
 
 -- ---- the first work
 

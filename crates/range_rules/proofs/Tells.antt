@@ -39,7 +39,7 @@ depends_tell = record {
   waw = λ d x e. e;
   raw = λ d x e k within. neither (is_among key_cmp d.reads k) (is_under_any d.scans k)
       (apart_at key_cmp_total key_cmp-IsAntisymmetric (written x) d.reads k
-          (meets_turned key_cmp_total key_cmp-IsAntisymmetric d.reads (written x) (or_parts _ _ e).0) within)
+      (meets_turned key_cmp_total key_cmp-IsAntisymmetric d.reads (written x) (or_parts _ _ e).0) within)
       (uncovered d.scans (written x) k (or_parts _ _ e).1 within);
   war = λ d x e k within. neither (is_among key_cmp x.reads k) (is_under_any x.scans k)
       (apart_at key_cmp_total key_cmp-IsAntisymmetric (written d) x.reads k (or_parts _ _ e).0 within)

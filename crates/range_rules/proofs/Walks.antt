@@ -32,7 +32,7 @@ module _ (act : List Seen → Action) where
       let is = asks (Reads k next) c h in
       run_goes_on act n c (ap stop_of is) ∙ ap (λ a. run_from act n (after_action c a)) is
       ∙ walked (next (fin.get c.map k)) n (after_action c (action.Read k))
-          (goes (Reads k next) (next (fin.get c.map k)) c (after_action c (action.Read k)) (One (fin.get c.map k)) refl (λ rest. refl) h)
+      (goes (Reads k next) (next (fin.get c.map k)) c (after_action c (action.Read k)) (One (fin.get c.map k)) refl (λ rest. refl) h)
   walked (Writes k row next) zero c h = run_out act c (ap stop_of (asks (Writes k row next) c h))
   walked (Writes k row next) (suc n) c h =
       let is = asks (Writes k row next) c h in
@@ -43,7 +43,7 @@ module _ (act : List Seen → Action) where
       let is = asks (Scans p next) c h in
       run_goes_on act n c (ap stop_of is) ∙ ap (λ a. run_from act n (after_action c a)) is
       ∙ walked (next (scan c.map p)) n (after_action c (action.Scan p))
-          (goes (Scans p next) (next (scan c.map p)) c (after_action c (action.Scan p)) (Many (scan c.map p)) refl (λ rest. refl) h)
+      (goes (Scans p next) (next (scan c.map p)) c (after_action c (action.Scan p)) (Many (scan c.map p)) refl (λ rest. refl) h)
 
 pub walk_runs : (w : Walk) (db : Database) → run_routine (follow w) db ≡ walk_from w MOST_ACTIONS (at_start db)
 unfolding run_routine

@@ -29,9 +29,9 @@ begins_le [] (x ∷ xs) b = refl
 begins_le (p ∷ ps) [] b = cc
 begins_le (p ∷ ps) (x ∷ xs) b = elim (eq_by_cmp part_cmp p x) as (λ e. eq_by_cmp part_cmp p x ≡ e → (e && begins ps xs) ≡ true
     → is_le (ordering_then (part_cmp p x) (slice_cmp part_cmp ps xs)) ≡ true) [
-  | true ↦ λ e rest. ap (λ o. is_le (ordering_then o (slice_cmp part_cmp ps xs))) ((Equal-is (part_cmp p x)).0 e) ∙ begins_le ps xs rest
-  | false ↦ λ e rest. cc
-] refl b
+      | true ↦ λ e rest. ap (λ o. is_le (ordering_then o (slice_cmp part_cmp ps xs))) ((Equal-is (part_cmp p x)).0 e) ∙ begins_le ps xs rest
+      | false ↦ λ e rest. cc
+    ] refl b
 
 -- parts between some parts and parts that begin with these begin with these as well
 between_begin : (ps es xs : List Part) → is_le (slice_cmp part_cmp ps es) ≡ true → slice_cmp part_cmp es xs ≡ Less → begins ps xs ≡ true → begins ps es ≡ true
@@ -40,19 +40,19 @@ between_begin (p ∷ ps) [] xs low less b = cc
 between_begin (p ∷ ps) (e ∷ es) [] low less b = cc
 between_begin (p ∷ ps) (e ∷ es) (x ∷ xs) low less b = elim (eq_by_cmp part_cmp p x) as (λ t. eq_by_cmp part_cmp p x ≡ t → (t && begins ps xs) ≡ true
     → (eq_by_cmp part_cmp p e && begins ps es) ≡ true) [
-  | true ↦ λ t rest. let same : p ≡ x = part_cmp-IsAntisymmetric p x ((Equal-is (part_cmp p x)).0 t) in
-      elim (part_cmp e x) as (λ o. part_cmp e x ≡ o → ordering_then o (slice_cmp part_cmp es xs) ≡ Less → (eq_by_cmp part_cmp p e && begins ps es) ≡ true) [
-        | Less ↦ λ o _.
-            let above : part_cmp p e ≡ Greater = part_cmp_total.antisymm p e ∙ ap ordering_reverse (ap (part_cmp e) same ∙ o) in
-            cc (sym low ∙ ap (λ r. is_le (ordering_then r (slice_cmp part_cmp ps es))) above)
-        | Equal ↦ λ o later.
-            let alike : part_cmp p e ≡ Equal = part_cmp_total.antisymm p e ∙ ap ordering_reverse (ap (part_cmp e) same ∙ o) in
-            let low_rest : is_le (slice_cmp part_cmp ps es) ≡ true = sym (ap (λ r. is_le (ordering_then r (slice_cmp part_cmp ps es))) alike) ∙ low in
-            ap (λ r. is_eq r && begins ps es) alike ∙ between_begin ps es xs low_rest later rest
-        | Greater ↦ λ o bad. cc
-      ] refl less
-  | false ↦ λ t rest. cc
-] refl b
+      | true ↦ λ t rest. let same : p ≡ x = part_cmp-IsAntisymmetric p x ((Equal-is (part_cmp p x)).0 t) in
+          elim (part_cmp e x) as (λ o. part_cmp e x ≡ o → ordering_then o (slice_cmp part_cmp es xs) ≡ Less → (eq_by_cmp part_cmp p e && begins ps es) ≡ true) [
+            | Less ↦ λ o _.
+                let above : part_cmp p e ≡ Greater = part_cmp_total.antisymm p e ∙ ap ordering_reverse (ap (part_cmp e) same ∙ o) in
+                cc (sym low ∙ ap (λ r. is_le (ordering_then r (slice_cmp part_cmp ps es))) above)
+            | Equal ↦ λ o later.
+                let alike : part_cmp p e ≡ Equal = part_cmp_total.antisymm p e ∙ ap ordering_reverse (ap (part_cmp e) same ∙ o) in
+                let low_rest : is_le (slice_cmp part_cmp ps es) ≡ true = sym (ap (λ r. is_le (ordering_then r (slice_cmp part_cmp ps es))) alike) ∙ low in
+                ap (λ r. is_eq r && begins ps es) alike ∙ between_begin ps es xs low_rest later rest
+            | Greater ↦ λ o bad. cc
+          ] refl less
+      | false ↦ λ t rest. cc
+    ] refl b
 
 -- the same of keys and prefixes
 both_parts : (a b : Bool) → (a && b) ≡ true → (a ≡ true) × (b ≡ true)
@@ -72,16 +72,16 @@ between_under p k x low less u =
     let parts = both_parts _ _ u in
     let table : p.table ≡ x.table = eqb-true p.table x.table parts.0 in
     elim (nat_cmp k.table x.table) as (λ o. nat_cmp k.table x.table ≡ o → ordering_then o (slice_cmp part_cmp k.parts x.parts) ≡ Less
-        → (nat_eq p.table k.table && begins p.parts k.parts) ≡ true) [
+    → (nat_eq p.table k.table && begins p.parts k.parts) ≡ true) [
       | Less ↦ λ o _.
           let above : nat_cmp p.table k.table ≡ Greater = nat_cmp_total.antisymm p.table k.table ∙ ap ordering_reverse (ap (nat_cmp k.table) table ∙ o) in
           cc (sym low ∙ ap (λ r. is_le (ordering_then r (slice_cmp part_cmp p.parts k.parts))) above)
       | Equal ↦ λ o later.
           let alike : nat_cmp p.table k.table ≡ Equal = nat_cmp_total.antisymm p.table k.table ∙ ap ordering_reverse (ap (nat_cmp k.table) table ∙ o) in
           let low_rest : is_le (slice_cmp part_cmp p.parts k.parts)
-              ≡ true = sym (ap (λ r. is_le (ordering_then r (slice_cmp part_cmp p.parts k.parts))) alike) ∙ low in
+          ≡ true = sym (ap (λ r. is_le (ordering_then r (slice_cmp part_cmp p.parts k.parts))) alike) ∙ low in
           ap (λ b. b && begins p.parts k.parts) (eq-eqb p.table k.table (nat_cmp-IsAntisymmetric p.table k.table alike))
-              ∙ between_begin p.parts k.parts x.parts low_rest later parts.1
+          ∙ between_begin p.parts k.parts x.parts low_rest later parts.1
       | Greater ↦ λ o bad. cc
     ] refl less
 
@@ -125,9 +125,9 @@ module _ {X : Type 0} (p : Prefix) where
   front_is [] low rise = refl
   front_is (e ∷ es) low rise = elim (is_under p e.0) as (λ b. is_under p e.0 ≡ b → (if b then e.0 ∷ front_under es else [])
       ≡ cond b (e.0 ∷ all_under es) (all_under es)) [
-    | true ↦ λ u. ap (λ ks. e.0 ∷ ks) (front_is es low.1 (sorted_tail key_cmp e.0 (keys_of es) rise))
-    | false ↦ λ u. sym (none_behind e.0 es low.0 u (sorted_head key_cmp e.0 (keys_of es) rise))
-  ] refl
+        | true ↦ λ u. ap (λ ks. e.0 ∷ ks) (front_is es low.1 (sorted_tail key_cmp e.0 (keys_of es) rise))
+        | false ↦ λ u. sym (none_behind e.0 es low.0 u (sorted_head key_cmp e.0 (keys_of es) rise))
+      ] refl
 
   past : (k : Key) (es : List (Key × X)) → is_le (key_cmp (key_of p) k) ≡ true → AllByRecursion (λ y. key_cmp k y ≡ Less) (keys_of es)
       → AllByRecursion (λ y. is_le (key_cmp (key_of p) y) ≡ true) (keys_of es)
@@ -142,15 +142,15 @@ module _ {X : Type 0} (p : Prefix) where
   range_is [] rise = refl
   range_is (e ∷ es) rise = elim (is_le (key_cmp (key_of p) e.0))
       as (λ b. is_le (key_cmp (key_of p) e.0) ≡ b → front_under (cond b (e ∷ from_least es) (from_least es)) ≡ all_under (e ∷ es)) [
-    | true ↦ λ low.
-        let behind = past e.0 es low (sorted_head key_cmp e.0 (keys_of es) rise) in
-        ap (λ l. front_under (e ∷ l)) (kept_all es behind) ∙ front_is (e ∷ es) (low, behind) rise
-    | false ↦ λ low. range_is es (sorted_tail key_cmp e.0 (keys_of es) rise)
-        ∙ elim (is_under p e.0) as (λ b. is_under p e.0 ≡ b → all_under es ≡ cond b (e.0 ∷ all_under es) (all_under es)) [
-          | true ↦ λ u. cc (sym low ∙ under_le p e.0 u)
-          | false ↦ λ u. refl
-        ] refl
-  ] refl
+        | true ↦ λ low.
+            let behind = past e.0 es low (sorted_head key_cmp e.0 (keys_of es) rise) in
+            ap (λ l. front_under (e ∷ l)) (kept_all es behind) ∙ front_is (e ∷ es) (low, behind) rise
+        | false ↦ λ low. range_is es (sorted_tail key_cmp e.0 (keys_of es) rise)
+            ∙ elim (is_under p e.0) as (λ b. is_under p e.0 ≡ b → all_under es ≡ cond b (e.0 ∷ all_under es) (all_under es)) [
+              | true ↦ λ u. cc (sym low ∙ under_le p e.0 u)
+              | false ↦ λ u. refl
+            ] refl
+      ] refl
 
   between_is : (least : Key) → least ≡ key_of p → (es : List (Key × X)) → entries_between derived_cmp (Included least) Unbounded es ≡ from_least es
   between_is least is [] = refl

@@ -28,16 +28,16 @@ write-is : (p : Prefix) (db : Database) (k : Key) (row : Option Cells) → write
     ≡ fin.retain_keys (set_at db k row) (is_under p)
 write-is p db k row = same_map key_cmp_total key_cmp-IsAntisymmetric _ _ (λ q.
     elim (is_under p k) as (λ b. is_under p k ≡ b → fin.get (if b then set_at (fin.retain_keys db (is_under p)) k row else fin.retain_keys db (is_under p)) q
-        ≡ cond (is_under p q) (cond (eq_by_cmp key_cmp q k) row (fin.get db q)) None) [
+    ≡ cond (is_under p q) (cond (eq_by_cmp key_cmp q k) row (fin.get db q)) None) [
       | true ↦ λ u. get-set_at key_cmp_total (fin.retain_keys db (is_under p)) k row q ∙ ap (cond (eq_by_cmp key_cmp q k) row) (get-under db p q)
           ∙ elim (eq_by_cmp key_cmp q k) as (λ e. eq_by_cmp key_cmp q k ≡ e → cond e row (cond (is_under p q) (fin.get db q) None)
-              ≡ cond (is_under p q) (cond e row (fin.get db q)) None) [
+          ≡ cond (is_under p q) (cond e row (fin.get db q)) None) [
             | true ↦ λ e. sym (ap (λ b. cond b row None) (ap (is_under p) (same_key key_cmp-IsAntisymmetric q k e) ∙ u))
             | false ↦ λ e. refl
           ] refl
       | false ↦ λ u. get-under db p q
           ∙ elim (eq_by_cmp key_cmp q k) as (λ e. eq_by_cmp key_cmp q k ≡ e → cond (is_under p q) (fin.get db q) None
-              ≡ cond (is_under p q) (cond e row (fin.get db q)) None) [
+          ≡ cond (is_under p q) (cond e row (fin.get db q)) None) [
             | true ↦ λ e. let out = ap (is_under p) (same_key key_cmp-IsAntisymmetric q k e) ∙ u in ap (λ b. cond b (fin.get db q) None) out
                 ∙ sym (ap (λ b. cond b row None) out)
             | false ↦ λ e. refl
@@ -56,18 +56,18 @@ is_among-filter : (test : Key → Bool) (ks : List Key) (q : Key) → is_among k
 is_among-filter test [] q = elim (test q) as (λ b. false ≡ (b && false)) [ true ↦ refl | false ↦ refl ]
 is_among-filter test (k ∷ ks) q = elim (test k) as (λ b. test k ≡ b → is_among key_cmp (cond b (k ∷ filter test ks) (filter test ks)) q
     ≡ (test q && (eq_by_cmp key_cmp q k || is_among key_cmp ks q))) [
-  | true ↦ λ t. elim (eq_by_cmp key_cmp q k) as (λ e. eq_by_cmp key_cmp q k ≡ e → (e || is_among key_cmp (filter test ks) q)
-      ≡ (test q && (e || is_among key_cmp ks q))) [
-    | true ↦ λ e. sym (ap (λ b. b && true) (ap test (same_key key_cmp-IsAntisymmetric q k e) ∙ t))
-    | false ↦ λ e. is_among-filter test ks q
-  ] refl
-  | false ↦ λ t. elim (eq_by_cmp key_cmp q k) as (λ e. eq_by_cmp key_cmp q k ≡ e → is_among key_cmp (filter test ks) q
-      ≡ (test q && (e || is_among key_cmp ks q))) [
-    | true ↦ λ e. let out = ap test (same_key key_cmp-IsAntisymmetric q k e) ∙ t in is_among-filter test ks q ∙ ap (λ b. b && is_among key_cmp ks q) out
-        ∙ sym (ap (λ b. b && true) out)
-    | false ↦ λ e. is_among-filter test ks q
-  ] refl
-] refl
+      | true ↦ λ t. elim (eq_by_cmp key_cmp q k) as (λ e. eq_by_cmp key_cmp q k ≡ e → (e || is_among key_cmp (filter test ks) q)
+          ≡ (test q && (e || is_among key_cmp ks q))) [
+            | true ↦ λ e. sym (ap (λ b. b && true) (ap test (same_key key_cmp-IsAntisymmetric q k e) ∙ t))
+            | false ↦ λ e. is_among-filter test ks q
+          ] refl
+      | false ↦ λ t. elim (eq_by_cmp key_cmp q k) as (λ e. eq_by_cmp key_cmp q k ≡ e → is_among key_cmp (filter test ks) q
+          ≡ (test q && (e || is_among key_cmp ks q))) [
+            | true ↦ λ e. let out = ap test (same_key key_cmp-IsAntisymmetric q k e) ∙ t in is_among-filter test ks q ∙ ap (λ b. b && is_among key_cmp ks q) out
+                ∙ sym (ap (λ b. b && true) out)
+            | false ↦ λ e. is_among-filter test ks q
+          ] refl
+    ] refl
 
 absent : {X : Type 0} (r : Option X) → cond (is_some r) r None ≡ r
 absent None = refl
@@ -99,9 +99,9 @@ found-more db found ks k before q =
     elim (fin.get db k) as (λ r. fin.get db k ≡ r → fin.get (put_if found k r) q ≡ cond (eq_by_cmp key_cmp q k) (fin.get db q) (fin.get found q)) [
       | Some row ↦ λ r. fin.get-insert key_cmp_total found k row q
           ∙ elim (eq_by_cmp key_cmp q k) as (λ e. eq_by_cmp key_cmp q k ≡ e → cond e (Some row) (fin.get found q) ≡ cond e (fin.get db q) (fin.get found q)) [
-        | true ↦ λ e. sym (ap (fin.get db) (same_key key_cmp-IsAntisymmetric q k e) ∙ r)
-        | false ↦ λ e. refl
-      ] refl
+            | true ↦ λ e. sym (ap (fin.get db) (same_key key_cmp-IsAntisymmetric q k e) ∙ r)
+            | false ↦ λ e. refl
+          ] refl
       | None ↦ λ r. elim (eq_by_cmp key_cmp q k) as (λ e. eq_by_cmp key_cmp q k ≡ e → fin.get found q ≡ cond e (fin.get db q) (fin.get found q)) [
         | true ↦ λ e. let none = ap (fin.get db) (same_key key_cmp-IsAntisymmetric q k e) ∙ r in before q
             ∙ elim (is_among key_cmp ks q) as (λ b. cond b (fin.get db q) None ≡ fin.get db q) [ true ↦ refl | false ↦ sym none ]

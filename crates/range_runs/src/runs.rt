@@ -11,9 +11,7 @@ use aria_base::{Call, Changes, Duplicate, Memory, Request};
 use exec_phase::execute;
 use proc_exec::Outcome;
 use proc_lang::{Catalog, End, Trap};
-use range_rules::{
-    Action, MOST_ACTIONS, NumberedWork, Prefixes, Ran, Routine, RoutineCall, Work,
-};
+use range_rules::{Action, MOST_ACTIONS, NumberedWork, Prefixes, Ran, Routine, RoutineCall, Work};
 use std::alloc::Global;
 use tbl_snapshot::Snapshot;
 
@@ -32,14 +30,7 @@ pub fn run_all<R: Routine>(
 {
     let mut rans = Vec::with_capacity(alloc, list.len())?;
     for asked in list {
-        rans.push(run_work(
-            alloc,
-            catalog,
-            routines,
-            asked,
-            snapshot.copy(),
-            index,
-        )?)?;
+        rans.push(run_work(alloc, catalog, routines, asked, snapshot.copy(), index)?)?;
     }
     Ok(rans)
 }
@@ -117,8 +108,12 @@ fn run_routine<R: Routine>(
 
 /// What a run with this end through the window comes to.
 fn ran(alloc: Global, window: Window, end: End) -> Ran
-    ensures { let glass = window.entry in result ≡ record { reads = glass.layer.noted.reads;
-        writes = (if is_done end then glass.layer.noted.writes else []); scans = glass.scans; end = end } }
+    ensures { let glass = window.entry in result ≡ record {
+      reads = glass.layer.noted.reads;
+      writes = (if is_done end then glass.layer.noted.writes else []);
+      scans = glass.scans;
+      end = end;
+    } }
 {
     let (reads, writes, scans) = window.parts();
     Ran {

@@ -46,9 +46,9 @@ module _ (schema : List Table) where
   set_fits : (db : Database) (k : Key) (row : Option Cells) → IsConsistent schema db → FitsWrite schema k row → IsConsistent schema (set_at db k row)
   set_fits db k row c fits q cells e = elim (eq_by_cmp key_cmp q k) as (λ b. eq_by_cmp key_cmp q k ≡ b → cond b row (fin.get db q) ≡ Some cells
       → Fits schema q cells) [
-    | true ↦ λ same e. subst (λ k. Fits schema k cells) (sym (same_key key_cmp-IsAntisymmetric q k same)) (subst (FitsWrite schema k) e fits)
-    | false ↦ λ other e. c q cells e
-  ] refl (sym (get-set_at key_cmp_total db k row q) ∙ e)
+        | true ↦ λ same e. subst (λ k. Fits schema k cells) (sym (same_key key_cmp-IsAntisymmetric q k same)) (subst (FitsWrite schema k) e fits)
+        | false ↦ λ other e. c q cells e
+      ] refl (sym (get-set_at key_cmp_total db k row q) ∙ e)
 
   abbrev IsWhole : Key → Type 0
   IsWhole k = is_whole schema k ≡ true

@@ -71,9 +71,9 @@ module _ (plan : Plan) (taken : RoutineCall → Bool) (act : ℕ → RoutineCall
         };
         few = elim (is_done r.end) as (λ b. length r.course.noted.reads + length (if b then r.course.noted.writes else []) + length r.course.scans ≤
             MOST_ACTIONS) [
-          | true ↦ few
-          | false ↦ omega (arith, few)
-        ];
+              | true ↦ few
+              | false ↦ omega (arith, few)
+            ];
         leaves = elim (is_done r.end) as (λ b. IsConsistent plan.tables (if b then r.course.map else db)) [ true ↦ course.rows | false ↦ consistent ];
       }
 

@@ -3,7 +3,7 @@ ghost use Rattle.std.specs.Prelude.{◌≤◌};
 ghost use Rattle.aria_base.specs.declared.limits.TheConstants.{MOST_WORKERS};
 
 use crate::engines::{MEMORY, count, engine, key, run};
-use aria_base::{Args, Arg, Call, Value};
+use aria_base::{Arg, Args, Call, Value};
 use batch_core::{Answer, Reply, Wait};
 use dep_rules::Rule;
 use proc_lang::{End, Gives};
@@ -124,11 +124,17 @@ fn run_plain<T: Abort + Threads + Sync>(rt: &T, alloc: Global, workers: u32)
     let lines = [Told::Gave(1), Told::Gave(5), Told::Gave(2)];
     same(rt, &answer, &lines, &[5, 2, 4]);
     let numbers = answer.lines.as_slice();
-    assert!(rt; numbers.len() == 3 && numbers[0].q == 2 && answer.number == 2, "numbers");
+    assert!(rt;
+        numbers.len() == 3 && numbers[0].q == 2 && answer.number == 2,
+        "numbers"
+    );
     let works = counts(rt, alloc, &[(1, 1)]);
     let (engine, answer) = run(rt, alloc, engine, works, Rule::Reorder, workers);
     same(rt, &answer, &[Told::Gave(3)], &[6]);
-    assert!(rt; engine.tables().get(&key(1, 0)).is_some(), "the last one wrote");
+    assert!(rt;
+        engine.tables().get(&key(1, 0)).is_some(),
+        "the last one wrote"
+    );
 }
 
 #[test]

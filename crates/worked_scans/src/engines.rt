@@ -51,7 +51,13 @@ pub fn row(alloc: Global, number: i64) -> Result<Row, Memory>
 
 /// Puts a pair.
 #[tactic(auto, using(crate::proofs::Readiness::fit_with))]
-fn put(rt: &impl Abort, alloc: Global, catalog: &Catalog, tables: &mut Tables, pair: (i64, i64, i64))
+fn put(
+    rt: &impl Abort,
+    alloc: Global,
+    catalog: &Catalog,
+    tables: &mut Tables,
+    pair: (i64, i64, i64),
+)
     requires { IsConsistent catalog.now.tables tables.old }
     ensures { IsConsistent catalog.now.tables tables.new }
 {

@@ -21,7 +21,7 @@ returns c =
     let written = least_written sheet tag words c.requires.words tid c.requires.tid in
     let read = least_read sheet tag words c.requires.words tid c.requires.tid in
     let waw = c.least_writer-waw.ensures ∙ ap (λ l. least_of (writer_of words tag tid) None (take (slice_index_or c.args.counts.now (tid - 1) 0) l))
-        c.writes_of-writes.ensures.list ∙ written (own_at sheet c.args.counts.now tid) own in
+    c.writes_of-writes.ensures.list ∙ written (own_at sheet c.args.counts.now tid) own in
     let raw = c.least_writer-raw.ensures ∙ ap (least_of (writer_of words tag tid) None) c.reads_of-reads.ensures.list ∙ written (reads_at sheet tid) reads in
     let war = c.least_reader-war.ensures ∙ ap (least_of (reader_of words tag tid) None) c.writes_of-writes.ensures.list ∙ read (writes_at sheet tid) writes in
     c.decided.ensures ∙ (λ i. verdict_by c.args.rule (waw i) (raw i) (war i))

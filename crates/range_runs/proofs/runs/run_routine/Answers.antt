@@ -9,7 +9,7 @@ pub loop-made-init : goal.loop-made-init
 loop-made-init g c =
     let act = g.R.Routine.act c.args.routines.now c.args.q c.args.call.now in
     let begins : course_of c.over-window.result c.new-seen.result.items ≡ at_start c.args.snapshot = λ i. course_of (c.over-window.ensures i)
-        (c.new-seen.ensures.items i) in record {
+    (c.new-seen.ensures.items i) in record {
       base = ap (λ glass. glass.layer.base) c.over-window.ensures;
       leads = subst (Leads act c.args.snapshot 0) (sym begins) (leads_from act c.args.snapshot);
     }
@@ -19,7 +19,7 @@ returns-in-Stop g c =
     let act = g.R.Routine.act c.args.routines.now c.args.q c.args.call.now in
     let few : c.loop-made._made ≤ MOST_ACTIONS = let below = c.loop-made-test.true in omega arith in
     c.ran.ensures ∙ ap ran_by
-        (sym (leads_to act c.args.snapshot c.loop-made._made (course_of c.loop-made.window c.loop-made.seen.items) c.in-Stop.end few c.loop-made.invariant.leads
+    (sym (leads_to act c.args.snapshot c.loop-made._made (course_of c.loop-made.window c.loop-made.seen.items) c.in-Stop.end few c.loop-made.invariant.leads
     (ap act (sym c.deref.ensures.value) ∙ sym c.in_ok-action.ensures ∙ c.in-Stop.is)))
 
 pub loop-made-preserved : goal.loop-made-preserved
@@ -39,8 +39,8 @@ returns-in-Stop-2 g c =
     let act = g.R.Routine.act c.args.routines.now c.args.q c.args.call.now in
     let few : c.loop-made._made ≤ MOST_ACTIONS = omega arith in
     c.ran-in-Stop-2.ensures
-        ∙ ap ran_by (sym (leads_to act c.args.snapshot c.loop-made._made (course_of c.loop-made.window c.loop-made.seen.items) c.in-Stop-2.end few
-        c.loop-made.invariant.leads
+    ∙ ap ran_by (sym (leads_to act c.args.snapshot c.loop-made._made (course_of c.loop-made.window c.loop-made.seen.items) c.in-Stop-2.end few
+    c.loop-made.invariant.leads
     (ap act (sym c.deref-2.ensures.value) ∙ sym c.in_ok-end.ensures ∙ c.in-Stop-2.is)))
 
 pub returns : goal.returns
@@ -50,5 +50,5 @@ returns g c =
     let all : c.loop-made._made ≡ MOST_ACTIONS = omega arith in
     let going : stop_of c.in_ok-end.field-0 ≡ None = search rules in
     c.ran-in_default-2.ensures
-        ∙ ap ran_by (sym (leads_out act c.args.snapshot last (subst (λ n. Leads act c.args.snapshot n last) all c.loop-made.invariant.leads)
+    ∙ ap ran_by (sym (leads_out act c.args.snapshot last (subst (λ n. Leads act c.args.snapshot n last) all c.loop-made.invariant.leads)
     (ap stop_of (ap act (sym c.deref-2.ensures.value) ∙ sym c.in_ok-end.ensures) ∙ going)))

@@ -17,7 +17,7 @@ commit-requires-clause-list g c κs within =
     } in
     let whole = subst IsCatalog c.catalog.view_is c.catalog.invariant in
     few-asked c.self.view_is taken act c.args.config.now.rule c.args.new.items (λ w db. c.taken_behave.ensures _ taken act w db) whole c.self.invariant.0 may
-        _ _ _ c.in_ok-list.ensures c.into_vec.ensures c.deref.ensures.value
+    _ _ _ c.in_ok-list.ensures c.into_vec.ensures c.deref.ensures.value
 
 pub commit-requires-clause-well : goal.commit-requires-clause-well
 commit-requires-clause-well g c κs within =
@@ -33,7 +33,7 @@ commit-requires-clause-well g c κs within =
     } in
     let whole = subst IsCatalog c.catalog.view_is c.catalog.invariant in
     well-asked c.self.view_is taken act c.args.config.now.rule c.args.new.items (λ w db. c.taken_behave.ensures _ taken act w db) whole c.self.invariant.0 may
-        _ _ _ c.in_ok-list.ensures c.into_vec.ensures c.deref.ensures.value
+    _ _ _ c.in_ok-list.ensures c.into_vec.ensures c.deref.ensures.value
 
 pub settle-requires-clause-few : goal.settle-requires-clause-few
 settle-requires-clause-few g c =
@@ -49,7 +49,7 @@ settle-requires-clause-few g c =
     } in
     let whole = subst IsCatalog c.catalog.view_is c.catalog.invariant in
     let few = few-asked c.self.view_is taken act c.args.config.now.rule c.args.new.items (λ w db. c.taken_behave.ensures _ taken act w db) whole
-        c.self.invariant.0 may _ _ _ c.in_ok-list.ensures c.into_vec.ensures c.deref.ensures.value in
+    c.self.invariant.0 may _ _ _ c.in_ok-list.ensures c.into_vec.ensures c.deref.ensures.value in
     omega (arith, few, many-verdicts _ act _ _ _ _ c.in_ok-committed.ensures, ap length c.deref-2.ensures.value)
 
 pub invariant_of-engine : goal.invariant_of-engine
@@ -65,11 +65,13 @@ invariant_of-engine g c =
       requests = c.requires.requests;
     } in
     let whole = subst IsCatalog c.catalog.view_is c.catalog.invariant in
-    let count : c.len.result ≡ length c.args.new.items = search rules in
-    (ready-again c.self.view_is taken act c.args.config.now.rule c.args.new.items (λ w db. c.taken_behave.ensures _ taken act w db) whole c.self.invariant.0
-        may c.in_ok-committed.committed c.in_ok-settled.settled _ _ _ _ c.in_ok-list.ensures c.into_vec.ensures c.deref.ensures.value
-    c.in_ok-committed.ensures c.deref-2.ensures.value c.in_ok-settled.ensures.lines c.in_ok-settled.ensures.order c.in_ok-settled.ensures.carried
-    _ _ c.from_vec.ensures count, c.in_ok-committed.ensures.index)
+    let count : c.len.result ≡ length c.args.new.items = search rules in (
+      ready-again c.self.view_is taken act c.args.config.now.rule c.args.new.items (λ w db. c.taken_behave.ensures _ taken act w db) whole c.self.invariant.0
+          may c.in_ok-committed.committed c.in_ok-settled.settled _ _ _ _ c.in_ok-list.ensures c.into_vec.ensures c.deref.ensures.value
+          c.in_ok-committed.ensures c.deref-2.ensures.value c.in_ok-settled.ensures.lines c.in_ok-settled.ensures.order c.in_ok-settled.ensures.carried
+          _ _ c.from_vec.ensures count,
+      c.in_ok-committed.ensures.index,
+    )
 
 pub returns-clause-plan : goal.returns-clause-plan
 returns-clause-plan g c =
@@ -86,7 +88,7 @@ returns-clause-plan g c =
     let whole = subst IsCatalog c.catalog.view_is c.catalog.invariant in
     let count : c.len.result ≡ length c.args.new.items = search rules in
     (finished c.self.view_is taken act c.args.config.now.rule c.args.new.items (λ w db. c.taken_behave.ensures _ taken act w db) whole c.self.invariant.0 may
-        c.in_ok-committed.committed c.in_ok-settled.settled _ _ _ _ c.in_ok-list.ensures c.into_vec.ensures c.deref.ensures.value
+    c.in_ok-committed.committed c.in_ok-settled.settled _ _ _ _ c.in_ok-list.ensures c.into_vec.ensures c.deref.ensures.value
     c.in_ok-committed.ensures c.deref-2.ensures.value c.in_ok-settled.ensures.lines c.in_ok-settled.ensures.order c.in_ok-settled.ensures.carried
     _ _ c.from_vec.ensures count).plan
 
@@ -105,7 +107,7 @@ returns-clause-counts g c =
     let whole = subst IsCatalog c.catalog.view_is c.catalog.invariant in
     let count : c.len.result ≡ length c.args.new.items = search rules in
     (finished c.self.view_is taken act c.args.config.now.rule c.args.new.items (λ w db. c.taken_behave.ensures _ taken act w db) whole c.self.invariant.0 may
-        c.in_ok-committed.committed c.in_ok-settled.settled _ _ _ _ c.in_ok-list.ensures c.into_vec.ensures c.deref.ensures.value
+    c.in_ok-committed.committed c.in_ok-settled.settled _ _ _ _ c.in_ok-list.ensures c.into_vec.ensures c.deref.ensures.value
     c.in_ok-committed.ensures c.deref-2.ensures.value c.in_ok-settled.ensures.lines c.in_ok-settled.ensures.order c.in_ok-settled.ensures.carried
     _ _ c.from_vec.ensures count).counts
 
@@ -124,7 +126,7 @@ returns-clause-answer g c =
     let whole = subst IsCatalog c.catalog.view_is c.catalog.invariant in
     let count : c.len.result ≡ length c.args.new.items = search rules in
     (finished c.self.view_is taken act c.args.config.now.rule c.args.new.items (λ w db. c.taken_behave.ensures _ taken act w db) whole c.self.invariant.0 may
-        c.in_ok-committed.committed c.in_ok-settled.settled _ _ _ _ c.in_ok-list.ensures c.into_vec.ensures c.deref.ensures.value
+    c.in_ok-committed.committed c.in_ok-settled.settled _ _ _ _ c.in_ok-list.ensures c.into_vec.ensures c.deref.ensures.value
     c.in_ok-committed.ensures c.deref-2.ensures.value c.in_ok-settled.ensures.lines c.in_ok-settled.ensures.order c.in_ok-settled.ensures.carried
     _ _ c.from_vec.ensures count).answer
 
@@ -143,7 +145,7 @@ returns-clause-rows g c =
     let whole = subst IsCatalog c.catalog.view_is c.catalog.invariant in
     let count : c.len.result ≡ length c.args.new.items = search rules in
     (finished c.self.view_is taken act c.args.config.now.rule c.args.new.items (λ w db. c.taken_behave.ensures _ taken act w db) whole c.self.invariant.0 may
-        c.in_ok-committed.committed c.in_ok-settled.settled _ _ _ _ c.in_ok-list.ensures c.into_vec.ensures c.deref.ensures.value
+    c.in_ok-committed.committed c.in_ok-settled.settled _ _ _ _ c.in_ok-list.ensures c.into_vec.ensures c.deref.ensures.value
     c.in_ok-committed.ensures c.deref-2.ensures.value c.in_ok-settled.ensures.lines c.in_ok-settled.ensures.order c.in_ok-settled.ensures.carried
     _ _ c.from_vec.ensures count).rows
 
@@ -162,7 +164,7 @@ returns-clause-waiting g c =
     let whole = subst IsCatalog c.catalog.view_is c.catalog.invariant in
     let count : c.len.result ≡ length c.args.new.items = search rules in
     (finished c.self.view_is taken act c.args.config.now.rule c.args.new.items (λ w db. c.taken_behave.ensures _ taken act w db) whole c.self.invariant.0 may
-        c.in_ok-committed.committed c.in_ok-settled.settled _ _ _ _ c.in_ok-list.ensures c.into_vec.ensures c.deref.ensures.value
+    c.in_ok-committed.committed c.in_ok-settled.settled _ _ _ _ c.in_ok-list.ensures c.into_vec.ensures c.deref.ensures.value
     c.in_ok-committed.ensures c.deref-2.ensures.value c.in_ok-settled.ensures.lines c.in_ok-settled.ensures.order c.in_ok-settled.ensures.carried
     _ _ c.from_vec.ensures count).waiting
 
@@ -181,7 +183,7 @@ returns-clause-taken g c =
     let whole = subst IsCatalog c.catalog.view_is c.catalog.invariant in
     let count : c.len.result ≡ length c.args.new.items = search rules in
     (finished c.self.view_is taken act c.args.config.now.rule c.args.new.items (λ w db. c.taken_behave.ensures _ taken act w db) whole c.self.invariant.0 may
-        c.in_ok-committed.committed c.in_ok-settled.settled _ _ _ _ c.in_ok-list.ensures c.into_vec.ensures c.deref.ensures.value
+    c.in_ok-committed.committed c.in_ok-settled.settled _ _ _ _ c.in_ok-list.ensures c.into_vec.ensures c.deref.ensures.value
     c.in_ok-committed.ensures c.deref-2.ensures.value c.in_ok-settled.ensures.lines c.in_ok-settled.ensures.order c.in_ok-settled.ensures.carried
     _ _ c.from_vec.ensures count).taken
 
@@ -200,7 +202,7 @@ returns-clause-serial g c =
     let whole = subst IsCatalog c.catalog.view_is c.catalog.invariant in
     let count : c.len.result ≡ length c.args.new.items = search rules in
     (finished c.self.view_is taken act c.args.config.now.rule c.args.new.items (λ w db. c.taken_behave.ensures _ taken act w db) whole c.self.invariant.0 may
-        c.in_ok-committed.committed c.in_ok-settled.settled _ _ _ _ c.in_ok-list.ensures c.into_vec.ensures c.deref.ensures.value
+    c.in_ok-committed.committed c.in_ok-settled.settled _ _ _ _ c.in_ok-list.ensures c.into_vec.ensures c.deref.ensures.value
     c.in_ok-committed.ensures c.deref-2.ensures.value c.in_ok-settled.ensures.lines c.in_ok-settled.ensures.order c.in_ok-settled.ensures.carried
     _ _ c.from_vec.ensures count).serial
 
@@ -219,6 +221,6 @@ returns-clause-progress g c =
     let whole = subst IsCatalog c.catalog.view_is c.catalog.invariant in
     let count : c.len.result ≡ length c.args.new.items = search rules in
     (finished c.self.view_is taken act c.args.config.now.rule c.args.new.items (λ w db. c.taken_behave.ensures _ taken act w db) whole c.self.invariant.0 may
-        c.in_ok-committed.committed c.in_ok-settled.settled _ _ _ _ c.in_ok-list.ensures c.into_vec.ensures c.deref.ensures.value
+    c.in_ok-committed.committed c.in_ok-settled.settled _ _ _ _ c.in_ok-list.ensures c.into_vec.ensures c.deref.ensures.value
     c.in_ok-committed.ensures c.deref-2.ensures.value c.in_ok-settled.ensures.lines c.in_ok-settled.ensures.order c.in_ok-settled.ensures.carried
     _ _ c.from_vec.ensures count).progress

@@ -8,4 +8,4 @@ use Rattle.range_runs.proofs.indexes.Index.of.Goals as goal
 pub returns : goal.returns
 returns c = all_listed c.loop-key.index c.args.tables.now
     (sym (ap (λ xs. with_keys c.loop-key.index (map (λ e. e.0) (map deref_pair xs)))
-        (drop_all c.loop-key.key-index c.deref-key-items.result.now c.loop-key-test.false)) ∙ c.loop-key.invariant)
+    (drop_all c.loop-key.key-index c.deref-key-items.result.now c.loop-key-test.false)) ∙ c.loop-key.invariant)
