@@ -18,7 +18,7 @@ use Rattle.store_commands.specs.Inits as init
 use Rattle.store_openings.specs.Openings.{opened}
 use Rattle.aria_top.specs.Disks.{LeavesDisk, Sees, is_taken}
 use Rattle.aria_top.specs.Out.{IsToldFor, out_by, out_of_task, refused_usage}
-use Rattle.aria_top.specs.Tasks.{opens, reads, uses_disk}
+use Rattle.aria_top.specs.Tasks.{makes, opens, reads, uses_disk}
 use Rattle.aria_top.specs.declared.tasks.Task.{Task}
 use Rattle.aria_top.specs.declared.tasks.Task.TheVariants as task
 
@@ -37,17 +37,19 @@ module _ (asked : Option Task) (task : Task) (is : asked ≡ Some task) (images 
   pub told_asked : (left rest old new : Option (List ℕ)) → IsToldFor (Some task) images found left rest old new → IsToldFor asked images found left rest old new
   told_asked left rest old new h = subst (λ (a : Option Task). IsToldFor a images found left rest old new) (sym is) h
 
-  pub leaves_asked : (left : Option (List ℕ)) (was is_now : History) (old new : Option (List ℕ)) (status : ℕ)
-      → LeavesDisk (Some task) images found left was is_now old new status
-      → LeavesDisk asked images found left was is_now old new status
-  leaves_asked left was is_now old new status h = subst (λ (a : Option Task). LeavesDisk a images found left was is_now old new status) (sym is) h
-
 module _ (asked : Option Task) (task : Task) (is : asked ≡ Some task) where
+  pub leaves_asked : (left : Option (List ℕ)) (was is_now : History) (old new : Option (List ℕ)) (status : ℕ)
+      → LeavesDisk (Some task) left was is_now old new status → LeavesDisk asked left was is_now old new status
+  leaves_asked left was is_now old new status h = subst (λ (a : Option Task). LeavesDisk a left was is_now old new status) (sym is) h
+
   pub reads_asked : (b : Bool) → reads asked ≡ b → reads (Some task) ≡ b
   reads_asked b h = sym (ap reads is) ∙ h
 
   pub opens_asked : (b : Bool) → opens asked ≡ b → opens (Some task) ≡ b
   opens_asked b h = sym (ap opens is) ∙ h
+
+  pub makes_asked : (b : Bool) → makes asked ≡ b → makes (Some task) ≡ b
+  makes_asked b h = sym (ap makes is) ∙ h
 
   pub uses_asked : (b : Bool) → uses_disk asked ≡ b → uses_disk (Some task) ≡ b
   uses_asked b h = sym (ap uses_disk is) ∙ h
@@ -61,17 +63,19 @@ pub out_refused : (asked : Option Task) (left : Option (List ℕ)) (images : ℕ
     → IfSome (out_by asked left images found) P
 out_refused asked left images found P is h = subst (λ (a : Option Task). IfSome (out_by a left images found) P) (sym is) h
 
-pub leaves_refused : (asked : Option Task) (images : ℕ → List ℕ) (found : Reopened) (left : Option (List ℕ)) (was is_now : History) (old new : Option (List ℕ))
-    (status : ℕ) → asked ≡ None
-    → LeavesDisk asked images found left was is_now old new status
-leaves_refused asked images found left was is_now old new status is =
-    subst (λ (a : Option Task). LeavesDisk a images found left was is_now old new status) (sym is) tt
+pub leaves_refused : (asked : Option Task) (left : Option (List ℕ)) (was is_now : History) (old new : Option (List ℕ)) (status : ℕ) → asked ≡ None
+    → LeavesDisk asked left was is_now old new status
+leaves_refused asked left was is_now old new status is =
+    subst (λ (a : Option Task). LeavesDisk a left was is_now old new status) (sym is) tt
 
 pub reads_none : (asked : Option Task) → asked ≡ None → reads asked ≡ true → ⊥
 reads_none asked is h = absurd (let both : false ≡ true = sym (ap reads is) ∙ h in cc)
 
 pub opens_none : (asked : Option Task) → asked ≡ None → opens asked ≡ true → ⊥
 opens_none asked is h = absurd (let both : false ≡ true = sym (ap opens is) ∙ h in cc)
+
+pub makes_none : (asked : Option Task) → asked ≡ None → makes asked ≡ true → ⊥
+makes_none asked is h = absurd (let both : false ≡ true = sym (ap makes is) ∙ h in cc)
 
 -- ---- nothing was done
 
@@ -103,11 +107,10 @@ each_text None P h = tt
 each_text (Some text) P h = h text
 
 -- there was no memory to read the arguments
-pub leaves_untouched : (asked : Option Task) (images : ℕ → List ℕ) (found : Reopened) (left : Option (List ℕ)) (disk : History) (now : Option (List ℕ))
-    → LeavesDisk asked images found left disk disk now now 7
-leaves_untouched None images found left disk now = tt
-leaves_untouched (Some (task.Once settings)) images found left disk now = tt
-leaves_untouched (Some (task.Init settings)) images found left disk now = record {
+pub leaves_untouched : (asked : Option Task) (left : Option (List ℕ)) (disk : History) (now : Option (List ℕ)) → LeavesDisk asked left disk disk now now 7
+leaves_untouched None left disk now = tt
+leaves_untouched (Some (task.Once settings)) left disk now = tt
+leaves_untouched (Some (task.Init settings)) left disk now = λ images reads. record {
   refused = λ e. still_none disk;
   unmade = each_text left (λ text. (init.out_of settings (is_taken images) text).status ≢ DONE → Still disk disk) (λ text other. still_none disk);
   stored = each_text left
@@ -115,12 +118,12 @@ leaves_untouched (Some (task.Init settings)) images found left disk now = record
       (λ text done. inl (Appends-nil now));
   made = λ e. absurd (omega (arith, e));
 }
-leaves_untouched (Some (task.Run settings)) images found left disk now = record {
+leaves_untouched (Some (task.Run settings)) left disk now = λ images found reads reopens. record {
   leaves = untouched_text settings (opened images found) left disk now;
   holds = λ e. absurd (grind (arith, e));
 }
-leaves_untouched (Some (task.Replay settings)) images found left disk now = untouched_all disk (MayLeave disk disk.now) (λ images may. may)
-leaves_untouched (Some (task.Gen settings)) images found left disk now = tt
-leaves_untouched (Some (task.Bench settings)) images found left disk now = tt
-leaves_untouched (Some task.Audit) images found left disk now = tt
-leaves_untouched (Some task.Check) images found left disk now = tt
+leaves_untouched (Some (task.Replay settings)) left disk now = untouched_all disk (MayLeave disk disk.now) (λ images may. may)
+leaves_untouched (Some (task.Gen settings)) left disk now = tt
+leaves_untouched (Some (task.Bench settings)) left disk now = tt
+leaves_untouched (Some task.Audit) left disk now = tt
+leaves_untouched (Some task.Check) left disk now = tt

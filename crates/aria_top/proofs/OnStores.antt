@@ -198,6 +198,20 @@ module _ {D : Type 0} (history : D → History) (old new : D) where
   unmade_cut stop.NoDisk status is h unmade = absurd (grind (arith, is, unmade))
   unmade_cut stop.NoRead status is h unmade = still_same h
 
+abbrev IsEarly : ℕ → Type 0
+IsEarly status = (status ≡ 1) ⊎ (status ≡ 3)
+
+module _ {D : Type 0} (history : D → History) (old new : D) where
+  pub unlooked_ok : (status : ℕ) → (status ≡ 0) ⊎ (status ≡ 6) → IsEarly status → new ≡ old
+  unlooked_ok status is early = absurd (grind (arith, is, early))
+
+  pub unlooked_cut : (why : Stop) (status : ℕ) → status ≡ status_of why → Leaves history old new (Err why) → IsEarly status → new ≡ old
+  unlooked_cut stop.Refused status is h early = h
+  unlooked_cut stop.NoMemory status is h early = absurd (grind (arith, is, early))
+  unlooked_cut stop.NoWrite status is h early = absurd (grind (arith, is, early))
+  unlooked_cut stop.NoDisk status is h early = absurd (grind (arith, is, early))
+  unlooked_cut stop.NoRead status is h early = h
+
 pub never_done : (why : Stop) (status : ℕ) → status ≡ status_of why → status ≡ 0 → ⊥
 never_done stop.Refused status is e = omega (arith, is, e)
 never_done stop.NoMemory status is e = omega (arith, is, e)

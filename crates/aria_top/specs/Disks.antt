@@ -44,11 +44,13 @@ pub record RunLeaves (settings : Run) (found : Reopened) (left : Option (List �
   pub leaves : IfSome left (λ text. LeavesOver settings found text was is old new)
   pub holds : (status ≡ DONE) ⊎ (status ≡ REFUSED) → IfSome left (λ text. HoldsOver settings found text is)
 
--- a task that does not use the disk has a clause of its own
-abbrev pub LeavesDisk : Option Task → (ℕ → List ℕ) → Reopened → Option (List ℕ) → History → History
-    → Option (List ℕ) → Option (List ℕ) → ℕ → Type 0
-LeavesDisk (Some (task.Init settings)) images found left was is old new status = InitLeaves settings (is_taken images) left was is old new status
-LeavesDisk (Some (task.Run settings)) images found left was is old new status =
-    RunLeaves settings (opened images found) left was is old new status
-LeavesDisk (Some (task.Replay settings)) images found left was is old new status = LeavesAll was is (MayLeave was was.now)
-LeavesDisk other images found left was is old new status = Unit {0}
+-- Of the disk is asked what each of these needs to know of it, and of `replay` nothing. A task that does not use the disk has a clause of
+-- its own.
+abbrev pub LeavesDisk : Option Task → Option (List ℕ) → History → History → Option (List ℕ) → Option (List ℕ) → ℕ → Type 0
+LeavesDisk (Some (task.Init settings)) left was is old new status =
+    (images : ℕ → List ℕ) → ReadsAs was images → InitLeaves settings (is_taken images) left was is old new status
+LeavesDisk (Some (task.Run settings)) left was is old new status =
+    (images : ℕ → List ℕ) (found : Reopened) → ReadsAs was images → Reopens images found
+    → RunLeaves settings (opened images found) left was is old new status
+LeavesDisk (Some (task.Replay settings)) left was is old new status = LeavesAll was is (MayLeave was was.now)
+LeavesDisk other left was is old new status = Unit {0}

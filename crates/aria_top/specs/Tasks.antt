@@ -59,6 +59,11 @@ opens (Some (task.Run settings)) = true
 opens (Some (task.Replay settings)) = true
 opens other = false
 
+-- whether it makes a store of what it reads
+abbrev pub makes : Option Task → Bool
+makes (Some (task.Init settings)) = true
+makes other = false
+
 -- whether a call is made on the disk for it
 abbrev pub uses_disk : Option Task → Bool
 uses_disk (Some (task.Init settings)) = true

@@ -41,8 +41,10 @@ pub fn run_init<S: Source, K: Sink, D: Disk>(
     ensures write { result ≡ WRITE_FAULT → Rose (K.faults out.old) (K.faults out.new) }
     ensures device { result ≡ DISK_FAULT → Rose (D.history disk.old).faults (D.history disk.new).faults }
     ensures end { (result ≡ DONE) ⊎ (result ≡ STORE_REFUSED) → IsAtEnd (S.left input.new) }
+    ensures unlooked { (result ≡ REFUSED) ⊎ (result ≡ READ_FAULT) → disk.new ≡ disk.old }
     ensures told { result ≡ READ_FAULT → IsToldOf init_told (S.left input.old) (S.left input.new) (K.given out.old) (K.given out.new) }
-    ensures leaves { (images : ℕ → List ℕ) → ReadsAs (D.history disk.old) images → InitLeaves settings.now (is_taken images) (S.left input.old) (D.history disk.old) (D.history disk.new) (K.given out.old) (K.given out.new) result }
+    ensures leaves { (images : ℕ → List ℕ) → ReadsAs (D.history disk.old) images → InitLeaves settings.now (is_taken images)
+        (S.left input.old) (D.history disk.old) (D.history disk.new) (K.given out.old) (K.given out.new) result }
 {
     match init(alloc, settings, input, out, disk) {
         Ok(status) => status,

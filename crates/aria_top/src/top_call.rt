@@ -8,7 +8,7 @@ ghost use Rattle.aria_top.specs.Out.{out_for, out_of_task, IsToldFor, LinesAreOn
 ghost use Rattle.aria_top.specs.Statuses.{IsAnswered, IsEnded};
 ghost use Rattle.aria_store.specs.Reopens.{Reopened};
 ghost use Rattle.aria_top.specs.Disks.{LeavesDisk, Sees};
-ghost use Rattle.aria_top.specs.Tasks.{finds, opens, reads, task_in, uses_disk, IsInRange};
+ghost use Rattle.aria_top.specs.Tasks.{finds, makes, opens, reads, task_in, uses_disk, IsInRange};
 ghost use Rattle.answer_text.specs.Notices.{refused_text};
 ghost use Rattle.answer_text.specs.declared.notices.Refused.TheVariants.{Usage};
 ghost use Rattle.run_commands.specs.Serial.{EachIsSerial, EachReplayIsSerial, EachRunIsSerial};
@@ -77,9 +77,13 @@ pub fn aria<S: Source, K: Sink, D: Disk, P: Pace + Sync, R: Threads + Sync>(
     // Without a store that can be opened, nothing is read for a command that needs one.
     ensures unread { result ≡ STORE_REFUSED → opens (task_in (map string_bytes words.now)) ≡ true → input.new ≡ input.old }
 
+    // No call is made on the disk to make a store of what was not read to its end.
+    ensures unlooked { makes (task_in (map string_bytes words.now)) ≡ true → (result ≡ REFUSED) ⊎ (result ≡ READ_FAULT) → disk.new ≡ disk.old }
+
     // What a stop at any moment and a stop now leave of the disk.
     ensures disk { uses_disk (task_in (map string_bytes words.now)) ≡ false → disk.new ≡ disk.old }
-    ensures leaves { (images : ℕ → List ℕ) (found : Reopened) → Sees (task_in (map string_bytes words.now)) (D.history disk.old) images found → LeavesDisk (task_in (map string_bytes words.now)) images found (S.left input.old) (D.history disk.old) (D.history disk.new) (K.given out.old) (K.given out.new) result }
+    ensures leaves { LeavesDisk (task_in (map string_bytes words.now)) (S.left input.old) (D.history disk.old) (D.history disk.new)
+        (K.given out.old) (K.given out.new) result }
 
     // Each batch of a script, each that drains it, and each of a log is serialised by the order that its answer
     // prints.
@@ -127,8 +131,9 @@ fn run_task<S: Source, K: Sink, D: Disk, P: Pace + Sync, R: Threads + Sync>(
     ensures fails { result ≡ FAILS → finds (Some task.now) ≡ true }
     ensures unopened { result ≡ STORE_REFUSED → uses_disk (Some task.now) ≡ true }
     ensures unread { result ≡ STORE_REFUSED → opens (Some task.now) ≡ true → input.new ≡ input.old }
+    ensures unlooked { makes (Some task.now) ≡ true → (result ≡ REFUSED) ⊎ (result ≡ READ_FAULT) → disk.new ≡ disk.old }
     ensures disk { uses_disk (Some task.now) ≡ false → disk.new ≡ disk.old }
-    ensures leaves { (images : ℕ → List ℕ) (found : Reopened) → Sees (Some task.now) (D.history disk.old) images found → LeavesDisk (Some task.now) images found (S.left input.old) (D.history disk.old) (D.history disk.new) (K.given out.old) (K.given out.new) result }
+    ensures leaves { LeavesDisk (Some task.now) (S.left input.old) (D.history disk.old) (D.history disk.new) (K.given out.old) (K.given out.new) result }
 {
     match task {
         Task::Once(settings) => return run_once(rt, alloc, settings, input, out, disk, pace),

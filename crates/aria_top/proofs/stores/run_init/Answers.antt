@@ -2,7 +2,7 @@ use Rattle.std.proofs.Common.{◌≡◌, ap, ℕ}
 use Rattle.std.specs.Prelude.{Ok, Err}
 use Rattle.store_commands.specs.Inits.{out_of}
 use Rattle.aria_top.specs.Disks.{is_taken}
-use Rattle.aria_top.proofs.OnStores.{init_completes, init_stored, init_unmade, never_done, unmade_cut, unmade_ok}
+use Rattle.aria_top.proofs.OnStores.{init_completes, init_stored, init_unmade, never_done, unlooked_cut, unlooked_ok, unmade_cut, unmade_ok}
 use Rattle.aria_top.proofs.Stopped.{answered_cut, answered_end, front_cut, front_end}
 use Rattle.aria_top.proofs.stores.run_init.Goals as goal
 
@@ -61,3 +61,11 @@ returns-in-Err-clause-leaves g c images reads = record {
       (g.K.Sink.given c.args.out.now) (g.K.Sink.given c.init.new.out) (Err c.in-Err.stop) c.in-Err.ensures.inits;
   made = λ done. absurd (never_done c.in-Err.stop c.status.result c.status.ensures done);
 }
+
+pub returns-in-Ok-clause-unlooked : goal.returns-in-Ok-clause-unlooked
+returns-in-Ok-clause-unlooked g c early =
+    unlooked_ok g.D.Disk.history c.args.disk.now c.init.new.disk c.in-Ok.status c.in-Ok.ensures.status early
+
+pub returns-in-Err-clause-unlooked : goal.returns-in-Err-clause-unlooked
+returns-in-Err-clause-unlooked g c early =
+    unlooked_cut g.D.Disk.history c.args.disk.now c.init.new.disk c.in-Err.stop c.status.result c.status.ensures c.in-Err.ensures.leaves early

@@ -33,19 +33,17 @@ returns-in-Ok-Some-clause-told g c images found sees failed =
     (g.D.Disk.history c.args.disk.now) sees) failed)
 
 pub returns-in-Ok-Some-clause-leaves : goal.returns-in-Ok-Some-clause-leaves
-returns-in-Ok-Some-clause-leaves g c images found sees =
+returns-in-Ok-Some-clause-leaves g c =
     let asked : task_in (map string_bytes c.args.words.now) ≡ Some c.in-Ok-Some.task = search rules in
-    leaves_asked (task_in (map string_bytes c.args.words.now)) c.in-Ok-Some.task asked images found (g.S.Source.left c.args.input.now)
+    leaves_asked (task_in (map string_bytes c.args.words.now)) c.in-Ok-Some.task asked (g.S.Source.left c.args.input.now)
     (g.D.Disk.history c.args.disk.now) (g.D.Disk.history c.run_task.new.disk)
-    (g.K.Sink.given c.args.out.now) (g.K.Sink.given c.run_task.new.out) c.run_task.result
-    (c.run_task.ensures.leaves images found (sees_asked (task_in (map string_bytes c.args.words.now)) c.in-Ok-Some.task asked images found
-    (g.D.Disk.history c.args.disk.now) sees))
+    (g.K.Sink.given c.args.out.now) (g.K.Sink.given c.run_task.new.out) c.run_task.result c.run_task.ensures.leaves
 
 pub returns-in-Err-clause-front : goal.returns-in-Err-clause-front
 returns-in-Err-clause-front g c images found sees = nothing_yet (out_for (map string_bytes c.args.words.now) (g.S.Source.left c.args.input.now) images found)
     (g.K.Sink.given c.args.out.now)
 
 pub returns-in-Err-clause-leaves : goal.returns-in-Err-clause-leaves
-returns-in-Err-clause-leaves g c images found sees =
-    leaves_untouched (task_in (map string_bytes c.args.words.now)) images found (g.S.Source.left c.args.input.now) (g.D.Disk.history c.args.disk.now)
+returns-in-Err-clause-leaves g c =
+    leaves_untouched (task_in (map string_bytes c.args.words.now)) (g.S.Source.left c.args.input.now) (g.D.Disk.history c.args.disk.now)
     (g.K.Sink.given c.args.out.now)

@@ -48,11 +48,10 @@ returns-in-Run-clause-told g c images found sees failed =
     (sym c.in-Run.is) (c.run_batches.ensures.told images found seen.0 seen.1 failed)
 
 pub returns-in-Run-clause-leaves : goal.returns-in-Run-clause-leaves
-returns-in-Run-clause-leaves g c images found sees =
-    let seen = subst (λ (t : Task). Sees (Some t) (g.D.Disk.history c.args.disk.now) images found) c.in-Run.is sees in
-    subst (λ (t : Task). LeavesDisk (Some t) images found (g.S.Source.left c.args.input.now) (g.D.Disk.history c.args.disk.now)
+returns-in-Run-clause-leaves g c =
+    subst (λ (t : Task). LeavesDisk (Some t) (g.S.Source.left c.args.input.now) (g.D.Disk.history c.args.disk.now)
     (g.D.Disk.history c.run_batches.new.disk) (g.K.Sink.given c.args.out.now)
-    (g.K.Sink.given c.run_batches.new.out) c.run_batches.result) (sym c.in-Run.is) (c.run_batches.ensures.leaves images found seen.0 seen.1)
+    (g.K.Sink.given c.run_batches.new.out) c.run_batches.result) (sym c.in-Run.is) c.run_batches.ensures.leaves
 
 pub returns-in-Replay-clause-answered : goal.returns-in-Replay-clause-answered
 returns-in-Replay-clause-answered g c images found sees done =
