@@ -73,7 +73,7 @@ among_row R (x ∷ xs) k e = elim (eq_by_cmp R k x.0) as (λ b. eq_by_cmp R k x.
     ] refl e
 
 -- what a mapped list has comes from the list
-mapped_from : {X Y : Type 0} (h : X → Option Y) (xs : List X) (y : Y) → Contains (filter_map h xs) y → (x : X) × Contains xs x × (h x ≡ Some y)
+pub mapped_from : {X Y : Type 0} (h : X → Option Y) (xs : List X) (y : Y) → Contains (filter_map h xs) y → (x : X) × Contains xs x × (h x ≡ Some y)
 mapped_from h [] y c = absurd (let lt = c.1 in omega arith)
 mapped_from h (x ∷ xs) y c = elim (h x) as (λ r. h x ≡ r → Contains (cons_option r (filter_map h xs)) y
     → (x' : _) × Contains (x ∷ xs) x' × (h x' ≡ Some y)) [

@@ -19,7 +19,7 @@ module _ {K V Q A : Type 0} {R : K → K → Ordering} (net : Net R V Q A) (is :
   abbrev RestsIn : World R V Q A → ℕ → Type 0
   RestsIn w n = Rests net w.started w.sent n (w.node n)
 
-  rests_on : (u v : World R V Q A) (i : ℕ) → Leads net u v → v.node i ≡ u.node i → RestsIn u i → RestsIn v i
+  pub rests_on : (u v : World R V Q A) (i : ℕ) → Leads net u v → v.node i ≡ u.node i → RestsIn u i → RestsIn v i
   rests_on u v i l same r =
       subst (Rests net v.started v.sent i) (sym same) (subst (λ started. Rests net started v.sent i (u.node i)) (sym l.started) (record {
         sent_all = λ lt k d below. leads_sent net u v l _ (r.sent_all lt k d below);

@@ -1,0 +1,10 @@
+pub mod Letters
+pub mod OwnRuns
+pub mod Mails
+pub mod NodeBatches
+pub mod Firsts
+pub mod Counts
+pub mod Holds
+pub mod Endings
+pub mod Entries
+pub mod Sames
