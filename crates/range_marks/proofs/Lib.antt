@@ -1,7 +1,0 @@
-mod Deciding
-mod Few
-pub mod Judging
-mod Marking
-mod Sheeting
-mod Spots
-mod Touching

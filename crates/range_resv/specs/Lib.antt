@@ -1,4 +1,0 @@
-pub mod Answers
-pub mod Commits
-pub mod Engines
-pub mod Lists

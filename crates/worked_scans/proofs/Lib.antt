@@ -1,2 +1,0 @@
-mod Readiness
-mod Suiting
