@@ -21,7 +21,6 @@ const FAULTS: [(&str, u64, u64, u8, &str); 7] = [
 fn faults_end_the_run(rt: HostRuntime) -> Result<(), Fail> {
     for (text, failing_take, failing_give, status, output) in FAULTS {
         let case = Case {
-            before: "",
             text,
             piece: 7,
             failing_take,

@@ -1,12 +1,10 @@
-//! Worked inputs of the command `audit`, which the gate runs. There is no code here, only tests.
+//! Runs of `audit` that fail, which the gate runs. There is no code here, only tests. Inputs with what is
+//! printed of them are cases of `worked_cases`.
 //!
-//! `findings` has what the command prints of whole inputs and of inputs that are refused, worked out by hand,
-//! and `faults` a source and a sink that fail. `outcomes` runs a case over bytes in memory.
+//! `faults` has a source and a sink that fail, and `outcomes` runs a case over bytes in memory.
 #![tactic(auto)]
 
 #[cfg(test)]
 mod faults;
-#[cfg(test)]
-mod findings;
 #[cfg(test)]
 mod outcomes;

@@ -8,11 +8,10 @@ use std::test::Fail;
 /// How many bytes a sink takes, more than any of these runs writes.
 const ROOM: usize = 10_000;
 
-/// A run: its input in two parts, how many bytes the source gives at a time, and which call of the source and of the
+/// A run: its input, how many bytes the source gives at a time, and which call of the source and of the
 /// sink fails, 0 for none.
 #[derive(Clone, Copy)]
 pub struct Case<'a> {
-    pub before: &'a str,
     pub text: &'a str,
     pub piece: usize,
     pub failing_take: u64,
@@ -22,8 +21,7 @@ pub struct Case<'a> {
 /// The status of a run, and what it wrote. Out of memory is no answer.
 fn run<R: AllocGlobal>(rt: &R, case: &Case<'_>) -> Result<(u8, Vec<u8>), Memory> {
     let alloc = rt.alloc();
-    let mut text = Vec::from_slice(alloc, case.before.as_bytes())?;
-    text.extend_from_slice(case.text.as_bytes())?;
+    let text = Vec::from_slice(alloc, case.text.as_bytes())?;
     let fails = Vec::from_array(alloc, [case.failing_take])?;
     let mut input = MemSource::new(text, case.piece.max(1), fails);
     let fails = Vec::from_array(alloc, [case.failing_give])?;

@@ -1,7 +1,5 @@
-//! Summaries of small workloads, which the gate runs. There is no code here, only tests.
-//!
-//! What is wanted was worked out by a program of its own, which draws the requests by the benchmark's text
-//! and runs the batches over plain lists.
+//! A run of `bench` that fails, which the gate runs. There is no code here, only a test. Summaries of small
+//! workloads are cases of `worked_cases`.
 #![tactic(auto)]
 
 #[cfg(test)]

@@ -1,4 +1,4 @@
-// Scripts of small workloads, and sinks that fail.
+// Stretches of a script, and sinks that fail.
 ghost use Rattle.workloads.specs.Generators.{IsWithin, generator_of};
 
 use aria_base::MemSink;
@@ -52,27 +52,6 @@ const MIXED: Workload = Workload {
     ..SMALLEST
 };
 
-/// How the script of `MIXED` ends, behind its rows.
-const MIXED_BATCHES: &str = "tx txn [15,0;11,2;75,1] 18
-tx txn [7,0;29,2;78,0] 41
-end 1
-tx txn [33,2;83,0;50,1] 51
-tx txn [66,2;4,0;0,0] 73
-end 2
-";
-
-/// Rows that are given in three pieces.
-const PIECES: Workload = Workload {
-    accesses: Accesses {
-        keys: 2_500,
-        ops: 3,
-        reads: 50,
-        updates: 25,
-        hot: 20,
-    },
-    ..SMALLEST
-};
-
 /// Order entry at its smallest.
 const ORDERS: Workload = Workload {
     kind: Load::Tpcc,
@@ -80,22 +59,6 @@ const ORDERS: Workload = Workload {
         number: 1,
         batches: 2,
         size: 3,
-    },
-    ..SMALLEST
-};
-
-/// Order entry with two warehouses.
-const FAR_ORDERS: Workload = Workload {
-    kind: Load::Tpcc,
-    amount: Amount {
-        number: 7,
-        batches: 3,
-        size: 4,
-    },
-    stock: Stock {
-        warehouses: 2,
-        customers: 31,
-        items: 101,
     },
     ..SMALLEST
 };
@@ -116,64 +79,6 @@ fn script(
     let mut out = MemSink::new(alloc, ROOM, vec![in alloc; fails]?)?;
     let end = generate(alloc, workload, &mut out);
     Ok((end, out))
-}
-
-/// What texts are told apart by: how many lines and bytes they have, and their hash FNV-1a of 64 bits.
-fn mark(text: &[u8]) -> (u64, usize, u64) {
-    let mut lines = 0_u64;
-    let mut hash = 0xcbf2_9ce4_8422_2325_u64;
-    for byte in text {
-        if *byte == b'\n' {
-            lines = lines.wrapping_add(1);
-        }
-        hash = (hash ^ u64::from(*byte)).wrapping_mul(0x100_0000_01b3);
-    }
-    (lines, text.len(), hash)
-}
-
-/// Asserts that the script of a workload has so many lines and bytes, and this hash.
-fn has_mark(
-    rt: &impl Abort,
-    alloc: Global,
-    workload: &Workload,
-    wanted: (u64, usize, u64),
-) -> Result<(), Fail>
-    requires { IsWithin (generator_of workload.now) }
-{
-    let (end, out) = script(alloc, workload, 0)?;
-    same(rt, workload, &end, &Ok(0));
-    same(rt, workload, &mark(out.bytes()), &wanted);
-    Ok(())
-}
-
-#[test]
-fn scripts_of_both_kinds(rt: HostRuntime) -> Result<(), Fail> {
-    let alloc = rt.alloc();
-    has_mark(
-        &rt,
-        alloc,
-        &SMALLEST,
-        (103, 3_471, 2_006_264_141_175_198_391),
-    )?;
-    has_mark(&rt, alloc, &MIXED, (107, 3_520, 17_913_140_345_580_213_803))?;
-    has_mark(
-        &rt,
-        alloc,
-        &PIECES,
-        (2_503, 88_939, 4_514_011_131_245_467_650),
-    )?;
-    has_mark(
-        &rt,
-        alloc,
-        &ORDERS,
-        (4_287, 158_538, 6_949_694_008_899_440_142),
-    )?;
-    has_mark(
-        &rt,
-        alloc,
-        &FAR_ORDERS,
-        (8_777, 326_290, 5_630_994_953_710_367_839),
-    )
 }
 
 /// Stretches of the script of `ORDERS`, in their order: each table's first rows or last ones, customers with
@@ -220,20 +125,6 @@ fn rows_of_the_smallest_head(rt: HostRuntime) -> Result<(), Fail> {
     for rows in ROWS_OF_ORDERS {
         same(&rt, &rows, &text.contains(rows), &true);
     }
-    Ok(())
-}
-
-#[test]
-fn batches_stand_behind_the_rows(rt: HostRuntime) -> Result<(), Fail> {
-    let (_, out) = script(rt.alloc(), &MIXED, 0)?;
-    let head = b"catalog ycsb\nrow ycsb 0 = 0 0 0 0 0 0 0 0 0 0\nrow ycsb 1 = ";
-    same(&rt, &"head", &out.bytes().starts_with(head), &true);
-    same(
-        &rt,
-        &"batches",
-        &out.bytes().ends_with(MIXED_BATCHES.as_bytes()),
-        &true,
-    );
     Ok(())
 }
 

@@ -89,39 +89,6 @@ fn fields_are_those_of_the_bytes(rt: HostRuntime) -> Result<(), Fail> {
     Ok(())
 }
 
-/// How many requests are carried by a slot in which `count` requests were laid; 0 where its body is
-/// damaged where it begins.
-fn carried(alloc: Global, count: u32) -> Result<usize, Fail> {
-    let head = Head {
-        format: 2,
-        rule: Rule::Plain,
-        fallback: 0,
-        generation: 1,
-        batches: 0,
-        requests: 20_000,
-    };
-    let mut body = Vec::from_slice(
-        alloc,
-        b"catalog text\n:{\"procs\":[{\"args\":[],\"body\":[],\"name\":\"p\",\"regs\":[]}],\"tables\":[]}\n",
-    )?;
-    for number in 1..=count {
-        body.extend_from_slice(format!(in alloc; "held {number} p\n")?.as_bytes())?;
-    }
-    let mut disk = laid(alloc, 1, &head, body.as_slice())?;
-    match load(alloc, &mut disk, 1) {
-        Ok(Some(image)) => Ok(image.held.len()),
-        Err(LogRefused::Damaged { file: 1, at: 40 }) => Ok(0),
-        _ => Err(Fail::new("there is memory")),
-    }
-}
-
-#[test]
-fn ten_thousand_are_carried_at_most(rt: HostRuntime) -> Result<(), Fail> {
-    same(&rt, &"most", &carried(rt.alloc(), 10_000)?, &10_000);
-    same(&rt, &"one more", &carried(rt.alloc(), 10_001)?, &0);
-    Ok(())
-}
-
 /// What is answered where this device call fails: the length, the gate, the head, the body.
 fn answer(alloc: Global, call: u64) -> Result<bool, LogRefused> {
     let mut disk = failing(alloc, call)?;

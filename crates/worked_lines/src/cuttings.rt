@@ -119,36 +119,6 @@ fn first_byte_past_a_bound_refuses(rt: HostRuntime) -> Result<(), Fail> {
     Ok(())
 }
 
-/// How many bytes a line has, what stands behind them, and the length of the line; none where it is too
-/// long.
-const LONG: [(usize, &str, Option<usize>); 8] = [
-    (4096, "", Some(4096)),
-    (4096, "\n", Some(4096)),
-    (4097, "", None),
-    (4097, "\n", None),
-    (4095, "\r\n", Some(4095)),
-    (4096, "\r\n", None),
-    (4095, "\r", Some(4095)),
-    (4096, "\r", None),
-];
-
-#[test]
-fn lines_end_at_4096_bytes(rt: HostRuntime) -> Result<(), Fail> {
-    for (length, behind, wanted) in LONG {
-        let mut text = Vec::new(rt.alloc());
-        for _ in 0..length {
-            text.push(b'y')?;
-        }
-        text.extend_from_slice(behind.as_bytes())?;
-        let found = barred(rt.alloc(), 1_000_000, 4096, &text, 1000)?;
-        match wanted {
-            Some(wanted) => same(&rt, &length, &found.len(), &wanted.wrapping_add(1)),
-            None => same(&rt, &length, &found.as_slice(), &b"long 1".as_slice()),
-        }
-    }
-    Ok(())
-}
-
 /// Feeds a piece whose third line is too long, and bars the lines before it.
 fn refuse(lines: &mut Lines, out: &mut Vec<u8>) -> Result<(), Fail> {
     if lines.feed(b"c\nd\n012345\ne").is_ok() {

@@ -2,16 +2,12 @@
 use aria_base::{Free, MemSink, MemSource, Memory, Pace};
 use aria_top::{NO_MEMORY, aria};
 use disk_model::MemDisk;
-use std::alloc::Global;
 use std::process::Abort;
 use std::test::Fail;
 use std::thread::Threads;
 
 /// How many bytes a sink takes, more than any of these runs writes.
 const ROOM: usize = 1_000_000;
-
-/// How many bytes a source gives at a time.
-const PIECES: [usize; 3] = [1, 7, 4096];
 
 /// The ring of three copies, and its answer.
 pub const RING: &str =
@@ -29,9 +25,6 @@ pub const RING_TURNED: &str =
 
 /// What `check` prints of that order: behind the first copy, the second one gives 10 as well.
 pub const TURNED_FOUND: &str = "check fails 3\nwanted 2 ok 10\nfound 2 ok 20\n";
-
-/// Arguments, a script, and the status and the output that they have.
-pub type Row = (&'static str, &'static str, u8, &'static str);
 
 /// A run: its arguments, its script, how many bytes the source gives at a time, and which call of the source
 /// and of the sink fails, 0 for none.
@@ -80,57 +73,4 @@ pub fn ends<R: AllocGlobal + Threads + Abort + Sync>(
     let right = ending == status && bytes.as_slice() == output.as_bytes();
     assert!(rt; right, "at {case:?}");
     Ok(())
-}
-
-/// Asserts that each row ends so, with its script in pieces of 1, 7 and 4,096 bytes.
-pub fn all_end<R: AllocGlobal + Threads + Abort + Sync>(rt: &R, rows: &[Row]) -> Result<(), Fail> {
-    for (words, script, status, output) in rows {
-        for piece in PIECES {
-            let case = Case {
-                words,
-                script,
-                piece,
-                failing_take: 0,
-                failing_give: 0,
-            };
-            ends(rt, &case, *status, output)?;
-        }
-    }
-    Ok(())
-}
-
-/// Asserts that `once` ends so on this script, in pieces of 1, 7 and 4,096 bytes.
-pub fn once_ends<R: AllocGlobal + Threads + Abort + Sync>(
-    rt: &R,
-    script: &str,
-    status: u8,
-    output: &str,
-) -> Result<(), Fail> {
-    for piece in PIECES {
-        let case = Case {
-            words: "once",
-            script,
-            piece,
-            failing_take: 0,
-            failing_give: 0,
-        };
-        ends(rt, &case, status, output)?;
-    }
-    Ok(())
-}
-
-/// What stands before, so often this part, and what stands behind.
-pub fn repeated(
-    alloc: Global,
-    before: &str,
-    part: &str,
-    count: u32,
-    behind: &str,
-) -> Result<String, Memory> {
-    let mut text = String::from_str(alloc, before)?;
-    for _ in 0..count {
-        text.push_str(part)?;
-    }
-    text.push_str(behind)?;
-    Ok(text)
 }

@@ -1,6 +1,7 @@
 //! Worked lines of output, which the gate runs. There is no code here, only tests.
 //!
-//! `answers`, `states` and `refusals` have what is printed with all its bytes, worked out by hand.
+//! `answers` and `refusals` have what is printed with all its bytes, worked out by hand. Listings, and what
+//! else a command line can show, are cases of `worked_cases`.
 //!
 //! ```text
 //! Wait::Moved of a key of `seat`      15 wait moved seat 4 "c d"
@@ -18,5 +19,3 @@ mod catalogs;
 mod checks;
 #[cfg(test)]
 mod refusals;
-#[cfg(test)]
-mod states;

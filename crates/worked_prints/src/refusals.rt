@@ -4,8 +4,7 @@ use answer_text::{
     Refused, append_at, append_damaged, append_kept, print_refusal, ready_line, refused_line,
 };
 use aria_base::Memory;
-use cat_text::catalog_of;
-use script_text::{CatFault, LinesRefused, Refusal, RefusalKind};
+use script_text::{CatFault, Refusal, RefusalKind};
 use std::alloc::Global;
 use std::test::Fail;
 
@@ -39,40 +38,6 @@ fn each_refusal_has_its_line(rt: HostRuntime) -> Result<(), Fail> {
     for (kind, said) in KINDS {
         let found = print_refusal(rt.alloc(), &Refusal { line: 3, kind })?;
         same(&rt, &said, &found, said.as_bytes());
-    }
-    Ok(())
-}
-
-/// Texts that are no catalogue, and what is printed of them.
-const TEXTS: [(&str, &str); 6] = [
-    ("{", "refused 9 catalog json\n"),
-    (r#"{"tables":[]}"#, "refused 9 catalog shape /\n"),
-    (
-        r#"{"tables":[],"procs":7}"#,
-        "refused 9 catalog shape /procs\n",
-    ),
-    (
-        r#"{"tables":[{"name":"t","key":["int","list1"],"cols":[]}],"procs":[]}"#,
-        "refused 9 catalog shape /tables/0/key/1\n",
-    ),
-    (
-        r#"{"tables":[],"procs":[{"name":"p","args":[],"regs":["int"],"body":[["give",["reg",0]]]}]}"#,
-        "refused 9 catalog wrong 0 0 5\n",
-    ),
-    (
-        r#"{"tables":[],"procs":[{"name":"p","args":[],"regs":[],"body":[]},{"name":"q","args":[],"regs":[],"body":[["give",1],["fail",1],["del","t",[1]]]}]}"#,
-        "refused 9 catalog wrong 1 2 1\n",
-    ),
-];
-
-#[test]
-fn faults_of_catalogues_have_their_places(rt: HostRuntime) -> Result<(), Fail> {
-    for (text, said) in TEXTS {
-        let Err(LinesRefused::Line(refusal)) = catalog_of(rt.alloc(), text.as_bytes(), 9) else {
-            return Err(Fail::new("the text is no catalogue"));
-        };
-        let found = print_refusal(rt.alloc(), &refusal)?;
-        same(&rt, &text, &found, said.as_bytes());
     }
     Ok(())
 }

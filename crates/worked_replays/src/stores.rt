@@ -7,7 +7,6 @@ use script_course::Stop;
 use std::alloc::Global;
 use std::fmt::Debug;
 use std::process::Abort;
-use std::test::Fail;
 use std::thread::Threads;
 use store_commands::{init, replay};
 
@@ -43,13 +42,6 @@ pub fn append_record(log: &mut Vec<u8>, settings: &[u8], lines: &str) -> Result<
     log.extend_from_slice(settings)?;
     log.extend_from_slice(lines.as_bytes())?;
     Ok(())
-}
-
-/// Puts another byte at this offset of a file.
-pub fn damage(file: &mut Vec<u8>, offset: usize, byte: u8) {
-    if let Some(old) = file.get_mut(offset) {
-        *old = byte;
-    }
 }
 
 /// Makes the store of the three accounts, and tells whether it is made.
@@ -129,18 +121,4 @@ pub fn outcome<R: AllocGlobal + Threads + Sync>(
 /// Asserts that what was found in this case is what was worked out for it.
 pub fn same<T: PartialEq + Debug>(rt: &impl Abort, case: &impl Debug, found: &T, wanted: &T) {
     assert_eq!(rt; found, wanted, "at {case:?}");
-}
-
-/// Asserts that the command ends in this status and prints these bytes on this disk.
-pub fn ends<R: AllocGlobal + Threads + Abort + Sync>(
-    rt: &R,
-    settings: &Replay,
-    disk: &mut MemDisk,
-    status: u8,
-    output: &str,
-) -> Result<(), Fail> {
-    let (ending, bytes) = outcome(rt, settings, disk, 0)?;
-    same(rt, &output, &bytes.as_slice(), &output.as_bytes());
-    same(rt, &output, &ending, &status);
-    Ok(())
 }

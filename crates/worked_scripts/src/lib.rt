@@ -1,8 +1,8 @@
 //! Worked scripts, which the gate runs, and the smallest command that reads one.
 //!
-//! [`Echo`] prints in one word what each line of a script asks for. `scripts` has a table of scripts with
-//! what it prints of each, worked out by hand; each is read in pieces of 1 and of 7 bytes. `bounds` has
-//! scripts at their limits, and `faults` sources and sinks that fail at each call in turn.
+//! [`Echo`] prints in one word what each line of a script asks for. Scripts that a command line can show are
+//! cases of `worked_cases`. `scripts` has some that begin behind batches, which no command line can bring
+//! about, `bounds` one at its limit of bytes, and `faults` sources and sinks that fail at each call in turn.
 //!
 //! ```text
 //! catalog bank          nothing

@@ -1,4 +1,4 @@
-// A head and a script that end at each of their bytes, and the longest line.
+// A head and a script that end at each of their bytes.
 use crate::outcomes::{Case, HEAD, MADE, case_ends, empty_disk, ends, smooth};
 use std::process::Abort;
 use std::test::Fail;
@@ -97,30 +97,4 @@ fn a_head_that_is_cut_off(rt: HostRuntime) -> Result<(), Fail> {
 #[test]
 fn a_script_that_is_cut_off(rt: HostRuntime) -> Result<(), Fail> {
     each_cut(&rt, "run", RING, &RINGS)
-}
-
-/// A line that is skipped has 4,096 bytes at most, as any other line.
-#[test]
-fn a_line_that_is_too_long(rt: HostRuntime) -> Result<(), Fail> {
-    for (len, status, output) in [
-        (
-            4096,
-            0,
-            "at 0\nstate 0\nrow acct 1 = 10\nrow acct 2 = 20\nrow acct 3 = 30\nend state\n",
-        ),
-        (4097, 1, "at 0\nrefused 1 long\n"),
-    ] {
-        let mut line = Vec::new(rt.alloc());
-        for _ in 0..len {
-            line.push(b'#')?;
-        }
-        let case = Case {
-            input: line.as_slice(),
-            ..smooth("run", "")
-        };
-        let mut disk = empty_disk(rt.alloc(), 0)?;
-        ends(&rt, &MADE, &mut disk)?;
-        case_ends(&rt, &case, &mut disk, status, output)?;
-    }
-    Ok(())
 }

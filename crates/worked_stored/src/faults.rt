@@ -1,6 +1,6 @@
 // A source, a sink and a disk that fail at each of their calls in turn.
 use crate::outcomes::{
-    ADD, Case, LOG, OPENED, REPLAYED, RUN, counted, ends, goes_on, new_store, outcome, same, smooth,
+    ADD, Case, RUN, counted, goes_on, new_store, outcome, same, smooth,
 };
 use std::process::Abort;
 use std::test::Fail;
@@ -107,16 +107,4 @@ fn a_disk_that_fails_is_named(rt: HostRuntime) -> Result<(), Fail> {
         }
     }
     Ok(())
-}
-
-/// A replay reads no input and writes nothing.
-#[test]
-fn a_replay_leaves_the_files(rt: HostRuntime) -> Result<(), Fail> {
-    let mut disk = new_store(&rt, 0)?;
-    ends(&rt, &RUN, &mut disk)?;
-    let slot = Vec::from_slice(rt.alloc(), disk.bytes(1))?;
-    ends(&rt, &REPLAYED, &mut disk)?;
-    same(&rt, &"slot", &disk.bytes(1), &slot.as_slice());
-    same(&rt, &"log", &disk.bytes(3), &LOG.as_slice());
-    ends(&rt, &OPENED, &mut disk)
 }

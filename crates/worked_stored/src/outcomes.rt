@@ -20,7 +20,7 @@ pub const ADD: &str = "tx add 1 5\nend 1\n";
 /// Arguments, an input, and the status and the output that they have.
 pub type Row = (&'static str, &'static str, u8, &'static str);
 
-/// The accounts become a store; that batch is run on it; the store with the batch is opened and replayed.
+/// The accounts become a store; that batch is run on it; the store with the batch is opened.
 pub const MADE: Row = ("init", HEAD, 0, "ready\n");
 
 pub const RUN: Row = (
@@ -36,18 +36,6 @@ pub const OPENED: Row = (
     0,
     "at 1\nstate 1\nrow acct 1 = 15\nrow acct 2 = 20\nrow acct 3 = 30\nend state\n",
 );
-
-pub const REPLAYED: Row = (
-    "replay",
-    "",
-    0,
-    "batch 1\n1 ok 15\norder 1\nend 1\nstate 1\nrow acct 1 = 15\nrow acct 2 = 20\nrow acct 3 = 30\nend state\n",
-);
-
-/// The log with that batch: the gate, the payload's length, rule, fallback and line, and the shut gate.
-pub const LOG: [u8; 19] = [
-    1, 13, 0, 0, 0, 1, 101, 116, 120, 32, 97, 100, 100, 32, 49, 32, 53, 10, 0,
-];
 
 /// What a stop leaves of the bytes that were not synced: all of them, or 0 or 1 in the place of each.
 pub const IMAGES: [(bool, u8); 3] = [(true, 0), (false, 0), (false, 1)];

@@ -11,9 +11,6 @@ use std::test::Fail;
 pub const SLOT: [u8; 128] =
     *b"\x01ARIA\x02\x01\x65\x01\0\0\0\0\0\0\0\0\0\0\0\0\0\0\0\0\0\0\0\0\0\0\0\x58\0\0\0\0\0\0\0catalog text\n:{\"procs\":[{\"args\":[\"int\"],\"body\":[],\"name\":\"add\",\"regs\":[]}],\"tables\":[]}\n";
 
-/// A log with one record: the rule reorder, fallback 101, and one call.
-pub const LOG: [u8; 17] = *b"\x01\x0b\0\0\0\x01\x65tx add 5\n\0";
-
 /// What attaching finds.
 #[derive(Clone, Copy, Debug, PartialEq, Eq)]
 pub enum Seen {
