@@ -1,7 +1,5 @@
 // A source, a sink and a disk that fail at each of their calls in turn.
-use crate::outcomes::{
-    ADD, Case, RUN, counted, goes_on, new_store, outcome, same, smooth,
-};
+use crate::outcomes::{ADD, Case, RUN, counted, goes_on, new_store, outcome, same, smooth};
 use std::process::Abort;
 use std::test::Fail;
 use std::thread::Threads;
