@@ -27,7 +27,8 @@ marked_there : (place : ℕ) (m : Mark) (ms : List Mark) (t : ℕ) → IsMarked 
 marked_there place m ms t (n, (k, h, e), at, is) = (n, (suc k, omega arith, e), at, is)
 
 least_here : (place : ℕ) (m : Mark) (ms : List Mark) (r : Option ℕ) → place_of m ≡ place → IsLeast place ms r → IsLeast place (m ∷ ms) (least_with m.tid r)
-least_here place m ms None at none = (marked_here place m ms at, λ u marked. ⊎_elim (λ here. omega arith) (λ there. absurd (none u there)) (marked_cases place m ms u marked))
+least_here place m ms None at none =
+    (marked_here place m ms at, λ u marked. ⊎_elim (λ here. omega arith) (λ there. absurd (none u there)) (marked_cases place m ms u marked))
 least_here place m ms (Some t) at least = (
   ⊎_elim
       (λ lt. let e : min m.tid t ≡ m.tid = omega arith in subst (IsMarked place (m ∷ ms)) (sym e) (marked_here place m ms at))
@@ -38,7 +39,8 @@ least_here place m ms (Some t) at least = (
 
 least_else : (place : ℕ) (m : Mark) (ms : List Mark) (r : Option ℕ) → place_of m ≢ place → IsLeast place ms r → IsLeast place (m ∷ ms) r
 least_else place m ms None off none = λ t marked. ⊎_elim (λ here. off here.0) (none t) (marked_cases place m ms t marked)
-least_else place m ms (Some t) off least = (marked_there place m ms t least.0, λ u marked. ⊎_elim (λ here. absurd (off here.0)) (least.1 u) (marked_cases place m ms u marked))
+least_else place m ms (Some t) off least =
+    (marked_there place m ms t least.0, λ u marked. ⊎_elim (λ here. absurd (off here.0)) (least.1 u) (marked_cases place m ms u marked))
 
 pub IsLeast-least_tid : (place : ℕ) (marks : List Mark) → IsLeast place marks (least_tid place marks)
 IsLeast-least_tid place [] = λ t marked. unmarked place t marked
@@ -74,7 +76,8 @@ start_above old tag place small above =
     (λ ge. rw (get_or_past old place (2 ^ 64 - 1) ge) (omega arith))
     (cases_lt place (length old))
 
-stands : (tag start place : ℕ) (marks : List Mark) (r : Option ℕ) → (tag + 1) * TAG_SPAN ≤ start → All HasTid marks → IsLeast place marks r → tid_under tag (option_map_or (number_under tag) r start) ≡ r
+stands : (tag start place : ℕ) (marks : List Mark) (r : Option ℕ) → (tag + 1) * TAG_SPAN ≤ start → All HasTid marks → IsLeast place marks r
+    → tid_under tag (option_map_or (number_under tag) r start) ≡ r
 stands tag start place marks None above tids least =
     let more : tag + 1 ≤ start / TAG_SPAN = le-div (tag + 1) start TAG_SPAN (omega arith) above in
     ap (λ b. cond b (Some (start % TAG_SPAN)) None) (ne_eqb (start / TAG_SPAN) tag (λ e. omega arith))
@@ -84,15 +87,18 @@ stands tag start place marks (Some t) above tids ((m, stands_there, at, is), lea
     ap (λ b. cond b (Some (number_under tag t % TAG_SPAN)) None) (eq-eqb (number_under tag t / TAG_SPAN) tag (div-mul-add tag TAG_SPAN t within))
     ∙ ap (λ (n : ℕ). Some n) (mul-add-mod_self_right tag TAG_SPAN t ∙ mod-eq_of_lt within)
 
-pub StandFor-AreWords : (old : List ℕ) (tag keys : ℕ) (marks : List Mark) (words : List ℕ) → tag < TAGS → AreAbove tag old → All HasTid marks → AreWords old tag keys marks words → StandFor tag keys marks words
+pub StandFor-AreWords : (old : List ℕ) (tag keys : ℕ) (marks : List Mark) (words : List ℕ) → tag < TAGS → AreAbove tag old → All HasTid marks
+    → AreWords old tag keys marks words → StandFor tag keys marks words
 StandFor-AreWords old tag keys marks words small above tids are = record {
   two_a_key = are.two_a_key;
-  each = λ place lt. ap (tid_under tag) (are.each place lt) ∙ stands tag (start_of old place) place marks _ (start_above old tag place small above) tids (IsLeast-least_tid place marks);
+  each = λ place lt. ap (tid_under tag) (are.each place lt)
+      ∙ stands tag (start_of old place) place marks _ (start_above old tag place small above) tids (IsLeast-least_tid place marks);
 }
 
 -- The least of the start value and of the numbers of all marks at a place is the word there
 least_word : (tag start word place : ℕ) (marks : List Mark) (r : Option ℕ) → (tag + 1) * TAG_SPAN ≤ start → All HasTid marks → IsLeast place marks r
-    → ((t : ℕ) → IsMarked place marks t → word ≤ number_under tag t) → (word ≡ start) ⊎ ((t : ℕ) × IsMarked place marks t × (word ≡ number_under tag t)) → word ≡ option_map_or (number_under tag) r start
+    → ((t : ℕ) → IsMarked place marks t → word ≤ number_under tag t) → (word ≡ start) ⊎ ((t : ℕ) × IsMarked place marks t × (word ≡ number_under tag t))
+    → word ≡ option_map_or (number_under tag) r start
 least_word tag start word place marks None above tids none lower (inl is) = is
 least_word tag start word place marks None above tids none lower (inr (t, marked, is)) = absurd (none t marked)
 least_word tag start word place marks (Some t) above tids ((m, stands_there, at, same), least) lower (inl is) =
@@ -103,25 +109,30 @@ least_word tag start word place marks (Some t) above tids least lower (inr (u, m
     let le = least.1 u marked in let ge = lower t least.0 in omega arith
 
 pub word_of-least : (old : List ℕ) (tag place : ℕ) (marks : List Mark) (word : ℕ) → tag < TAGS → AreAbove tag old → All HasTid marks
-    → ((t : ℕ) → IsMarked place marks t → word ≤ number_under tag t) → (word ≡ start_of old place) ⊎ ((t : ℕ) × IsMarked place marks t × (word ≡ number_under tag t)) → word ≡ word_of old tag marks place
-word_of-least old tag place marks word small above tids = least_word tag (start_of old place) word place marks (least_tid place marks) (start_above old tag place small above) tids (IsLeast-least_tid place marks)
+    → ((t : ℕ) → IsMarked place marks t → word ≤ number_under tag t)
+    → (word ≡ start_of old place) ⊎ ((t : ℕ) × IsMarked place marks t × (word ≡ number_under tag t)) → word ≡ word_of old tag marks place
+word_of-least old tag place marks word small above tids = least_word tag (start_of old place) word place marks (least_tid place marks)
+    (start_above old tag place small above) tids (IsLeast-least_tid place marks)
 
 -- a word is at least the first number of its tag, so words can be the old numbers under any lesser tag
 least_at_least : (tag start : ℕ) (r : Option ℕ) → (tag + 1) * TAG_SPAN ≤ start → tag * TAG_SPAN ≤ option_map_or (number_under tag) r start
 least_at_least tag start None above = omega arith
 least_at_least tag start (Some t) above = omega arith
 
-pub AreAbove-words : (old : List ℕ) (tag keys : ℕ) (marks : List Mark) (words : List ℕ) → tag < TAGS → AreAbove tag old → AreWords old tag keys marks words → (lesser : ℕ) → lesser < tag → AreAbove lesser words
+pub AreAbove-words : (old : List ℕ) (tag keys : ℕ) (marks : List Mark) (words : List ℕ) → tag < TAGS → AreAbove tag old → AreWords old tag keys marks words
+    → (lesser : ℕ) → lesser < tag → AreAbove lesser words
 AreAbove-words old tag keys marks words small above are lesser lt place d within =
     let in_words : place < 2 * keys = omega (arith, are.two_a_key) in
     let is : get_or words place d ≡ word_of old tag marks place = get_or_default_zero words place d within ∙ are.each place in_words in
-    let le : tag * TAG_SPAN ≤ word_of old tag marks place = least_at_least tag (start_of old place) (least_tid place marks) (start_above old tag place small above) in
+    let le : tag * TAG_SPAN ≤ word_of old tag marks place =
+    least_at_least tag (start_of old place) (least_tid place marks) (start_above old tag place small above) in
     omega arith
 
 pub least_tid-same : (place : ℕ) (ms ns : List Mark) → SameMarks ms ns → least_tid place ms ≡ least_tid place ns
 least_tid-same place ms ns same = IsLeast-one place ms ns _ _ same (IsLeast-least_tid place ms) (IsLeast-least_tid place ns)
 
-pub AreWords-same : (old : List ℕ) (tag keys : ℕ) (ms ns : List Mark) (words : List ℕ) → SameMarks ms ns → AreWords old tag keys ms words → AreWords old tag keys ns words
+pub AreWords-same : (old : List ℕ) (tag keys : ℕ) (ms ns : List Mark) (words : List ℕ) → SameMarks ms ns → AreWords old tag keys ms words
+    → AreWords old tag keys ns words
 AreWords-same old tag keys ms ns words same are = record {
   two_a_key = are.two_a_key;
   each = λ place lt. are.each place lt ∙ ap (λ r. option_map_or (number_under tag) r (start_of old place)) (least_tid-same place ms ns same);
@@ -131,8 +142,10 @@ pub StandFor-same : (tag keys : ℕ) (ms ns : List Mark) (words : List ℕ) → 
 StandFor-same tag keys ms ns words same stand = record { two_a_key = stand.two_a_key; each = λ place lt. stand.each place lt ∙ least_tid-same place ms ns same }
 
 -- lists of words of one set of marks are equal
-pub AreWords-one : (old : List ℕ) (tag keys : ℕ) (marks : List Mark) (xs ys : List ℕ) → AreWords old tag keys marks xs → AreWords old tag keys marks ys → xs ≡ ys
-AreWords-one old tag keys marks xs ys are are' = ext_get_or 0 xs ys (are.two_a_key ∙ sym are'.two_a_key) (λ place lt. let in_words : place < 2 * keys = omega (arith, are.two_a_key) in are.each place in_words ∙ sym (are'.each place in_words))
+pub AreWords-one : (old : List ℕ) (tag keys : ℕ) (marks : List Mark) (xs ys : List ℕ) → AreWords old tag keys marks xs → AreWords old tag keys marks ys
+    → xs ≡ ys
+AreWords-one old tag keys marks xs ys are are' = ext_get_or 0 xs ys (are.two_a_key ∙ sym are'.two_a_key)
+    (λ place lt. let in_words : place < 2 * keys = omega (arith, are.two_a_key) in are.each place in_words ∙ sym (are'.each place in_words))
 
 -- ---- whose mark a place is for
 

@@ -36,7 +36,8 @@ module _ {A : Type 0} (f : A → ℕ) where
   sum_by-set (a ∷ xs) (suc i) x y at = let rest = sum_by-set xs i x y at in omega (arith, sum_by-cons f a xs, sum_by-cons f a (set xs i y))
 
   -- two places change
-  pub sum_by-set_two : (xs : List A) (i j : ℕ) (x y v w : A) → get_elem? xs i ≡ some x → get_elem? (set xs i y) j ≡ some v → sum_by f (set (set xs i y) j w) + (f x + f v) ≡ sum_by f xs + (f y + f w)
+  pub sum_by-set_two : (xs : List A) (i j : ℕ) (x y v w : A) → get_elem? xs i ≡ some x → get_elem? (set xs i y) j ≡ some v
+      → sum_by f (set (set xs i y) j w) + (f x + f v) ≡ sum_by f xs + (f y + f w)
   sum_by-set_two xs i j x y v w at at' = let first = sum_by-set xs i x y at in let second = sum_by-set (set xs i y) j v w at' in omega arith
 
   -- one place changes, and a new one comes
@@ -52,8 +53,10 @@ module _ {A : Type 0} (f : A → ℕ) where
   pub sum_by-at_two : (xs : List A) (i j : ℕ) (x y : A) → i ≢ j → get_elem? xs i ≡ some x → get_elem? xs j ≡ some y → f x + f y ≤ sum_by f xs
   sum_by-at_two [] i j x y ne at at' = absurd (some-ne-none x (sym at))
   sum_by-at_two (a ∷ xs) zero zero x y ne at at' = absurd (ne refl)
-  sum_by-at_two (a ∷ xs) zero (suc j) x y ne at at' = let same : f a ≡ f x = ap f (some-injective a x at) in let rest = sum_by-at xs j y at' in omega (arith, sum_by-cons f a xs)
-  sum_by-at_two (a ∷ xs) (suc i) zero x y ne at at' = let same : f a ≡ f y = ap f (some-injective a y at') in let rest = sum_by-at xs i x at in omega (arith, sum_by-cons f a xs)
+  sum_by-at_two (a ∷ xs) zero (suc j) x y ne at at' = let same : f a ≡ f x = ap f (some-injective a x at) in let rest = sum_by-at xs j y at' in
+      omega (arith, sum_by-cons f a xs)
+  sum_by-at_two (a ∷ xs) (suc i) zero x y ne at at' = let same : f a ≡ f y = ap f (some-injective a y at') in let rest = sum_by-at xs i x at in
+      omega (arith, sum_by-cons f a xs)
   sum_by-at_two (a ∷ xs) (suc i) (suc j) x y ne at at' = let rest = sum_by-at_two xs i j x y (λ e. ne (ap suc e)) at at' in omega (arith, sum_by-cons f a xs)
 
 -- what is at most so much at each place is so in the sum
@@ -74,7 +77,8 @@ module _ {A : Type 0} (share f : A → ℕ) where
       let rest = sum_by-none xs (omega (arith, sum_by-cons share a xs)) (λ j. idle (suc j)) in
       omega (arith, sum_by-cons f a xs)
 
-  pub sum_by-alone : (xs : List A) (i : ℕ) (x : A) → get_elem? xs i ≡ some x → sum_by share xs ≡ share x → Each (λ y. share y ≡ 0 → f y ≡ 0) xs → sum_by f xs ≡ f x
+  pub sum_by-alone : (xs : List A) (i : ℕ) (x : A) → get_elem? xs i ≡ some x → sum_by share xs ≡ share x → Each (λ y. share y ≡ 0 → f y ≡ 0) xs
+      → sum_by f xs ≡ f x
   sum_by-alone [] i x at alone idle = absurd (some-ne-none x (sym at))
   sum_by-alone (a ∷ xs) zero x at alone idle =
       let same : a ≡ x = some-injective a x at in

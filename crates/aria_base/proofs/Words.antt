@@ -6,7 +6,8 @@ use Rattle.rand_pcg.proofs.LcgLemmas.{advance_zero, advance_more}
 use Rattle.aria_base.specs.Draws.{standing, past_word}
 
 -- a step after n steps is a step before them
-step_after : (w m increment n state : ℕ) → next_state w m increment (state_after w m increment n state) ≡ state_after w m increment n (next_state w m increment state)
+step_after : (w m increment n state : ℕ) → next_state w m increment (state_after w m increment n state) ≡ state_after w m increment n
+    (next_state w m increment state)
 unfolding state_after
 step_after w m increment zero state = refl
 step_after w m increment (suc n) state = step_after w m increment n (next_state w m increment state)

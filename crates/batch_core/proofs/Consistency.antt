@@ -15,4 +15,5 @@ use Rattle.batch_core.specs.Steps.{State, Handed, list_of}
 
 pub stays_consistent : (schema : List Table) (tree : Request → Tree Key Cells End) (state : State) (handed : Handed) → StaysConsistent schema tree state handed
 stays_consistent schema tree state handed each before =
-    kept_by_batch key_cmp_total key_cmp-IsAntisymmetric is_done tree (IsConsistent schema) handed.rule handed.percent state.rows (list_of state handed) each before
+    kept_by_batch key_cmp_total key_cmp-IsAntisymmetric is_done tree (IsConsistent schema) handed.rule handed.percent state.rows
+    (list_of state handed) each before

@@ -24,10 +24,11 @@ weaker false c b f e = or_right c b e
 module _ {K V : Type 0} (R : K → K → Ordering) where
   -- notes only grow
   pub among_noted : (n : Noted K V) (visit : Visit K V) (q : K) → is_among R n.reads q ≡ true → is_among R (noted R n visit).reads q ≡ true
-  among_noted n (Read k) q e = elim (is_among R n.reads k || is_among R (keys_of n.writes) k) as (λ b. is_among R (if b then n.reads else n.reads ++ k ∷ []) q ≡ true) [
-    | true ↦ e
-    | false ↦ list_any-append (eq_by_cmp R q) n.reads (k ∷ []) ∙ or_left _ _ e
-  ]
+  among_noted n (Read k) q e =
+      elim (is_among R n.reads k || is_among R (keys_of n.writes) k) as (λ b. is_among R (if b then n.reads else n.reads ++ k ∷ []) q ≡ true) [
+        | true ↦ e
+        | false ↦ list_any-append (eq_by_cmp R q) n.reads (k ∷ []) ∙ or_left _ _ e
+      ]
   among_noted n (Write k row) q e = e
 
   among_all_noted : (n : Noted K V) (visits : List (Visit K V)) (q : K) → is_among R n.reads q ≡ true → is_among R (all_noted R n visits).reads q ≡ true
@@ -37,23 +38,28 @@ module _ {K V : Type 0} (R : K → K → Ordering) where
 module _ {K V : Type 0} {R : K → K → Ordering} (o : IsTotalOrder R) where
   -- a key that was read is in the read set, or was written before
   pub has_read : (n : Noted K V) (k : K) → (is_among R (noted R n (Read k)).reads k || is_among R (keys_of n.writes) k) ≡ true
-  has_read n k = elim (is_among R n.reads k) as (λ a. is_among R n.reads k ≡ a → (is_among R (if a || is_among R (keys_of n.writes) k then n.reads else n.reads ++ k ∷ []) k || is_among R (keys_of n.writes) k) ≡ true) [
-    | true ↦ λ e. or_left _ _ e
-    | false ↦ λ e. elim (is_among R (keys_of n.writes) k) as (λ b. (is_among R (if b then n.reads else n.reads ++ k ∷ []) k || b) ≡ true) [
-      | true ↦ or_right _ _ refl
-      | false ↦ or_left _ _ (list_any-append (eq_by_cmp R k) n.reads (k ∷ []) ∙ or_right _ _ (or_left _ _ (ap is_eq (tied_itself o k))))
-    ]
-  ] refl
+  has_read n k = elim (is_among R n.reads k) as (λ a. is_among R n.reads k ≡ a
+      → (is_among R (if a || is_among R (keys_of n.writes) k then n.reads else n.reads ++ k ∷ []) k || is_among R (keys_of n.writes) k) ≡ true) [
+        | true ↦ λ e. or_left _ _ e
+        | false ↦ λ e. elim (is_among R (keys_of n.writes) k) as (λ b. (is_among R (if b then n.reads else n.reads ++ k ∷ []) k || b) ≡ true) [
+          | true ↦ or_right _ _ refl
+          | false ↦ or_left _ _ (list_any-append (eq_by_cmp R k) n.reads (k ∷ []) ∙ or_right _ _ (or_left _ _ (ap is_eq (tied_itself o k))))
+        ]
+      ] refl
 
-  pub set_agree : (m n : FinMap R V) (k : K) (row : Option V) (q : K) → (eq_by_cmp R q k ≡ false → fin.get m q ≡ fin.get n q) → fin.get (set_at m k row) q ≡ fin.get (set_at n k row) q
-  set_agree m n k row q same = get-set_at o m k row q ∙ elim (eq_by_cmp R q k) as (λ b. (b ≡ false → fin.get m q ≡ fin.get n q) → cond b row (fin.get m q) ≡ cond b row (fin.get n q)) [ true ↦ λ f. refl | false ↦ λ f. f refl ] same ∙ sym (get-set_at o n k row q)
+  pub set_agree : (m n : FinMap R V) (k : K) (row : Option V) (q : K) → (eq_by_cmp R q k ≡ false → fin.get m q ≡ fin.get n q)
+      → fin.get (set_at m k row) q ≡ fin.get (set_at n k row) q
+  set_agree m n k row q same = get-set_at o m k row q ∙ elim (eq_by_cmp R q k) as (λ b. (b ≡ false → fin.get m q ≡ fin.get n q)
+      → cond b row (fin.get m q) ≡ cond b row (fin.get n q)) [ true ↦ λ f. refl | false ↦ λ f. f refl ] same ∙ sym (get-set_at o n k row q)
 
 module _ {K V A : Type 0} {R : K → K → Ordering} (o : IsTotalOrder R) where
   -- where a run leaves the declared keys depends on them alone
-  pub strays : (t : Tree K V A) (declared : Declared K) (x y : FinMap R V) → AgreeWithin declared x y → outside R declared (trace_of t x) ≡ outside R declared (trace_of t y)
+  pub strays : (t : Tree K V A) (declared : Declared K) (x y : FinMap R V) → AgreeWithin declared x y
+      → outside R declared (trace_of t x) ≡ outside R declared (trace_of t y)
   strays (Ends a) declared x y h = refl
   strays (Reads k next) declared x y h = elim (may_read R declared k) as (λ b. may_read R declared k ≡ b
-      → (if b then outside R declared (trace_of (next (fin.get x k)) x) else Some k) ≡ (if b then outside R declared (trace_of (next (fin.get y k)) y) else Some k)) [
+      → (if b then outside R declared (trace_of (next (fin.get x k)) x) else Some k) ≡ (if b then outside R declared
+      (trace_of (next (fin.get y k)) y) else Some k)) [
         | true ↦ λ e. strays (next (fin.get x k)) declared x y h ∙ ap (λ row. outside R declared (trace_of (next row) y)) (h k e)
         | false ↦ λ e. refl
       ] refl
@@ -71,21 +77,25 @@ module _ {K V A : Type 0} {R : K → K → Ordering} (o : IsTotalOrder R) (anti 
       (ap (λ r. Read k ∷ r) rest.0 ∙ ap (λ row. Read k ∷ trace_of (next row) y) same, rest.1 ∙ ap (λ row. end_of (next row) y) same)
   agree (Writes k row next) n x y h =
       let rest = agree next (noted R n (Write k row)) (set_at x k row) (set_at y k row) (λ q e. set_agree o x y k row q (λ apart. h q (
-      sym (ap (λ b. is_among R (all_noted R (noted R n (Write k row)) (trace_of next (set_at x k row))).reads q || b) (is_among-with_write o anti n.writes k row q ∙ ap (λ b. b || is_among R (keys_of n.writes) q) apart)) ∙ e))) in
+      sym (ap (λ b. is_among R (all_noted R (noted R n (Write k row)) (trace_of next (set_at x k row))).reads q || b)
+      (is_among-with_write o anti n.writes k row q ∙ ap (λ b. b || is_among R (keys_of n.writes) q) apart)) ∙ e))) in
       (ap (λ r. Write k row ∷ r) rest.0, rest.1)
 
   within : (t : Tree K V A) (declared : Declared K) (x y : FinMap R V) → outside R declared (trace_of t x) ≡ None → AgreeWithin declared x y
       → (trace_of t x ≡ trace_of t y) × (end_of t x ≡ end_of t y)
   within (Ends a) declared x y inside h = (refl, refl)
-  within (Reads k next) declared x y inside h = elim (may_read R declared k) as (λ b. may_read R declared k ≡ b → (if b then outside R declared (trace_of (next (fin.get x k)) x) else Some k) ≡ None
+  within (Reads k next) declared x y inside h = elim (may_read R declared k) as (λ b. may_read R declared k ≡ b
+      → (if b then outside R declared (trace_of (next (fin.get x k)) x) else Some k) ≡ None
       → (trace_of (Reads k next) x ≡ trace_of (Reads k next) y) × (end_of (Reads k next) x ≡ end_of (Reads k next) y)) [
         | true ↦ λ e inside. let rest = within (next (fin.get x k)) declared x y inside h in
             (ap (λ r. Read k ∷ r) rest.0 ∙ ap (λ row. Read k ∷ trace_of (next row) y) (h k e), rest.1 ∙ ap (λ row. end_of (next row) y) (h k e))
         | false ↦ λ e inside. cc
       ] refl inside
-  within (Writes k row next) declared x y inside h = elim (may_write R declared k) as (λ b. (if b then outside R declared (trace_of next (set_at x k row)) else Some k) ≡ None
+  within (Writes k row next) declared x y inside h =
+      elim (may_write R declared k) as (λ b. (if b then outside R declared (trace_of next (set_at x k row)) else Some k) ≡ None
       → (trace_of (Writes k row next) x ≡ trace_of (Writes k row next) y) × (end_of (Writes k row next) x ≡ end_of (Writes k row next) y)) [
-        | true ↦ λ inside. let rest = within next declared (set_at x k row) (set_at y k row) inside (λ q e. set_agree o x y k row q (λ apart. h q e)) in (ap (λ r. Write k row ∷ r) rest.0, rest.1)
+        | true ↦ λ inside. let rest = within next declared (set_at x k row) (set_at y k row) inside (λ q e. set_agree o x y k row q (λ apart. h q e)) in
+            (ap (λ r. Write k row ∷ r) rest.0, rest.1)
         | false ↦ λ inside. cc
       ] inside
 
@@ -96,4 +106,5 @@ module _ {K V A : Type 0} {R : K → K → Ordering} (o : IsTotalOrder R) (anti 
   agreement is_done t m n h = same_run is_done t m n (agree t nothing m n (λ q e. h q (or_false _ e)))
 
   pub outside-is : (is_done : A → Bool) (t : Tree K V A) (declared : Declared K) (m n : FinMap R V) → Outside is_done t declared m n
-  outside-is is_done t declared m n inside h = let run = within t declared m n inside h in (same_run is_done t m n run, ap (outside R declared) (sym run.0) ∙ inside)
+  outside-is is_done t declared m n inside h = let run = within t declared m n inside h in
+      (same_run is_done t m n run, ap (outside R declared) (sym run.0) ∙ inside)

@@ -19,11 +19,14 @@ use Rattle.batch_rules.proofs.Numberings.{same_verdict}
 
 -- the late fold over images
 module _ {K V W X A : Type 0} {R : K → K → Ordering} (is_done : A → Bool) (declared_of : W → Declared K) (tree : W → Tree K V A) (f : X → W) where
-  pub fates_map : (db : FinMap R V) (xs : List X) → late_fates is_done (λ x. declared_of (f x)) (λ x. tree (f x)) db xs ≡ late_fates is_done declared_of tree db (map f xs)
+  pub fates_map : (db : FinMap R V) (xs : List X) → late_fates is_done (λ x. declared_of (f x)) (λ x. tree (f x)) db xs ≡ late_fates is_done declared_of tree
+      db (map f xs)
   fates_map db [] = refl
-  fates_map db (x ∷ xs) = ap (λ fates. late_fate (declared_of (f x)) (tree (f x)) db ∷ fates) (fates_map (late_map is_done (declared_of (f x)) (tree (f x)) db) xs)
+  fates_map db (x ∷ xs) = ap (λ fates. late_fate (declared_of (f x)) (tree (f x)) db ∷ fates)
+      (fates_map (late_map is_done (declared_of (f x)) (tree (f x)) db) xs)
 
-  pub left_map : (db : FinMap R V) (xs : List X) → late_left is_done (λ x. declared_of (f x)) (λ x. tree (f x)) db xs ≡ late_left is_done declared_of tree db (map f xs)
+  pub left_map : (db : FinMap R V) (xs : List X) → late_left is_done (λ x. declared_of (f x)) (λ x. tree (f x)) db xs ≡ late_left is_done declared_of tree db
+      (map f xs)
   left_map db [] = refl
   left_map db (x ∷ xs) = left_map (late_map is_done (declared_of (f x)) (tree (f x)) db) xs
 
@@ -36,7 +39,8 @@ module _ {O P : Type 0} (of : O → P) (on : Dependencies P) (rule : Rule) where
     war = map-map (on.war (of me)) of earlier;
   })
 
-  pub judged-through : (earlier list : List O) → judged on rule (map of earlier) (map of list) ≡ map (judged_through of) (judged (through of on) rule earlier list)
+  pub judged-through : (earlier list : List O) → judged on rule (map of earlier) (map of list) ≡ map (judged_through of)
+      (judged (through of on) rule earlier list)
   judged-through earlier [] = refl
   judged-through earlier (o ∷ os) =
       let tid = length-map earlier of in
@@ -64,7 +68,8 @@ module _ {K V A O P : Type 0} (of : O → P) (by : Carrier K V A P) where
   fate-through o (Wait cause) [] = refl
   fate-through o (Wait cause) (late ∷ lates) = refl
 
-  pub settled-through : (ds : List (Judged O)) (lates : List (Fate K A)) → settled by (map (judged_through of) ds) lates ≡ map (entry_through of) (settled (read_through of by) ds lates)
+  pub settled-through : (ds : List (Judged O)) (lates : List (Fate K A))
+      → settled by (map (judged_through of) ds) lates ≡ map (entry_through of) (settled (read_through of by) ds lates)
   settled-through [] lates = refl
   settled-through (d ∷ ds) lates =
       let fate = fate-through d.request d.verdict lates in
@@ -83,38 +88,47 @@ module _ {K A O P : Type 0} (of : O → P) (es : List (Entry K O A)) where
   pub ordered-through : ordered (map (entry_through of) es) ≡ map (entry_through of) (ordered es)
   ordered-through =
       let late = filter-map (entry_through of) is_late is_late es (λ k d below. refl) in
-      (λ i. placed-map (entry_through of) (λ e. e.judged.verdict) es i ++ sym late i) ∙ sym (map-append (entry_through of) (placed (λ e. e.judged.verdict) es) (filter is_late es))
+      (λ i. placed-map (entry_through of) (λ e. e.judged.verdict) es i ++ sym late i)
+      ∙ sym (map-append (entry_through of) (placed (λ e. e.judged.verdict) es) (filter is_late es))
 
   pub carried-through : carried (map (entry_through of) es) ≡ map (entry_through of) (carried es)
   carried-through = sym (filter-map (entry_through of) is_carried is_carried es (λ k d below. refl))
 
 -- the databases
 module _ {K V A O P : Type 0} {R : K → K → Ordering} (of : O → P) (by : Carrier K V A P) (is_done : A → Bool) (tree : P → Tree K V A) where
-  pub after_commit-through : (start : FinMap R V) (ds : List (Judged O)) → after_commit by start (map (judged_through of) ds) ≡ after_commit (read_through of by) start ds
-  after_commit-through start ds = ap (installed (λ d. by.rows d.request) start) (finishing-through of ds) ∙ installed-map (λ d. by.rows d.request) (judged_through of) start (finishing ds)
+  pub after_commit-through : (start : FinMap R V) (ds : List (Judged O))
+      → after_commit by start (map (judged_through of) ds) ≡ after_commit (read_through of by) start ds
+  after_commit-through start ds = ap (installed (λ d. by.rows d.request) start) (finishing-through of ds)
+      ∙ installed-map (λ d. by.rows d.request) (judged_through of) start (finishing ds)
 
-  late_results-through : (db : FinMap R V) (ds : List (Judged O)) → late_results by is_done tree db (map (judged_through of) ds) ≡ late_results (read_through of by) is_done (λ o. tree (of o)) db ds
+  late_results-through : (db : FinMap R V) (ds : List (Judged O))
+      → late_results by is_done tree db (map (judged_through of) ds) ≡ late_results (read_through of by) is_done (λ o. tree (of o)) db ds
   late_results-through db ds = ap (late_fates is_done (λ d. declared by d.request) (λ d. tree d.request) db) (waiting-through of ds)
       ∙ sym (fates_map is_done (λ d. declared by d.request) (λ d. tree d.request) (judged_through of) db (waiting ds))
 
-  late_rest-through : (db : FinMap R V) (ds : List (Judged O)) → late_rest by is_done tree db (map (judged_through of) ds) ≡ late_rest (read_through of by) is_done (λ o. tree (of o)) db ds
+  late_rest-through : (db : FinMap R V) (ds : List (Judged O))
+      → late_rest by is_done tree db (map (judged_through of) ds) ≡ late_rest (read_through of by) is_done (λ o. tree (of o)) db ds
   late_rest-through db ds = ap (late_left is_done (λ d. declared by d.request) (λ d. tree d.request) db) (waiting-through of ds)
       ∙ sym (left_map is_done (λ d. declared by d.request) (λ d. tree d.request) (judged_through of) db (waiting ds))
 
   entries-through : (percent : ℕ) (start : FinMap R V) (ds : List (Judged O))
-      → (answered by is_done tree percent start (map (judged_through of) ds)).entries ≡ map (entry_through of) (answered (read_through of by) is_done (λ o. tree (of o)) percent start ds).entries
+      → (answered by is_done tree percent start (map (judged_through of) ds)).entries ≡ map (entry_through of)
+      (answered (read_through of by) is_done (λ o. tree (of o)) percent start ds).entries
   entries-through percent start ds =
       let after = after_commit-through start ds in
       let again = late_runs-through of ds percent in
-      let lates = ap (λ db. late_results by is_done tree db (map (judged_through of) ds)) after ∙ late_results-through (after_commit (read_through of by) start ds) ds in
+      let lates = ap (λ db. late_results by is_done tree db (map (judged_through of) ds)) after
+      ∙ late_results-through (after_commit (read_through of by) start ds) ds in
       (λ i. settled by (map (judged_through of) ds) (if again i then lates i else [])) ∙ settled-through of by ds _
 
   left-through : (percent : ℕ) (start : FinMap R V) (ds : List (Judged O))
-      → (answered by is_done tree percent start (map (judged_through of) ds)).map ≡ (answered (read_through of by) is_done (λ o. tree (of o)) percent start ds).map
+      → (answered by is_done tree percent start (map (judged_through of) ds)).map ≡ (answered (read_through of by) is_done
+      (λ o. tree (of o)) percent start ds).map
   left-through percent start ds =
       let after = after_commit-through start ds in
       let again = late_runs-through of ds percent in
-      let left = ap (λ db. late_rest by is_done tree db (map (judged_through of) ds)) after ∙ late_rest-through (after_commit (read_through of by) start ds) ds in
+      let left = ap (λ db. late_rest by is_done tree db (map (judged_through of) ds)) after
+      ∙ late_rest-through (after_commit (read_through of by) start ds) ds in
       λ i. if again i then left i else after i
 
   pub same_batch : (rule : Rule) (percent : ℕ) (start : FinMap R V) (list : List O) → SameBatch of by is_done tree rule percent start list

@@ -31,16 +31,24 @@ module _ {S : Type 0} (holds : S → Bool) where
     | inr at_i ↦ false≢true (sym e ∙ subst (λ P. P) (sym (here i x xs k at_i)) p)
   ]
 
-  first_behind : (i : ℕ) (x : S) (xs : List S) (r : Option ℕ) → holds x ≡ false → IsFirst (at (i + 1) xs) (i + 1) (length xs + (i + 1)) r → IsFirst (at i (x ∷ xs)) i (length (x ∷ xs) + i) r
+  first_behind : (i : ℕ) (x : S) (xs : List S) (r : Option ℕ) → holds x ≡ false → IsFirst (at (i + 1) xs) (i + 1) (length xs + (i + 1)) r
+      → IsFirst (at i (x ∷ xs)) i (length (x ∷ xs) + i) r
   first_behind i x xs None e h = not_before i x xs _ e (λ k low high. h k low (omega arith))
-  first_behind i x xs (Some k) e h = (record { low = let low = h.0.low in omega arith; high = let high = h.0.high in omega arith; before = not_before i x xs k e h.0.before }, subst (λ P. P) (later i x xs k (let low = h.0.low in omega arith)) h.1)
+  first_behind i x xs (Some k) e h = (
+    record { low = let low = h.0.low in omega arith; high = let high = h.0.high in omega arith; before = not_before i x xs k e h.0.before },
+    subst (λ P. P) (later i x xs k (let low = h.0.low in omega arith)) h.1,
+  )
 
   least_from : (i : ℕ) (items : List S) → IsFirst (at i items) i (length items + i) (position_from holds i items)
   least_from i [] = λ k low high. absurd (omega arith)
-  least_from i (x ∷ xs) = elim (holds x) as (λ b. holds x ≡ b → IsFirst (at i (x ∷ xs)) i (length (x ∷ xs) + i) (cond b (Some i) (position_from holds (i + 1) xs))) [
-    | true ↦ λ e. (record { low = omega arith; high = omega arith; before = λ k low high. absurd (omega arith) }, subst (λ P. P) (here i x xs i (omega arith)) e)
-    | false ↦ λ e. first_behind i x xs _ e (least_from (i + 1) xs)
-  ] refl
+  least_from i (x ∷ xs) = elim (holds x) as (λ b. holds x ≡ b
+      → IsFirst (at i (x ∷ xs)) i (length (x ∷ xs) + i) (cond b (Some i) (position_from holds (i + 1) xs))) [
+        | true ↦ λ e. (
+          record { low = omega arith; high = omega arith; before = λ k low high. absurd (omega arith) },
+          subst (λ P. P) (here i x xs i (omega arith)) e,
+        )
+        | false ↦ λ e. first_behind i x xs _ e (least_from (i + 1) xs)
+      ] refl
 
   pub least-is : (items : List S) → IsLeast holds items (least holds items)
   least-is items = least_from 1 items
@@ -70,7 +78,8 @@ module _ {S : Type 0} (on : Dependencies S) (earlier : List S) (me : S) where
 module _ {O : Type 0} (on : Dependencies O) (rule : Rule) where
   waits_after : (earlier list : List O) → All (λ d. CauseBelow d.tid d.verdict) (judged on rule earlier list)
   waits_after earlier [] = All-nil (λ (d : Judged O). CauseBelow d.tid d.verdict)
-  waits_after earlier (o ∷ os) = All-cons (λ (d : Judged O). CauseBelow d.tid d.verdict) _ _ (cause_below on earlier o rule) (waits_after (earlier ++ o ∷ []) os)
+  waits_after earlier (o ∷ os) = All-cons (λ (d : Judged O). CauseBelow d.tid d.verdict) _ _ (cause_below on earlier o rule)
+      (waits_after (earlier ++ o ∷ []) os)
 
   pub waits_for_earlier : (list : List O) → WaitsForEarlier (judged on rule [] list)
   waits_for_earlier list = waits_after [] list

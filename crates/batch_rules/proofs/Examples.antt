@@ -27,13 +27,16 @@ abbrev ring : List (Tree ℕ ℕ Bool)
 ring = copy 1 2 ∷ copy 2 3 ∷ copy 3 1 ∷ []
 
 -- the second reads what the first writes, and goes ahead of it; the third would have to stand before the second and behind the first
-ring_reordered : (start : FinMap nat_cmp ℕ) → (fates_of Reorder 101 start ring ≡ Ended true ∷ Ended true ∷ Waits (Both 2 1) ∷ []) × (order_of Reorder 101 start ring ≡ 2 ∷ 1 ∷ [])
+ring_reordered : (start : FinMap nat_cmp ℕ) → (fates_of Reorder 101 start ring ≡ Ended true ∷ Ended true ∷ Waits (Both 2 1) ∷ [])
+    × (order_of Reorder 101 start ring ≡ 2 ∷ 1 ∷ [])
 ring_reordered start = (refl, refl)
 
 -- what the third waits for does not finish either
-ring_plain : (start : FinMap nat_cmp ℕ) → (fates_of Plain 101 start ring ≡ Ended true ∷ Waits (Raw 1) ∷ Waits (Raw 2) ∷ []) × (order_of Plain 101 start ring ≡ 1 ∷ [])
+ring_plain : (start : FinMap nat_cmp ℕ) → (fates_of Plain 101 start ring ≡ Ended true ∷ Waits (Raw 1) ∷ Waits (Raw 2) ∷ [])
+    × (order_of Plain 101 start ring ≡ 1 ∷ [])
 ring_plain start = (refl, refl)
 
 -- one of two waits: it runs late at fifty of a hundred, and not at fifty-one
-two_adds : (start : FinMap nat_cmp ℕ) → (order_of Reorder 50 start (add 1 5 ∷ add 1 7 ∷ []) ≡ 1 ∷ 2 ∷ []) × (fates_of Reorder 51 start (add 1 5 ∷ add 1 7 ∷ []) ≡ Ended true ∷ Waits (Waw 1) ∷ [])
+two_adds : (start : FinMap nat_cmp ℕ) → (order_of Reorder 50 start (add 1 5 ∷ add 1 7 ∷ []) ≡ 1 ∷ 2 ∷ [])
+    × (fates_of Reorder 51 start (add 1 5 ∷ add 1 7 ∷ []) ≡ Ended true ∷ Waits (Waw 1) ∷ [])
 two_adds start = (refl, refl)

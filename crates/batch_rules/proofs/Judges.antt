@@ -36,7 +36,11 @@ turn_raw Reorder None (Some j) None e = sym e
 module _ {S : Type 0} (holds : S → Bool) where
   pub is_some-position_from : (i : ℕ) (xs : List S) → is_some (position_from holds i xs) ≡ list_any holds xs
   is_some-position_from i [] = refl
-  is_some-position_from i (x ∷ xs) = elim (holds x) as (λ b. is_some (cond b (Some i) (position_from holds (i + 1) xs)) ≡ (b || list_any holds xs)) [ true ↦ refl | false ↦ is_some-position_from (i + 1) xs ]
+  is_some-position_from i (x ∷ xs) = elim (holds x) as (λ b. is_some (cond b (Some i) (position_from holds (i + 1) xs)) ≡ (b || list_any holds xs)) [
+    | true ↦
+        refl
+    | false ↦ is_some-position_from (i + 1) xs
+  ]
 
   none_holds : (us : List S) (x : S) (vs : List S) → is_some (least holds (us ++ x ∷ vs)) ≡ false → holds x ≡ false
   none_holds us x vs e = (or_parts _ _ (or_parts _ _ (sym (list_any-append holds us (x ∷ vs)) ∙ sym (is_some-position_from 1 (us ++ x ∷ vs)) ∙ e)).1).0
@@ -62,9 +66,11 @@ module _ {O : Type 0} (on : Dependencies O) (rule : Rule) where
   all_clean earlier (o ∷ os) = (clean_of earlier (judge on rule earlier o) [] os, all_clean (earlier ++ o ∷ []) os)
 
   -- one request more, the request at a place, and how many there are
-  pub judged-push : (earlier list : List O) (o : O) → judged on rule earlier (list ++ o ∷ []) ≡ judged on rule earlier list ++ judge on rule (earlier ++ list) o ∷ []
+  pub judged-push : (earlier list : List O) (o : O) → judged on rule earlier (list ++ o ∷ []) ≡ judged on rule earlier list ++ judge on rule
+      (earlier ++ list) o ∷ []
   judged-push earlier [] o = ap (λ l. judge on rule l o ∷ []) (sym (append-nil earlier))
-  judged-push earlier (x ∷ xs) o = ap (λ l. judge on rule earlier x ∷ l) (judged-push (earlier ++ x ∷ []) xs o ∙ ap (λ l. judged on rule (earlier ++ x ∷ []) xs ++ judge on rule l o ∷ []) (append_assoc earlier (x ∷ []) xs))
+  judged-push earlier (x ∷ xs) o = ap (λ l. judge on rule earlier x ∷ l) (judged-push (earlier ++ x ∷ []) xs o
+      ∙ ap (λ l. judged on rule (earlier ++ x ∷ []) xs ++ judge on rule l o ∷ []) (append_assoc earlier (x ∷ []) xs))
 
   pub length-judged : (earlier list : List O) → length (judged on rule earlier list) ≡ length list
   length-judged earlier [] = refl
@@ -74,15 +80,19 @@ module _ {O : Type 0} (on : Dependencies O) (rule : Rule) where
   requests-judged earlier [] = refl
   requests-judged earlier (x ∷ xs) = ap (λ rest. x ∷ rest) (requests-judged (earlier ++ x ∷ []) xs)
 
-  pub judged-at : (earlier list : List O) (i : ℕ) (d : Judged O) → i < length list → slice_index_or (judged on rule earlier list) i d ≡ judge on rule (earlier ++ take i list) (slice_index_or list i d.request)
+  pub judged-at : (earlier list : List O) (i : ℕ) (d : Judged O) → i < length list
+      → slice_index_or (judged on rule earlier list) i d ≡ judge on rule (earlier ++ take i list) (slice_index_or list i d.request)
   judged-at earlier [] i d below = absurd (omega arith)
   judged-at earlier (x ∷ xs) zero d below = ap (λ l. judge on rule l x) (sym (append-nil earlier))
-  judged-at earlier (x ∷ xs) (suc i) d below = judged-at (earlier ++ x ∷ []) xs i d (omega arith) ∙ ap (λ l. judge on rule l (slice_index_or xs i d.request)) (append_assoc earlier (x ∷ []) (take i xs))
+  judged-at earlier (x ∷ xs) (suc i) d below = judged-at (earlier ++ x ∷ []) xs i d (omega arith)
+      ∙ ap (λ l. judge on rule l (slice_index_or xs i d.request)) (append_assoc earlier (x ∷ []) (take i xs))
 
-  decided_behind : (earlier list : List O) → decided (length earlier + 1) list (map (λ d. d.verdict) (judged on rule earlier list)) ≡ judged on rule earlier list
+  decided_behind : (earlier list : List O) → decided (length earlier + 1) list (map (λ d. d.verdict) (judged on rule earlier list)) ≡ judged on rule earlier
+      list
   decided_behind earlier [] = refl
   decided_behind earlier (x ∷ xs) = ap (λ rest. judge on rule earlier x ∷ rest)
-      (ap (λ n. decided (n + 1) xs (map (λ d. d.verdict) (judged on rule (earlier ++ x ∷ []) xs))) (sym (length-append earlier (x ∷ []))) ∙ decided_behind (earlier ++ x ∷ []) xs)
+      (ap (λ n. decided (n + 1) xs (map (λ d. d.verdict) (judged on rule (earlier ++ x ∷ []) xs))) (sym (length-append earlier (x ∷ [])))
+      ∙ decided_behind (earlier ++ x ∷ []) xs)
 
   pub decided_each : (list : List O) → DecidedEach on rule list
   decided_each list = decided_behind [] list

@@ -23,13 +23,17 @@ module _ {K V Q A : Type 0} {R : K → K → Ordering} (is_done : A → Bool) (t
   serially db [] a p = p
   serially db (q ∷ qs) a p = serially (map_after is_done (tree q) db) qs (All-tail Keeps q qs a) (All-head Keeps q qs a db p)
 
-module _ {K V Q A : Type 0} {R : K → K → Ordering} (o : IsTotalOrder R) (anti : IsAntisymmetric R) (is_done : A → Bool) (tree : Q → Tree K V A) (P : FinMap R V → Type 0) where
-  pub kept_by_batch : (rule : Rule) (percent : ℕ) (start : FinMap R V) (list : List Q) → All (Keeps is_done tree P) list → P start → P (batch is_done tree rule percent start list).map
+module _ {K V Q A : Type 0} {R : K → K → Ordering} (o : IsTotalOrder R) (anti : IsAntisymmetric R) (is_done : A → Bool) (tree : Q → Tree K V A) (P : FinMap R V
+    → Type 0) where
+  pub kept_by_batch : (rule : Rule) (percent : ℕ) (start : FinMap R V) (list : List Q) → All (Keeps is_done tree P) list → P start
+      → P (batch is_done tree rule percent start list).map
   kept_by_batch rule percent start list a p =
       let by = on_start is_done tree start in
       let es = (batch is_done tree rule percent start list).entries in
       let keeps : Entry K Q A → Type 0 = λ e. Keeps is_done tree P e.judged.request in
-      let all : All keeps es = All-unmapped (Keeps is_done tree P) (λ e. e.judged.request) es (subst (All (Keeps is_done tree P)) (sym (requests-settled by (touching by R) rule list _)) a) in
-      let order : All keeps (ordered es) = All-left keeps (ordered es) (carried es) (All-permutation keeps es (ordered es ++ carried es) (IsPermutation-sym _ _ (each_once by (touching by R) rule list _).parted) all) in
+      let all : All keeps es = All-unmapped (Keeps is_done tree P) (λ e. e.judged.request) es
+      (subst (All (Keeps is_done tree P)) (sym (requests-settled by (touching by R) rule list _)) a) in
+      let order : All keeps (ordered es) = All-left keeps (ordered es) (carried es)
+      (All-permutation keeps es (ordered es ++ carried es) (IsPermutation-sym _ _ (each_once by (touching by R) rule list _).parted) all) in
       subst P (serial_law o anti is_done tree rule percent start list).map
       (serially is_done tree P start (map (λ e. e.judged.request) (ordered es)) (All-map (Keeps is_done tree P) (λ e. e.judged.request) (ordered es) order) p)

@@ -25,12 +25,14 @@ map_same f g [] a = refl
 map_same f g (x ∷ xs) a = λ i. All-head (λ x. f x ≡ g x) x xs a i ∷ map_same f g xs (All-tail (λ x. f x ≡ g x) x xs a) i
 
 -- a test of images
-pub position_from-map : {X Y : Type 0} (holds : Y → Bool) (f : X → Y) (i : ℕ) (xs : List X) → position_from holds i (map f xs) ≡ position_from (λ x. holds (f x)) i xs
+pub position_from-map : {X Y : Type 0} (holds : Y → Bool) (f : X → Y) (i : ℕ) (xs : List X)
+    → position_from holds i (map f xs) ≡ position_from (λ x. holds (f x)) i xs
 position_from-map holds f i [] = refl
 position_from-map holds f i (x ∷ xs) = ap (cond (holds (f x)) (Some i)) (position_from-map holds f (i + 1) xs)
 
 -- what a filter keeps of a list and of its image, where it treats them alike
-pub filter-map : {X Y : Type 0} (f : X → Y) (p : X → Bool) (q : Y → Bool) (xs : List X) → All (λ x. p x ≡ q (f x)) xs → map f (filter p xs) ≡ filter q (map f xs)
+pub filter-map : {X Y : Type 0} (f : X → Y) (p : X → Bool) (q : Y → Bool) (xs : List X) → All (λ x. p x ≡ q (f x)) xs
+    → map f (filter p xs) ≡ filter q (map f xs)
 filter-map f p q [] a = refl
 filter-map f p q (x ∷ xs) a =
     let rest = filter-map f p q xs (All-tail (λ x. p x ≡ q (f x)) x xs a) in

@@ -20,7 +20,8 @@ use Rattle.batch_rules.proofs.Lists.{map_same, position_from-map}
 least_by : {S Z : Type 0} (test : S → Bool) (also : Z → Bool) (xs : List S) (ys : List Z) → map test xs ≡ map also ys → least test xs ≡ least also ys
 least_by test also xs ys e = sym (position_from-map (λ b. b) test 1 xs) ∙ ap (position_from (λ b. b) 1) e ∙ position_from-map (λ b. b) also 1 ys
 
-pub same_verdict : {S Z : Type 0} (on : Dependencies S) (earlier : List S) (me : S) (also : Dependencies Z) (others : List Z) (you : Z) (rule : Rule) → SameVerdict on earlier me also others you rule
+pub same_verdict : {S Z : Type 0} (on : Dependencies S) (earlier : List S) (me : S) (also : Dependencies Z) (others : List Z) (you : Z) (rule : Rule)
+    → SameVerdict on earlier me also others you rule
 same_verdict on earlier me also others you rule same =
     let waw = least_by (on.waw me) (also.waw you) earlier others same.waw in
     let raw = least_by (on.raw me) (also.raw you) earlier others same.raw in
@@ -53,7 +54,8 @@ module _ {K : Type 0} (R : K → K → Ordering) (keys : List K) (number : K →
       map_same (λ other. meets nat_cmp (map number (mine me)) (map number (theirs other))) (λ other. meets R (mine me) (theirs other)) earlier
       (λ k d below. meets_numbers (mine me) _ (All-head (λ s. All Has (mine s)) me earlier has_mine) (behind k d below))
 
-pub numbers_decide : {K S : Type 0} (R : K → K → Ordering) (keys : List K) (number : K → ℕ) (reads writes : S → List K) (earlier : List S) (me : S) (rule : Rule)
+pub numbers_decide : {K S : Type 0} (R : K → K → Ordering) (keys : List K) (number : K → ℕ) (reads writes : S → List K) (earlier : List S) (me : S)
+    (rule : Rule)
     → NumbersDecide R keys number reads writes earlier me rule
 numbers_decide R keys number reads writes earlier me rule one r w =
     same_verdict (by_keys nat_cmp (λ s. map number (reads s)) (λ s. map number (writes s))) earlier me (by_keys R reads writes) earlier me rule (record {
@@ -77,13 +79,15 @@ module _ {K : Type 0} {R : K → K → Ordering} (o : IsTotalOrder R) where
   ] e
 
   pub places_one_to_one : (keys : List K) → IsOneToOneOn R keys (place_in R keys)
-  places_one_to_one keys x y in_x in_y = unsigned_tied (place_in R keys x) (place_in R keys y) ∙ elim (eq_by_cmp R x y) as (λ b. eq_by_cmp R x y ≡ b → nat_eq (place_in R keys x) (place_in R keys y) ≡ b) [
-    | true ↦ λ e. eq-eqb (place_in R keys x) (place_in R keys y) (same_place x y e keys)
-    | false ↦ λ e. false_from_ne_true _ (λ same. false≢true (sym e ∙ tied (eqb-true (place_in R keys x) (place_in R keys y) same)))
-  ] refl
+  places_one_to_one keys x y in_x in_y = unsigned_tied (place_in R keys x) (place_in R keys y)
+      ∙ elim (eq_by_cmp R x y) as (λ b. eq_by_cmp R x y ≡ b → nat_eq (place_in R keys x) (place_in R keys y) ≡ b) [
+        | true ↦ λ e. eq-eqb (place_in R keys x) (place_in R keys y) (same_place x y e keys)
+        | false ↦ λ e. false_from_ne_true _ (λ same. false≢true (sym e ∙ tied (eqb-true (place_in R keys x) (place_in R keys y) same)))
+      ] refl
     where
       tied : place_in R keys x ≡ place_in R keys y → eq_by_cmp R x y ≡ true
       tied same =
           let at_x = passes_at_first (eq_by_cmp R x) keys x (place_within keys x in_x) in
-          let at_y : eq_by_cmp R y (get_or keys (place_in R keys x) x) ≡ true = ap (λ n. eq_by_cmp R y (get_or keys n x)) same ∙ passes_at_first (eq_by_cmp R y) keys x (place_within keys y in_y) in
+          let at_y : eq_by_cmp R y (get_or keys (place_in R keys x) x) ≡ true = ap (λ n. eq_by_cmp R y (get_or keys n x)) same
+          ∙ passes_at_first (eq_by_cmp R y) keys x (place_within keys y in_y) in
           (eq_by_cmp_equiv o).congr x (get_or keys (place_in R keys x) x) y at_x ∙ (eq_by_cmp_equiv o).symm (get_or keys (place_in R keys x) x) y ∙ at_y

@@ -20,7 +20,8 @@ module _ {X : Type 0} (P : X → X → Type 0) where
   pub Pairs_middle : (us : List X) (x : X) (vs : List X) → Pairs (us ++ vs) → All (λ u. P u x) us → All (P x) vs → Pairs (us ++ x ∷ vs)
   Pairs_middle [] x vs p before after = (after, p)
   Pairs_middle (u ∷ us) x vs p before after = (
-    All-permutation (P u) (x ∷ (us ++ vs)) (us ++ x ∷ vs) (IsPermutation-sym _ _ (IsPermutation-middle us x vs)) (All-cons (P u) x (us ++ vs) (All-head (λ u. P u x) u us before) p.0),
+    All-permutation (P u) (x ∷ (us ++ vs)) (us ++ x ∷ vs) (IsPermutation-sym _ _ (IsPermutation-middle us x vs))
+        (All-cons (P u) x (us ++ vs) (All-head (λ u. P u x) u us before) p.0),
     Pairs_middle us x vs p.1 (All-tail (λ u. P u x) u us before) after,
   )
 

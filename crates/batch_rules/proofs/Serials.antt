@@ -21,7 +21,8 @@ turned : (a b : Bool) → (a ≡ true → b ≡ false) → b ≡ true → a ≡ 
 turned true b h e = sym e ∙ h refl
 turned false b h e = refl
 
-module _ {K V Q A X : Type 0} {R : K → K → Ordering} (o : IsTotalOrder R) (anti : IsAntisymmetric R) (runs : Runs R V A Q) (framed : (q : Q) → IsFramed runs q) (start : FinMap R V) (request_of : X → Q) where
+module _ {K V Q A X : Type 0} {R : K → K → Ordering} (o : IsTotalOrder R) (anti : IsAntisymmetric R) (runs : Runs R V A Q) (framed : (q : Q) → IsFramed runs q)
+    (start : FinMap R V) (request_of : X → Q) where
   abbrev rows : X → List (K × Option V)
   rows x = runs.rows (request_of x) start
 

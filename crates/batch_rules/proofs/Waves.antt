@@ -26,7 +26,8 @@ pub record IsFree {K : Type 0} (R : K → K → Ordering) (a b : Declared K) : T
   pub there : (q : K) → may_write R a q ≡ true → may_read R b q ≡ false
   pub back : (q : K) → may_write R b q ≡ true → may_read R a q ≡ false
 
-module _ {K V W A : Type 0} {R : K → K → Ordering} (o : IsTotalOrder R) (anti : IsAntisymmetric R) (is_done : A → Bool) (declared_of : W → Declared K) (tree : W → Tree K V A) (wave : W → ℕ) where
+module _ {K V W A : Type 0} {R : K → K → Ordering} (o : IsTotalOrder R) (anti : IsAntisymmetric R) (is_done : A → Bool) (declared_of : W → Declared K)
+    (tree : W → Tree K V A) (wave : W → ℕ) where
   abbrev rows_on : FinMap R V → W → List (K × Option V)
   rows_on m w = late_rows is_done (declared_of w) (tree w) m
 
@@ -47,21 +48,28 @@ module _ {K V W A : Type 0} {R : K → K → Ordering} (o : IsTotalOrder R) (ant
   of_wave P n ws a = All-filtered (at_wave n) P ws (λ k d below e. a k d below (let is = eqb-true (wave (slice_index_or ws k d)) n e in omega (arith, is)))
 
   rows_past : (m : FinMap R V) (w x : W) → free w x → Past (rows_on m w) x
-  rows_past m w x f = record { none = λ q may. false_from_ne_true _ (λ among. false≢true (sym (f.there q (late_keys o anti is_done (declared_of w) (tree w) m q among)) ∙ may)) }
+  rows_past m w x f = record {
+    none = λ q may. false_from_ne_true _
+        (λ among. false≢true (sym (f.there q (late_keys o anti is_done (declared_of w) (tree w) m q among)) ∙ may));
+  }
 
   agree_past : (m : FinMap R V) (rows : List (K × Option V)) (x : W) → Past rows x → AgreeWithin (declared_of x) (overwritten m rows) m
   agree_past m rows x past q may = get-apart o anti m rows q (past.none q may)
 
   -- rows past all items of the waves below n change nothing for them
-  shifted : (db : FinMap R V) (rows : List (K × Option V)) (ws : List W) (n : ℕ) → All (λ x. wave x < n → Past rows x) ws → before (overwritten db rows) ws n ≡ overwritten (before db ws n) rows
+  shifted : (db : FinMap R V) (rows : List (K × Option V)) (ws : List W) (n : ℕ) → All (λ x. wave x < n → Past rows x) ws
+      → before (overwritten db rows) ws n ≡ overwritten (before db ws n) rows
   shifted db rows ws zero a = refl
   shifted db rows ws (suc n) a =
       let m = before db ws n in
       let now : All (Past rows) (filter (at_wave n) ws) = of_wave (Past rows) n ws a in
       ap (λ m. installed (rows_on m) m (filter (at_wave n) ws)) (shifted db rows ws n (λ k d below less. a k d below (omega (arith, less))))
-      ∙ installed_same (rows_on (overwritten m rows)) (rows_on m) (overwritten m rows) (filter (at_wave n) ws) (λ k d below. (late_agree o anti is_done _ _ _ _ (agree_past m rows _ (now k d below))).1)
+      ∙ installed_same (rows_on (overwritten m rows)) (rows_on m) (overwritten m rows) (filter (at_wave n) ws)
+      (λ k d below. (late_agree o anti is_done _ _ _ _ (agree_past m rows _ (now k d below))).1)
       ∙ installed_swap o anti (rows_on m) m rows (filter (at_wave n) ws) (λ k d below. let x = slice_index_or (filter (at_wave n) ws) k d in
-      meets_none o anti (keys_of rows) (keys_of (rows_on m x)) (λ q among. false_from_ne_true _ (λ writes. false≢true (sym ((now k d below).none q (or_right _ _ (late_keys o anti is_done (declared_of x) (tree x) m q writes))) ∙ among))))
+      meets_none o anti (keys_of rows) (keys_of (rows_on m x))
+      (λ q among. false_from_ne_true _ (λ writes. false≢true
+      (sym ((now k d below).none q (or_right _ _ (late_keys o anti is_done (declared_of x) (tree x) m q writes))) ∙ among))))
 
   -- waves below n, free of w, leave what w may touch
   kept : (db : FinMap R V) (w : W) (ws : List W) (n : ℕ) → All (λ x. wave x < n → free w x) ws → AgreeWithin (declared_of w) (before db ws n) db
@@ -97,18 +105,26 @@ module _ {K V W A : Type 0} {R : K → K → Ordering} (o : IsTotalOrder R) (ant
             let m' = before db ws n in
             let lower : All (λ x. wave x < n → free w x) ws = λ k d below low. a k d below (omega (arith, is, low)) in
             let rows : rows_on m' w ≡ rows_on db w = (late_agree o anti is_done (declared_of w) (tree w) m' db (kept db w ws n lower)).1 in
-            let now : All (Past (rows_on db w)) rest = of_wave (Past (rows_on db w)) n ws (λ k d below low. rows_past db w _ (a k d below (omega (arith, is, low)))) in
+            let now : All (Past (rows_on db w)) rest = of_wave (Past (rows_on db w)) n ws
+            (λ k d below low. rows_past db w _ (a k d below (omega (arith, is, low)))) in
             ap (λ m. installed (rows_on m) m (w ∷ rest)) here
             ∙ ap (λ rows. installed (rows_on m') (overwritten m' rows) rest) rows
-            ∙ installed_same (rows_on m') (rows_on (overwritten m' (rows_on db w))) (overwritten m' (rows_on db w)) rest (λ k d below. sym (late_agree o anti is_done _ _ _ _ (agree_past m' (rows_on db w) _ (now k d below))).1)
+            ∙ installed_same (rows_on m') (rows_on (overwritten m' (rows_on db w))) (overwritten m' (rows_on db w)) rest
+            (λ k d below. sym (late_agree o anti is_done _ _ _ _ (agree_past m' (rows_on db w) _ (now k d below))).1)
             ∙ ap (λ m. installed (rows_on m) m rest) (sym (shifted db (rows_on db w) ws n (λ k d below low. rows_past db w _ (lower k d below low))))
-        | false ↦ λ e. ap (λ m. installed (rows_on m) m rest) (behind db w ws n a (elim (cases_lt (wave w) n) as (λ _. wave w < n) [ inl low ↦ low | inr high ↦ absurd (false≢true (sym e ∙ eq-eqb (wave w) n (omega (arith, less, high)))) ]))
+        | false ↦ λ e. ap (λ m. installed (rows_on m) m rest)
+            (behind db w ws n a (elim (cases_lt (wave w) n) as (λ _. wave w < n) [
+              | inl low ↦ low
+              | inr high ↦
+                  absurd (false≢true (sym e ∙ eq-eqb (wave w) n (omega (arith, less, high))))
+            ]))
       ] refl
 
   -- rows of two that are free of each other do not meet, on whatever databases they ran
   pub rows_apart : (m n : FinMap R V) (a b : W) → free a b → meets R (keys_of (rows_on m a)) (keys_of (rows_on n b)) ≡ false
   rows_apart m n a b f = meets_none o anti (keys_of (rows_on m a)) (keys_of (rows_on n b)) (λ q among. false_from_ne_true _ (λ writes.
-      false≢true (sym (f.there q (late_keys o anti is_done (declared_of a) (tree a) m q among)) ∙ or_right _ _ (late_keys o anti is_done (declared_of b) (tree b) n q writes))))
+      false≢true (sym (f.there q (late_keys o anti is_done (declared_of a) (tree a) m q among))
+      ∙ or_right _ _ (late_keys o anti is_done (declared_of b) (tree b) n q writes))))
 
   abbrev pub IsWaved : List W → Type 0
   IsWaved ws = Pairs (λ a b. wave b ≤ wave a → free a b) ws
@@ -118,15 +134,19 @@ module _ {K V W A : Type 0} {R : K → K → Ordering} (o : IsTotalOrder R) (ant
     pub left : (n : ℕ) → All (λ w. wave w < n) ws → before db ws n ≡ late_left is_done declared_of tree db ws
 
   same_found : (db : FinMap R V) (w x : W) (ws : List W) → All (λ x. wave x ≤ wave w → free w x) ws → (wave x ≤ wave w → free w x)
-      → late_fate (declared_of x) (tree x) (before db (w ∷ ws) (wave x)) ≡ late_fate (declared_of x) (tree x) (before (overwritten db (rows_on db w)) ws (wave x))
-  same_found db w x ws a f = elim (cases_lt (wave w) (wave x)) as (λ _. late_fate (declared_of x) (tree x) (before db (w ∷ ws) (wave x)) ≡ late_fate (declared_of x) (tree x) (before (overwritten db (rows_on db w)) ws (wave x))) [
-    | inl low ↦ ap (late_fate (declared_of x) (tree x)) (behind db w ws (wave x) a low)
-    | inr high ↦
-        let m = before db ws (wave x) in
-        ap (late_fate (declared_of x) (tree x)) (ahead db w ws (wave x) high)
-        ∙ sym (late_agree o anti is_done (declared_of x) (tree x) (overwritten m (rows_on db w)) m (agree_past m (rows_on db w) x (rows_past db w x (f high)))).0
-        ∙ ap (late_fate (declared_of x) (tree x)) (sym (shifted db (rows_on db w) ws (wave x) (λ k d below low. rows_past db w _ (a k d below (omega (arith, high, low))))))
-  ]
+      → late_fate (declared_of x) (tree x) (before db (w ∷ ws) (wave x)) ≡ late_fate (declared_of x) (tree x)
+      (before (overwritten db (rows_on db w)) ws (wave x))
+  same_found db w x ws a f = elim (cases_lt (wave w) (wave x)) as (λ _. late_fate (declared_of x) (tree x) (before db (w ∷ ws) (wave x)) ≡ late_fate
+      (declared_of x) (tree x) (before (overwritten db (rows_on db w)) ws (wave x))) [
+        | inl low ↦ ap (late_fate (declared_of x) (tree x)) (behind db w ws (wave x) a low)
+        | inr high ↦
+            let m = before db ws (wave x) in
+            ap (late_fate (declared_of x) (tree x)) (ahead db w ws (wave x) high)
+            ∙ sym (late_agree o anti is_done (declared_of x) (tree x) (overwritten m (rows_on db w)) m
+            (agree_past m (rows_on db w) x (rows_past db w x (f high)))).0
+            ∙ ap (late_fate (declared_of x) (tree x))
+            (sym (shifted db (rows_on db w) ws (wave x) (λ k d below low. rows_past db w _ (a k d below (omega (arith, high, low))))))
+      ]
 
   before_none : (db : FinMap R V) (n : ℕ) → before db [] n ≡ db
   before_none db zero = refl
@@ -139,9 +159,14 @@ module _ {K V W A : Type 0} {R : K → K → Ordering} (o : IsTotalOrder R) (ant
       let step : late ≡ late_map is_done (declared_of w) (tree w) db = sym (late_map-is o anti is_done (declared_of w) (tree w) db) in
       let rest = in_waves late ws p.1 in record {
         fates = (λ i. (ap (late_fate (declared_of w) (tree w)) (ahead db w ws (wave w) (omega arith))
-            ∙ (late_agree o anti is_done (declared_of w) (tree w) (before db ws (wave w)) db (kept db w ws (wave w) (λ k d below low. p.0 k d below (omega (arith, low))))).0) i
-            ∷ (map_same (λ x. late_fate (declared_of x) (tree x) (before db (w ∷ ws) (wave x))) (λ x. late_fate (declared_of x) (tree x) (before late ws (wave x))) ws (λ k d below. same_found db w (slice_index_or ws k d) ws p.0 (p.0 k d below)) ∙ rest.fates ∙ ap (λ m. late_fates is_done declared_of tree m ws) step) i);
-        left = λ n a. behind db w ws n p.0 (All-head (λ w. wave w < n) w ws a) ∙ rest.left n (All-tail (λ w. wave w < n) w ws a) ∙ ap (λ m. late_left is_done declared_of tree m ws) step;
+            ∙ (late_agree o anti is_done (declared_of w) (tree w) (before db ws (wave w)) db
+            (kept db w ws (wave w) (λ k d below low. p.0 k d below (omega (arith, low))))).0) i
+            ∷ (map_same (λ x. late_fate (declared_of x) (tree x) (before db (w ∷ ws) (wave x)))
+            (λ x. late_fate (declared_of x) (tree x) (before late ws (wave x))) ws
+            (λ k d below. same_found db w (slice_index_or ws k d) ws p.0 (p.0 k d below)) ∙ rest.fates
+            ∙ ap (λ m. late_fates is_done declared_of tree m ws) step) i);
+        left = λ n a. behind db w ws n p.0 (All-head (λ w. wave w < n) w ws a) ∙ rest.left n (All-tail (λ w. wave w < n) w ws a)
+            ∙ ap (λ m. late_left is_done declared_of tree m ws) step;
       }
 
 -- conflicts, key by key
@@ -155,27 +180,30 @@ module _ {K : Type 0} {R : K → K → Ordering} (o : IsTotalOrder R) (anti : Is
 
   some_of : (test : K → Bool) (keys : List K) → list_any test keys ≡ true → (q : K) × (is_among R keys q ≡ true) × (test q ≡ true)
   some_of test [] e = cc
-  some_of test (k ∷ keys) e = elim (test k) as (λ b. test k ≡ b → (b || list_any test keys) ≡ true → (q : K) × (is_among R (k ∷ keys) q ≡ true) × (test q ≡ true)) [
-    | true ↦ λ t _. (k, or_left _ _ (ap is_eq (tied_itself o k)), t)
-    | false ↦ λ _ e. let rest = some_of test keys e in (rest.0, or_right _ _ rest.1, rest.2)
-  ] refl e
+  some_of test (k ∷ keys) e = elim (test k) as (λ b. test k ≡ b → (b || list_any test keys) ≡ true
+      → (q : K) × (is_among R (k ∷ keys) q ≡ true) × (test q ≡ true)) [
+        | true ↦ λ t _. (k, or_left _ _ (ap is_eq (tied_itself o k)), t)
+        | false ↦ λ _ e. let rest = some_of test keys e in (rest.0, or_right _ _ rest.1, rest.2)
+      ] refl e
 
   pub free_from : (a b : Declared K) → conflicts R a b ≡ false → IsFree R a b
   free_from a b e =
       let reads : list_any (may_write R a) b.reads ≡ false = false_from_ne_true _ (λ t. false≢true (sym e ∙ or_left _ _ t)) in
       let writes : list_any (may_read R a) b.writes ≡ false = false_from_ne_true _ (λ t. false≢true (sym e ∙ or_right _ _ t)) in record {
-        there = λ q among. false_from_ne_true _ (λ may. elim (is_among R b.reads q) as (λ r. is_among R b.reads q ≡ r → (r || is_among R b.writes q) ≡ true → ⊥) [
-          | true ↦ λ is _. false≢true (sym (none_of (may_write R a) b.reads q reads is) ∙ among)
-          | false ↦ λ _ is. false≢true (sym (none_of (may_read R a) b.writes q writes is) ∙ or_right _ _ among)
-        ] refl may);
+        there = λ q among. false_from_ne_true _ (λ may. elim (is_among R b.reads q) as (λ r. is_among R b.reads q ≡ r → (r || is_among R b.writes q) ≡ true
+            → ⊥) [
+              | true ↦ λ is _. false≢true (sym (none_of (may_write R a) b.reads q reads is) ∙ among)
+              | false ↦ λ _ is. false≢true (sym (none_of (may_read R a) b.writes q writes is) ∙ or_right _ _ among)
+            ] refl may);
         back = λ q among. none_of (may_read R a) b.writes q writes among;
       }
 
   none_turned : (a b : Declared K) → conflicts R a b ≡ false → conflicts R b a ≡ false
-  none_turned a b e = let f = free_from a b e in false_from_ne_true _ (λ c. elim (list_any (may_write R b) a.reads) as (λ l. list_any (may_write R b) a.reads ≡ l → (l || list_any (may_read R b) a.writes) ≡ true → ⊥) [
-    | true ↦ λ is _. let found = some_of (may_write R b) a.reads is in false≢true (sym (f.back found.0 found.2) ∙ or_left _ _ found.1)
-    | false ↦ λ _ is. let found = some_of (may_read R b) a.writes is in false≢true (sym (f.there found.0 found.1) ∙ found.2)
-  ] refl c)
+  none_turned a b e = let f = free_from a b e in false_from_ne_true _
+      (λ c. elim (list_any (may_write R b) a.reads) as (λ l. list_any (may_write R b) a.reads ≡ l → (l || list_any (may_read R b) a.writes) ≡ true → ⊥) [
+        | true ↦ λ is _. let found = some_of (may_write R b) a.reads is in false≢true (sym (f.back found.0 found.2) ∙ or_left _ _ found.1)
+        | false ↦ λ _ is. let found = some_of (may_read R b) a.writes is in false≢true (sym (f.there found.0 found.1) ∙ found.2)
+      ] refl c)
 
   pub conflicts_both_ways : (a b : Declared K) → ConflictsBothWays R a b
   conflicts_both_ways a b = elim (conflicts R a b) as (λ c. conflicts R a b ≡ c → c ≡ conflicts R b a) [
@@ -195,7 +223,12 @@ module _ {K W : Type 0} {R : K → K → Ordering} (o : IsTotalOrder R) (anti : 
   covered_more : (e x : Waved W) (es : List (Waved W)) → IsCovered es e → IsCovered (x ∷ es) e
   covered_more e x es h = record {
     above = λ w c. let low = h.above w c in
-        elim (conflicts R (declared_of x.item) (declared_of w)) as (λ b. e.wave < (if b then max (suc x.wave) (wave_behind R declared_of es w) else wave_behind R declared_of es w)) [ true ↦ omega (arith, low) | false ↦ low ];
+        elim (conflicts R (declared_of x.item) (declared_of w)) as (λ b.
+        e.wave < (if b then max (suc x.wave) (wave_behind R declared_of es w) else wave_behind R declared_of es w)) [
+          | true ↦ omega (arith, low)
+          | false ↦
+              low
+        ];
   }
 
   later_above : (e : Waved W) (earlier : List (Waved W)) (ws : List W) → IsCovered earlier e
@@ -203,20 +236,25 @@ module _ {K W : Type 0} {R : K → K → Ordering} (o : IsTotalOrder R) (anti : 
   later_above e earlier [] h = All-nil (λ x. conflicts R (declared_of e.item) (declared_of x.item) ≡ true → e.wave < x.wave)
   later_above e earlier (w ∷ ws) h =
       let x : Waved W = record { wave = wave_behind R declared_of earlier w; item = w } in
-      All-cons (λ x. conflicts R (declared_of e.item) (declared_of x.item) ≡ true → e.wave < x.wave) x _ (h.above w) (later_above e (x ∷ earlier) ws (covered_more e x earlier h))
+      All-cons (λ x. conflicts R (declared_of e.item) (declared_of x.item) ≡ true → e.wave < x.wave) x _ (h.above w)
+      (later_above e (x ∷ earlier) ws (covered_more e x earlier h))
 
   pub waved-is : (earlier : List (Waved W)) (ws : List W)
       → Pairs (λ (a b : Waved W). b.wave ≤ a.wave → IsFree R (declared_of a.item) (declared_of b.item)) (waved R declared_of earlier ws)
   waved-is earlier [] = tt
   waved-is earlier (w ∷ ws) =
-      let x : Waved W = record { wave = wave_behind R declared_of earlier w; item = w } in
-      (λ k d below low. free_from o anti _ _ (false_from_ne_true _ (λ c. let above = later_above x (x ∷ earlier) ws (covered_first x earlier) k d below c in absurd (omega (arith, low, above)))), waved-is (x ∷ earlier) ws)
+      let x : Waved W = record { wave = wave_behind R declared_of earlier w; item = w } in (
+        λ k d below low. free_from o anti _ _ (false_from_ne_true _ (λ c. let above = later_above x (x ∷ earlier) ws (covered_first x earlier) k d below c in
+            absurd (omega (arith, low, above)))),
+        waved-is (x ∷ earlier) ws,
+      )
 
   pub items-waved : (earlier : List (Waved W)) (ws : List W) → map (λ e. e.item) (waved R declared_of earlier ws) ≡ ws
   items-waved earlier [] = refl
   items-waved earlier (w ∷ ws) = ap (λ rest. w ∷ rest) (items-waved (record { wave = wave_behind R declared_of earlier w; item = w } ∷ earlier) ws)
 
-module _ {K V W A : Type 0} {R : K → K → Ordering} (o : IsTotalOrder R) (anti : IsAntisymmetric R) (is_done : A → Bool) (declared_of : W → Declared K) (tree : W → Tree K V A) where
+module _ {K V W A : Type 0} {R : K → K → Ordering} (o : IsTotalOrder R) (anti : IsAntisymmetric R) (is_done : A → Bool) (declared_of : W → Declared K)
+    (tree : W → Tree K V A) where
   pub waves_law : (db : FinMap R V) (ws : List W) → IsInWaves is_done declared_of tree db ws
   waves_law db ws =
       let es = waved R declared_of [] ws in

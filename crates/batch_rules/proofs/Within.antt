@@ -20,24 +20,31 @@ module _ {K V : Type 0} {R : K → K → Ordering} (o : IsTotalOrder R) (anti : 
       → ((q : K) → is_among R (keys_of n.writes) q ≡ true → may_write R declared q ≡ true)
       → (q : K) → is_among R (keys_of (all_noted R n visits).writes) q ≡ true → may_write R declared q ≡ true
   written [] n inside h q e = h q e
-  written (Read k ∷ visits) n inside h q e = elim (may_read R declared k) as (λ b. (if b then outside R declared visits else Some k) ≡ None → may_write R declared q ≡ true) [
-    | true ↦ λ inside. written visits (noted R n (Read k)) inside h q e
-    | false ↦ λ inside. cc
-  ] inside
-  written (Write k row ∷ visits) n inside h q e = elim (may_write R declared k) as (λ b. may_write R declared k ≡ b → (if b then outside R declared visits else Some k) ≡ None → may_write R declared q ≡ true) [
-    | true ↦ λ may inside. written visits (noted R n (Write k row)) inside (λ p among. elim (eq_by_cmp R p k) as (λ b. eq_by_cmp R p k ≡ b → (b || is_among R (keys_of n.writes) p) ≡ true → may_write R declared p ≡ true) [
-      | true ↦ λ same _. ap (may_write R declared) (same_key anti p k same) ∙ may
-      | false ↦ λ other before. h p before
-    ] refl (sym (is_among-with_write o anti n.writes k row p) ∙ among)) q e
-    | false ↦ λ _ inside. cc
-  ] refl inside
+  written (Read k ∷ visits) n inside h q e = elim (may_read R declared k) as (λ b. (if b then outside R declared visits else Some k) ≡ None
+      → may_write R declared q ≡ true) [
+        | true ↦ λ inside. written visits (noted R n (Read k)) inside h q e
+        | false ↦ λ inside. cc
+      ] inside
+  written (Write k row ∷ visits) n inside h q e = elim (may_write R declared k) as (λ b. may_write R declared k ≡ b
+      → (if b then outside R declared visits else Some k) ≡ None → may_write R declared q ≡ true) [
+        | true ↦ λ may inside. written visits (noted R n (Write k row)) inside
+            (λ p among. elim (eq_by_cmp R p k) as (λ b. eq_by_cmp R p k ≡ b → (b || is_among R (keys_of n.writes) p) ≡ true → may_write R declared p ≡ true) [
+              | true ↦ λ same _. ap (may_write R declared) (same_key anti p k same) ∙ may
+              | false ↦ λ other before. h p before
+            ] refl (sym (is_among-with_write o anti n.writes k row p) ∙ among)) q e
+        | false ↦ λ _ inside. cc
+      ] refl inside
 
-module _ {K V A : Type 0} {R : K → K → Ordering} (o : IsTotalOrder R) (anti : IsAntisymmetric R) (is_done : A → Bool) (declared : Declared K) (t : Tree K V A) where
-  written_keys : (db : FinMap R V) → outside R declared (trace_of t db) ≡ None → (q : K) → is_among R (keys_of (writes_of is_done t db)) q ≡ true → may_write R declared q ≡ true
-  written_keys db inside q = elim (is_done (end_of t db)) as (λ b. is_among R (keys_of (if b then (all_noted R nothing (trace_of t db)).writes else [])) q ≡ true → may_write R declared q ≡ true) [
-    | true ↦ written o anti declared (trace_of t db) nothing inside (λ q e. cc) q
-    | false ↦ λ e. cc
-  ]
+module _ {K V A : Type 0} {R : K → K → Ordering} (o : IsTotalOrder R) (anti : IsAntisymmetric R) (is_done : A → Bool) (declared : Declared K)
+    (t : Tree K V A) where
+  written_keys : (db : FinMap R V) → outside R declared (trace_of t db) ≡ None → (q : K) → is_among R (keys_of (writes_of is_done t db)) q ≡ true
+      → may_write R declared q ≡ true
+  written_keys db inside q =
+      elim (is_done (end_of t db)) as (λ b. is_among R (keys_of (if b then (all_noted R nothing (trace_of t db)).writes else [])) q ≡ true
+      → may_write R declared q ≡ true) [
+        | true ↦ written o anti declared (trace_of t db) nothing inside (λ q e. cc) q
+        | false ↦ λ e. cc
+      ]
 
   pub confined : (db : FinMap R V) → Confined is_done t declared db
   confined db inside = record {
@@ -47,10 +54,11 @@ module _ {K V A : Type 0} {R : K → K → Ordering} (o : IsTotalOrder R) (anti 
   }
 
   pub late_map-is : (db : FinMap R V) → late_map is_done declared t db ≡ overwritten db (late_rows is_done declared t db)
-  late_map-is db = elim (has_ended (late_fate declared t db)) as (λ b. (if b then map_after is_done t db else db) ≡ overwritten db (if b then writes_of is_done t db else [])) [
-    | true ↦ map_after-is o anti is_done t db
-    | false ↦ refl
-  ]
+  late_map-is db = elim (has_ended (late_fate declared t db)) as (λ b. (if b then map_after is_done t db else db) ≡ overwritten db
+      (if b then writes_of is_done t db else [])) [
+        | true ↦ map_after-is o anti is_done t db
+        | false ↦ refl
+      ]
 
   pub late_keys : (db : FinMap R V) (q : K) → is_among R (keys_of (late_rows is_done declared t db)) q ≡ true → may_write R declared q ≡ true
   late_keys db q e = elim (outside R declared (trace_of t db)) as (λ s. outside R declared (trace_of t db) ≡ s
@@ -64,7 +72,8 @@ module _ {K V A : Type 0} {R : K → K → Ordering} (o : IsTotalOrder R) (anti 
       → (late_fate declared t x ≡ late_fate declared t y) × (late_rows is_done declared t x ≡ late_rows is_done declared t y)
   late_agree x y h =
       let Goal = λ (s : Option K). (fate_by s (end_of t x) ≡ fate_by s (end_of t y))
-      × ((if has_ended {K = K} (fate_by s (end_of t x)) then writes_of is_done t x else []) ≡ (if has_ended {K = K} (fate_by s (end_of t y)) then writes_of is_done t y else [])) in
+      × ((if has_ended {K = K} (fate_by s (end_of t x)) then writes_of is_done t x else []) ≡ (if has_ended {K = K}
+      (fate_by s (end_of t y)) then writes_of is_done t y else [])) in
       let all : Goal (outside R declared (trace_of t x)) = elim (outside R declared (trace_of t x)) as (λ s. outside R declared (trace_of t x) ≡ s → Goal s) [
         | None ↦ λ inside. let run = outside-is o anti is_done t declared x y inside h in (ap (fate_by None) run.0.end, run.0.writes)
         | Some k ↦ λ _. (refl, refl)

@@ -38,24 +38,29 @@ module _ {K V A O : Type 0} {R : K → K → Ordering} (o : IsTotalOrder R) (ant
   one_writer list = AllPairs-from_pairs apart _ (Pairs-weaker clean apart clean_apart _ (all_clean (touching by R) rule [] list))
 
   kept_at : (k : K) (db : FinMap R V) (ds : List (Judged O)) → All (untouched k) ds → fin.get (after_commit by db ds) k ≡ fin.get db k
-  kept_at k db ds a = installed_apart o anti rows db k (finishing ds) (All-filtered (λ d. finishes d.verdict) (λ d. is_among R (written by d.request) k ≡ false) ds a)
+  kept_at k db ds a = installed_apart o anti rows db k (finishing ds)
+      (All-filtered (λ d. finishes d.verdict) (λ d. is_among R (written by d.request) k ≡ false) ds a)
 
-  written_at : (k : K) (db : FinMap R V) (ds : List (Judged O)) → Pairs clean ds → (d : Judged O) (row : Option V) (i : ℕ) → i < length ds → slice_index_or ds i d ≡ d → finishes d.verdict ≡ true → find R k (by.rows d.request) ≡ Some row
+  written_at : (k : K) (db : FinMap R V) (ds : List (Judged O)) → Pairs clean ds → (d : Judged O) (row : Option V) (i : ℕ) → i < length ds
+      → slice_index_or ds i d ≡ d → finishes d.verdict ≡ true → find R k (by.rows d.request) ≡ Some row
       → fin.get (after_commit by db ds) k ≡ row
   written_at k db [] p d row i below same f e = absurd (omega arith)
   written_at k db (x ∷ xs) p d row zero below same f e =
       let done : finishes x.verdict ≡ true = ap (λ (x : Judged O). finishes x.verdict) same ∙ f in
       let found : find R k (rows x) ≡ Some row = ap (λ (x : Judged O). find R k (rows x)) same ∙ e in
       ap (λ b. fin.get (installed rows db (cond b (x ∷ finishing xs) (finishing xs))) k) done
-      ∙ kept_at k (overwritten db (rows x)) xs (λ j e below f. apart_at o anti (written by x.request) (written by (slice_index_or xs j e).request) k (clean_apart x (slice_index_or xs j e) (p.0 j e below) done f) (found_among R (rows x) k row found))
+      ∙ kept_at k (overwritten db (rows x)) xs (λ j e below f. apart_at o anti (written by x.request) (written by (slice_index_or xs j e).request) k
+      (clean_apart x (slice_index_or xs j e) (p.0 j e below) done f) (found_among R (rows x) k row found))
       ∙ get-overwritten o db (rows x) k ∙ ap (λ f. unwrap_or f (fin.get db k)) found
-  written_at k db (x ∷ xs) p d row (suc i) below same f e = elim (finishes x.verdict) as (λ b. fin.get (installed rows db (cond b (x ∷ finishing xs) (finishing xs))) k ≡ row) [
-    | true ↦ written_at k (overwritten db (rows x)) xs p.1 d row i (omega arith) same f e
-    | false ↦ written_at k db xs p.1 d row i (omega arith) same f e
-  ]
+  written_at k db (x ∷ xs) p d row (suc i) below same f e =
+      elim (finishes x.verdict) as (λ b. fin.get (installed rows db (cond b (x ∷ finishing xs) (finishing xs))) k ≡ row) [
+        | true ↦ written_at k (overwritten db (rows x)) xs p.1 d row i (omega arith) same f e
+        | false ↦ written_at k db xs p.1 d row i (omega arith) same f e
+      ]
 
   pub after_commit_at : (start : FinMap R V) (list : List O) (k : K) → AfterCommit by start (judged (touching by R) rule [] list) k
   after_commit_at start list k = record {
-    by_writer = λ d row within f e. written_at k start (judged (touching by R) rule [] list) (all_clean (touching by R) rule [] list) d row within.0 within.1 within.2 f e;
+    by_writer = λ d row within f e. written_at k start (judged (touching by R) rule [] list) (all_clean (touching by R) rule [] list) d row within.0 within.1
+        within.2 f e;
     kept = λ a. kept_at k start (judged (touching by R) rule [] list) a;
   }

@@ -60,15 +60,18 @@ items_bounded low high d ds h =
       tested es false e h = absurd (cc h)
 
 module _ {A : Type 0} (named : List ℕ → Option A) (fits : A → Bool) (all_fit : (s : List ℕ) (x : A) → named s ≡ Some x → fits x ≡ true) where
-  named_fit : (path : List PathPart) (at : ℕ) (done : List A) (ds : Items) (xs : List A) → list_all fits done ≡ true → named_after named path at done ds ≡ Ok xs → (list_all fits xs ≡ true) × (length xs ≡ length done + items_len ds)
-  named_fit path at done no_items xs h e = let same : done ≡ xs = cc e in subst (λ xs. (list_all fits xs ≡ true) × (length xs ≡ length done + 0)) same (h, omega arith)
+  named_fit : (path : List PathPart) (at : ℕ) (done : List A) (ds : Items) (xs : List A) → list_all fits done ≡ true
+      → named_after named path at done ds ≡ Ok xs → (list_all fits xs ≡ true) × (length xs ≡ length done + items_len ds)
+  named_fit path at done no_items xs h e = let same : done ≡ xs = cc e in
+      subst (λ xs. (list_all fits xs ≡ true) × (length xs ≡ length done + 0)) same (h, omega arith)
   named_fit path at done (item d ds) xs h e =
       let b = bind_ok (at_path (in_item path at) (option_and_then named (as_str d))) _ xs e in
       let s = chained_ok named (as_str d) b.0 (at_path_ok (in_item path at) _ b.0 b.1) in
       let rest = named_fit path (at + 1) (done ++ b.0 ∷ []) ds xs (rw (list_all-append fits done (b.0 ∷ []), h, all_fit s.0 b.0 s.2)) b.2 in
       (rest.0, omega (arith, rest.1, length-append done (b.0 ∷ [])))
 
-  pub named_ok : (path : List PathPart) (low high : ℕ) (d : Data) (xs : List A) → named_at named path low high d ≡ Ok xs → (list_all fits xs ≡ true) × (is_between low high (length xs) ≡ true)
+  pub named_ok : (path : List PathPart) (low high : ℕ) (d : Data) (xs : List A) → named_at named path low high d ≡ Ok xs
+      → (list_all fits xs ≡ true) × (is_between low high (length xs) ≡ true)
   named_ok path low high d xs h =
       let ds = bind_ok (at_path path (items_between low high d)) _ xs h in
       let b = items_bounded low high d ds.0 (at_path_ok path _ ds.0 ds.1) in
@@ -76,13 +79,15 @@ module _ {A : Type 0} (named : List ℕ → Option A) (fits : A → Bool) (all_f
       let len : length xs ≡ items_len ds.0 = omega (arith, n.1) in
       (n.0, rw len b)
 
-kinds_ok : (path : List PathPart) (low high : ℕ) (d : Data) (ks : List Kind) → named_at kind_named path low high d ≡ Ok ks → is_between low high (length ks) ≡ true
+kinds_ok : (path : List PathPart) (low high : ℕ) (d : Data) (ks : List Kind) → named_at kind_named path low high d ≡ Ok ks
+    → is_between low high (length ks) ≡ true
 kinds_ok path low high d ks h = (named_ok kind_named (λ _. true) (λ s x e. refl) path low high d ks h).1
 
 find_passes : {A : Type 0} (p q : A → Bool) (xs : List A) (x : A) → list_all q xs ≡ true → find p xs ≡ Some x → q x ≡ true
 find_passes p q [] x h e = absurd (cc e)
 find_passes p q (y ∷ ys) x h e = tested (p y) (q y) refl h e (find_passes p q ys x) where
-  tested : (b c : Bool) → q y ≡ c → (c && list_all q ys) ≡ true → cond b (Some y) (find p ys) ≡ Some x → (list_all q ys ≡ true → find p ys ≡ Some x → q x ≡ true) → q x ≡ true
+  tested : (b c : Bool) → q y ≡ c → (c && list_all q ys) ≡ true → cond b (Some y) (find p ys) ≡ Some x
+      → (list_all q ys ≡ true → find p ys ≡ Some x → q x ≡ true) → q x ≡ true
   tested true true f h e rest = let same : y ≡ x = cc e in rw (← same) f
   tested false true f h e rest = rest h e
   tested b false f h e rest = absurd (cc h)
@@ -93,24 +98,30 @@ arg_kind_ok s k h = find_passes (λ k. bytes_eq (arg_kind_name k) s) arg_kind_fi
 -- ---- names of their own
 
 -- a name that none of them has may stand behind them
-list_any-last : (name : List ℕ) (names : List (List ℕ)) (new : List ℕ) → list_any (bytes_eq name) names ≡ false → bytes_eq new name ≡ false → list_any (bytes_eq name) (names ++ new ∷ []) ≡ false
+list_any-last : (name : List ℕ) (names : List (List ℕ)) (new : List ℕ) → list_any (bytes_eq name) names ≡ false → bytes_eq new name ≡ false
+    → list_any (bytes_eq name) (names ++ new ∷ []) ≡ false
 list_any-last name [] new h e = rw (bytes_eq-sym name new, e)
 list_any-last name (n ∷ names) new h e = tested (bytes_eq name n) refl h (λ h. list_any-last name names new h e) where
-  tested : (b : Bool) → bytes_eq name n ≡ b → (b || list_any (bytes_eq name) names) ≡ false → (list_any (bytes_eq name) names ≡ false → list_any (bytes_eq name) (names ++ new ∷ []) ≡ false) → (bytes_eq name n || list_any (bytes_eq name) (names ++ new ∷ [])) ≡ false
+  tested : (b : Bool) → bytes_eq name n ≡ b → (b || list_any (bytes_eq name) names) ≡ false
+      → (list_any (bytes_eq name) names ≡ false → list_any (bytes_eq name) (names ++ new ∷ []) ≡ false)
+      → (bytes_eq name n || list_any (bytes_eq name) (names ++ new ∷ [])) ≡ false
   tested true f h rest = absurd (cc h)
   tested false f h rest = rw f (rest h)
 
 distinct-last : (names : List (List ℕ)) (new : List ℕ) → distinct names ≡ true → list_any (bytes_eq new) names ≡ false → distinct (names ++ new ∷ []) ≡ true
 distinct-last [] new h e = refl
 distinct-last (n ∷ names) new h e = tested (list_any (bytes_eq n) names) (bytes_eq new n) refl refl h e (distinct-last names new) where
-  tested : (a b : Bool) → list_any (bytes_eq n) names ≡ a → bytes_eq new n ≡ b → (not a && distinct names) ≡ true → (b || list_any (bytes_eq new) names) ≡ false → (distinct names ≡ true → list_any (bytes_eq new) names ≡ false → distinct (names ++ new ∷ []) ≡ true) → (not (list_any (bytes_eq n) (names ++ new ∷ [])) && distinct (names ++ new ∷ [])) ≡ true
+  tested : (a b : Bool) → list_any (bytes_eq n) names ≡ a → bytes_eq new n ≡ b → (not a && distinct names) ≡ true
+      → (b || list_any (bytes_eq new) names) ≡ false → (distinct names ≡ true → list_any (bytes_eq new) names ≡ false → distinct (names ++ new ∷ []) ≡ true)
+      → (not (list_any (bytes_eq n) (names ++ new ∷ [])) && distinct (names ++ new ∷ [])) ≡ true
   tested false false f g h e rest = rw (list_any-last n names new f g, rest h e)
   tested true b f g h e rest = absurd (cc h)
   tested false true f g h e rest = absurd (cc e)
 
 -- ---- tables
 
-table_ok : (path : List PathPart) (earlier : List (List ℕ)) (d : Data) (t : Table) → table_at path earlier d ≡ Ok t → (table_fits t ≡ true) × (list_any (bytes_eq t.name) earlier ≡ false)
+table_ok : (path : List PathPart) (earlier : List (List ℕ)) (d : Data) (t : Table) → table_at path earlier d ≡ Ok t
+    → (table_fits t ≡ true) × (list_any (bytes_eq t.name) earlier ≡ false)
 table_ok path earlier d t h =
     let ms = bind_ok (at_path path (three_members Name Key Cols d)) _ t h in
     let name = bind_ok (name_at (in_member path Name) earlier ms.0.0) _ t ms.2 in
@@ -127,20 +138,26 @@ pub record AreTables (ts : List Table) : Type 0 where
   pub fit : list_all table_fits ts ≡ true
   pub names : distinct (map (λ t. t.name) ts) ≡ true
 
-tables_ok : (path : List PathPart) (at : ℕ) (done : List Table) (ds : Items) (ts : List Table) → AreTables done → tables_after path at done ds ≡ Ok ts → AreTables ts × (length ts ≡ length done + items_len ds)
+tables_ok : (path : List PathPart) (at : ℕ) (done : List Table) (ds : Items) (ts : List Table) → AreTables done → tables_after path at done ds ≡ Ok ts
+    → AreTables ts × (length ts ≡ length done + items_len ds)
 tables_ok path at done no_items ts a h =
     let same : done ≡ ts = cc h in
     subst (λ (ts : List Table). AreTables ts × (length ts ≡ length done + 0)) same (a, omega arith)
 tables_ok path at done (item d ds) ts a h =
     let b = bind_ok (table_at (in_item path at) (map (λ t. t.name) done) d) _ ts h in
     let t = table_ok (in_item path at) (map (λ t. t.name) done) d b.0 b.1 in
-    let more : AreTables (done ++ b.0 ∷ []) = record { fit = rw (list_all-append table_fits done (b.0 ∷ []), a.fit, t.0); names = rw (map-append (λ (t : Table). t.name) done (b.0 ∷ [])) (distinct-last (map (λ (t : Table). t.name) done) b.0.name a.names t.1) } in
+    let more : AreTables (done ++ b.0 ∷ []) = record {
+      fit = rw (list_all-append table_fits done (b.0 ∷ []), a.fit, t.0);
+      names =
+          rw (map-append (λ (t : Table). t.name) done (b.0 ∷ [])) (distinct-last (map (λ (t : Table). t.name) done) b.0.name a.names t.1);
+    } in
     let rest = tables_ok path (at + 1) (done ++ b.0 ∷ []) ds ts more b.2 in
     (rest.0, omega (arith, rest.1, length-append done (b.0 ∷ [])))
 
 -- ---- procedures
 
-proc_ok : (tables : List Table) (path : List PathPart) (earlier : List (List ℕ)) (d : Data) (p : Proc) → proc_at tables path earlier d ≡ Ok p → (proc_fits p ≡ true) × (list_any (bytes_eq p.name) earlier ≡ false)
+proc_ok : (tables : List Table) (path : List PathPart) (earlier : List (List ℕ)) (d : Data) (p : Proc) → proc_at tables path earlier d ≡ Ok p
+    → (proc_fits p ≡ true) × (list_any (bytes_eq p.name) earlier ≡ false)
 proc_ok tables path earlier d p h =
     let ms = bind_ok (at_path path (four_members Name Args Regs Body d)) _ p h in
     let name = bind_ok (name_at (in_member path Name) earlier ms.0.0) _ p ms.2 in
@@ -161,14 +178,19 @@ pub record AreProcs (ps : List Proc) : Type 0 where
   pub fit : list_all proc_fits ps ≡ true
   pub names : distinct (map (λ p. p.name) ps) ≡ true
 
-procs_ok : (tables : List Table) (path : List PathPart) (at : ℕ) (done : List Proc) (ds : Items) (ps : List Proc) → AreProcs done → procs_after tables path at done ds ≡ Ok ps → AreProcs ps × (length ps ≡ length done + items_len ds)
+procs_ok : (tables : List Table) (path : List PathPart) (at : ℕ) (done : List Proc) (ds : Items) (ps : List Proc) → AreProcs done
+    → procs_after tables path at done ds ≡ Ok ps → AreProcs ps × (length ps ≡ length done + items_len ds)
 procs_ok tables path at done no_items ps a h =
     let same : done ≡ ps = cc h in
     subst (λ (ps : List Proc). AreProcs ps × (length ps ≡ length done + 0)) same (a, omega arith)
 procs_ok tables path at done (item d ds) ps a h =
     let b = bind_ok (proc_at tables (in_item path at) (map (λ p. p.name) done) d) _ ps h in
     let t = proc_ok tables (in_item path at) (map (λ p. p.name) done) d b.0 b.1 in
-    let more : AreProcs (done ++ b.0 ∷ []) = record { fit = rw (list_all-append proc_fits done (b.0 ∷ []), a.fit, t.0); names = rw (map-append (λ (p : Proc). p.name) done (b.0 ∷ [])) (distinct-last (map (λ (p : Proc). p.name) done) b.0.name a.names t.1) } in
+    let more : AreProcs (done ++ b.0 ∷ []) = record {
+      fit = rw (list_all-append proc_fits done (b.0 ∷ []), a.fit, t.0);
+      names =
+          rw (map-append (λ (p : Proc). p.name) done (b.0 ∷ [])) (distinct-last (map (λ (p : Proc). p.name) done) b.0.name a.names t.1);
+    } in
     let rest = procs_ok tables path (at + 1) (done ++ b.0 ∷ []) ds ps more b.2 in
     (rest.0, omega (arith, rest.1, length-append done (b.0 ∷ [])))
 

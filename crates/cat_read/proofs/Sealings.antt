@@ -15,7 +15,8 @@ wrong_or-typed : (number : ℕ) (typed : Result Reached Flaw) (others : Option W
 wrong_or-typed number (Ok reached) others h = refl
 wrong_or-typed number (Err flaw) others h = absurd (search (rules, h))
 
-pub wrong_from-typed : (tables : List Table) (number : ℕ) (p : Proc) (ps : List Proc) → IsWellTyped tables p → wrong_from tables number (p ∷ ps) ≡ wrong_from tables (number + 1) ps
+pub wrong_from-typed : (tables : List Table) (number : ℕ) (p : Proc) (ps : List Proc) → IsWellTyped tables p
+    → wrong_from tables number (p ∷ ps) ≡ wrong_from tables (number + 1) ps
 wrong_from-typed tables number p ps h = wrong_or-typed number (typed_proc tables p) (wrong_from tables (number + 1) ps) h
 
 pub rest_fit : (p : Proc) (ps : List Proc) → list_all proc_fits (p ∷ ps) ≡ true → list_all proc_fits ps ≡ true

@@ -50,7 +50,8 @@ row_ok tables path t ks row h =
     let e : ◌≡◌ {A = ℕ × List Term} (n.0, k.0) row = cc k.2 in
     subst (λ (r : ℕ × List Term). list_all term_fits r.1 ≡ true) e (terms_ok path 2 ks k.0 k.1)
 
-read_ok : (tables : List Table) (path : List PathPart) (t ks rs : Data) (read : (ℕ × List Term) × List ℕ) → read_at tables path t ks rs ≡ Ok read → list_all term_fits read.0.1 ≡ true
+read_ok : (tables : List Table) (path : List PathPart) (t ks rs : Data) (read : (ℕ × List Term) × List ℕ) → read_at tables path t ks rs ≡ Ok read
+    → list_all term_fits read.0.1 ≡ true
 read_ok tables path t ks rs read h =
     let row = bind_ok (row_at tables path t ks) _ read h in
     let regs = bind_ok (at_path path (indexes rs)) _ read row.2 in
@@ -74,13 +75,15 @@ pub record CountedAll (seen : ℕ) (done b : Steps) (n : ℕ) : Type 0 where
 counted : (seen n m : ℕ) (s t : Step) → ◌≡◌ {A = Step × ℕ} (s, n) (t, m) → Counted seen s n → Counted seen t m
 counted seen n m s t e h = subst (λ (p : Step × ℕ). Counted seen p.0 p.1) e h
 
-flat : (seen n : ℕ) (s t : Step) → ◌≡◌ {A = Result (Step × ℕ) (List PathPart)} (Ok (s, seen)) (Ok (t, n)) → seen ≤ MOST_STATEMENTS → step_count s ≡ 1 → step_fits s ≡ true → Counted seen t n
+flat : (seen n : ℕ) (s t : Step) → ◌≡◌ {A = Result (Step × ℕ) (List PathPart)} (Ok (s, seen)) (Ok (t, n)) → seen ≤ MOST_STATEMENTS → step_count s ≡ 1
+    → step_fits s ≡ true → Counted seen t n
 flat seen n s t e few one fits =
     let p : ◌≡◌ {A = Step × ℕ} (s, seen) (t, n) = cc e in
     counted seen seen n s t p (record { fits = fits; count = omega (arith, one); few = few })
 
 mutual
-  step_counted : (tables : List Table) (body path : List PathPart) (seen : ℕ) (d : Data) (s : Step) (n : ℕ) → seen ≤ MOST_STATEMENTS → step_at tables body path seen d ≡ Ok (s, n) → Counted seen s n
+  step_counted : (tables : List Table) (body path : List PathPart) (seen : ℕ) (d : Data) (s : Step) (n : ℕ) → seen ≤ MOST_STATEMENTS
+      → step_at tables body path seen d ≡ Ok (s, n) → Counted seen s n
   step_counted tables body path seen null s n few h = absurd (cc h)
   step_counted tables body path seen (boolean b) s n few h = absurd (cc h)
   step_counted tables body path seen (number m) s n few h = absurd (cc h)
@@ -88,11 +91,14 @@ mutual
   step_counted tables body path seen (array ds) s n few h = statement_counted tables body path seen ds s n few h
   step_counted tables body path seen (object ms) s n few h = absurd (cc h)
 
-  statement_counted : (tables : List Table) (body path : List PathPart) (seen : ℕ) (ds : Items) (s : Step) (n : ℕ) → seen ≤ MOST_STATEMENTS → statement_at tables body path seen ds ≡ Ok (s, n) → Counted seen s n
+  statement_counted : (tables : List Table) (body path : List PathPart) (seen : ℕ) (ds : Items) (s : Step) (n : ℕ) → seen ≤ MOST_STATEMENTS
+      → statement_at tables body path seen ds ≡ Ok (s, n) → Counted seen s n
   statement_counted tables body path seen no_items s n few h = absurd (cc h)
-  statement_counted tables body path seen (item name operands) s n few h = verb_counted tables body path seen (option_and_then verb_named (as_str name)) operands s n few h
+  statement_counted tables body path seen (item name operands) s n few h =
+      verb_counted tables body path seen (option_and_then verb_named (as_str name)) operands s n few h
 
-  verb_counted : (tables : List Table) (body path : List PathPart) (seen : ℕ) (v : Option Verb) (ds : Items) (s : Step) (n : ℕ) → seen ≤ MOST_STATEMENTS → verb_at tables body path seen v ds ≡ Ok (s, n) → Counted seen s n
+  verb_counted : (tables : List Table) (body path : List PathPart) (seen : ℕ) (v : Option Verb) (ds : Items) (s : Step) (n : ℕ) → seen ≤ MOST_STATEMENTS
+      → verb_at tables body path seen v ds ≡ Ok (s, n) → Counted seen s n
   verb_counted tables body path seen (Some verb.Let) (item r (item e no_items)) s n few h =
       let a = bind_ok (at_path path (index r)) _ (s, n) h in
       let t = bind_ok (term_at (in_item path 2) 1 e) _ (s, n) a.2 in
@@ -103,7 +109,8 @@ mutual
   verb_counted tables body path seen (Some verb.Need) (item t (item ks (item rs (item c no_items)))) s n few h =
       let a = bind_ok (read_at tables path t ks rs) _ (s, n) h in
       let f = bind_ok (at_path path (code c)) _ (s, n) a.2 in
-      flat seen n (Read (Fails f.0) a.0.0.0 a.0.0.1 a.0.1) s f.2 few refl (rw (read_ok tables path t ks rs a.0 a.1, code_ok c f.0 (at_path_ok path (code c) f.0 f.1)))
+      flat seen n (Read (Fails f.0) a.0.0.0 a.0.0.1 a.0.1) s f.2 few refl
+      (rw (read_ok tables path t ks rs a.0 a.1, code_ok c f.0 (at_path_ok path (code c) f.0 f.1)))
   verb_counted tables body path seen (Some verb.Find) (item t (item ks (item rs (item f no_items)))) s n few h =
       let a = bind_ok (read_at tables path t ks rs) _ (s, n) h in
       let g = bind_ok (at_path path (index f)) _ (s, n) a.2 in
@@ -141,7 +148,8 @@ mutual
       flat seen n (Fail f.0) s f.2 few refl (code_ok c f.0 (at_path_ok path (code c) f.0 f.1))
   verb_counted tables body path seen other operands s n few h = absurd (cc h)
 
-  block_counted : (tables : List Table) (body path : List PathPart) (at seen : ℕ) (d : Data) (b : Steps) (n : ℕ) → seen ≤ MOST_STATEMENTS → block_at tables body path at seen d ≡ Ok (b, n) → CountedAll seen NoMore b n
+  block_counted : (tables : List Table) (body path : List PathPart) (at seen : ℕ) (d : Data) (b : Steps) (n : ℕ) → seen ≤ MOST_STATEMENTS
+      → block_at tables body path at seen d ≡ Ok (b, n) → CountedAll seen NoMore b n
   block_counted tables body path at seen null b n few h = absurd (cc h)
   block_counted tables body path at seen (boolean x) b n few h = absurd (cc h)
   block_counted tables body path at seen (number m) b n few h = absurd (cc h)
@@ -149,7 +157,8 @@ mutual
   block_counted tables body path at seen (array ds) b n few h = steps_counted tables body (in_item path at) 0 seen [] ds b n few refl h
   block_counted tables body path at seen (object ms) b n few h = absurd (cc h)
 
-  steps_counted : (tables : List Table) (body path : List PathPart) (at seen : ℕ) (done : List Step) (ds : Items) (b : Steps) (n : ℕ) → seen ≤ MOST_STATEMENTS → steps_fit (in_turn done) ≡ true → steps_after tables body path at seen done ds ≡ Ok (b, n) → CountedAll seen (in_turn done) b n
+  steps_counted : (tables : List Table) (body path : List PathPart) (at seen : ℕ) (done : List Step) (ds : Items) (b : Steps) (n : ℕ) → seen ≤ MOST_STATEMENTS
+      → steps_fit (in_turn done) ≡ true → steps_after tables body path at seen done ds ≡ Ok (b, n) → CountedAll seen (in_turn done) b n
   steps_counted tables body path at seen done no_items b n few fits h =
       let p : ◌≡◌ {A = Steps × ℕ} (in_turn done, seen) (b, n) = cc h in
       subst (λ (p : Steps × ℕ). CountedAll seen (in_turn done) p.0 p.1) p (record { fits = fits; count = omega arith; few = few })
@@ -162,7 +171,8 @@ mutual
 
 -- ---- bodies
 
-pub body_fits : (tables : List Table) (path : List PathPart) (d : Data) (b : Steps) → body_at tables path d ≡ Ok b → (steps_fit b ≡ true) × (steps_count b ≤ MOST_STATEMENTS)
+pub body_fits : (tables : List Table) (path : List PathPart) (d : Data) (b : Steps) → body_at tables path d ≡ Ok b
+    → (steps_fit b ≡ true) × (steps_count b ≤ MOST_STATEMENTS)
 body_fits tables path d b h =
     let a = bind_ok (at_path path (as_array d)) _ b h in
     let c = bind_ok (steps_after tables path path 0 0 [] a.0) _ b a.2 in

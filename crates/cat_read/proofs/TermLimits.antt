@@ -33,7 +33,8 @@ number_bounds low high d n h =
     (grind (arith, common_steps, k.1), grind (arith, common_steps, k.1))
 
 -- of two operands, where it is so of each
-both_within : (level : ℕ) (x y : Shaped Term) (a b : Term) → ((t : Term) → x ≡ Ok t → Within level t) → ((t : Term) → y ≡ Ok t → Within level t) → both x y ≡ Ok (a, b) → Within level a × Within level b
+both_within : (level : ℕ) (x y : Shaped Term) (a b : Term) → ((t : Term) → x ≡ Ok t → Within level t) → ((t : Term) → y ≡ Ok t → Within level t)
+    → both x y ≡ Ok (a, b) → Within level a × Within level b
 both_within level x y a b of_x of_y h = let ab = both_ok x y a b h in (of_x a ab.0, of_y b ab.1)
 
 mutual
@@ -57,8 +58,10 @@ mutual
   node_within path level no_items t l h = absurd (cc h)
   node_within path level (item name operands) t l h = form_within path level (option_and_then form_named (as_str name)) operands t l h
 
-  form_within : (path : List PathPart) (level : ℕ) (f : Option Form) (ds : Items) (t : Term) → level ≤ DEEPEST_EXPR → form_at path level f ds ≡ Ok t → Within level t
-  form_within path level (Some form.Me) no_items t l h = let e : Me ≡ t = cc h in subst (λ t. Within level t) e (record { shallow = omega (arith, l); fronts = refl })
+  form_within : (path : List PathPart) (level : ℕ) (f : Option Form) (ds : Items) (t : Term) → level ≤ DEEPEST_EXPR → form_at path level f ds ≡ Ok t
+      → Within level t
+  form_within path level (Some form.Me) no_items t l h = let e : Me ≡ t = cc h in
+      subst (λ t. Within level t) e (record { shallow = omega (arith, l); fronts = refl })
   form_within path level (Some (form.Named from)) (item n no_items) t l h =
       let m = mapped_ok (Named from) (index n) t (at_path_ok path _ t h) in
       subst (λ t. Within level t) m.2 (record { shallow = omega (arith, l); fronts = refl })
@@ -73,12 +76,18 @@ mutual
       let e : Binary o p.0.0 p.0.1 ≡ t = cc p.2 in
       subst (λ t. Within level t) e (record { shallow = omega (arith, ab.0.shallow, ab.1.shallow); fronts = rw (ab.0.fronts, ab.1.fronts) })
   form_within path level (Some form.MulDiv) (item x (item y (item z no_items))) t l h =
-      let p = bind_ok (both (both (term_at (in_item path 1) (level + 1) x) (term_at (in_item path 2) (level + 1) y)) (term_at (in_item path 3) (level + 1) z)) _ t h in
-      let abc = both_ok (both (term_at (in_item path 1) (level + 1) x) (term_at (in_item path 2) (level + 1) y)) (term_at (in_item path 3) (level + 1) z) p.0.0 p.0.1 p.1 in
+      let p = bind_ok (both (both (term_at (in_item path 1) (level + 1) x) (term_at (in_item path 2) (level + 1) y)) (term_at (in_item path 3) (level + 1) z))
+      _ t h in
+      let abc = both_ok (both (term_at (in_item path 1) (level + 1) x) (term_at (in_item path 2) (level + 1) y))
+      (term_at (in_item path 3) (level + 1) z) p.0.0 p.0.1 p.1 in
       let ab = both_within (level + 1) _ _ p.0.0.0 p.0.0.1 (term_within (in_item path 1) (level + 1) x) (term_within (in_item path 2) (level + 1) y) abc.0 in
       let c = term_within (in_item path 3) (level + 1) z p.0.1 abc.1 in
       let e : MulDiv p.0.0.0 p.0.0.1 p.0.1 ≡ t = cc p.2 in
-      subst (λ t. Within level t) e (record { shallow = omega (arith, ab.0.shallow, ab.1.shallow, c.shallow); fronts = rw (ab.0.fronts, ab.1.fronts, c.fronts) })
+      subst (λ t. Within level t) e (record {
+        shallow = omega (arith, ab.0.shallow, ab.1.shallow, c.shallow);
+        fronts =
+            rw (ab.0.fronts, ab.1.fronts, c.fronts);
+      })
   form_within path level (Some form.Front) (item x (item y (item n no_items))) t l h =
       let p = bind_ok (both (term_at (in_item path 1) (level + 1) x) (term_at (in_item path 2) (level + 1) y)) _ t h in
       let ab = both_within (level + 1) _ _ p.0.0 p.0.1 (term_within (in_item path 1) (level + 1) x) (term_within (in_item path 2) (level + 1) y) p.1 in
@@ -94,7 +103,8 @@ term_limits path d t h =
     grind (arith, common_steps, w.shallow, w.fronts)
 
 -- expressions one after another
-pub terms_limits : (path : List PathPart) (at : ℕ) (done : List Term) (ds : Items) (ts : List Term) → list_all term_fits done ≡ true → terms_after path at done ds ≡ Ok ts → list_all term_fits ts ≡ true
+pub terms_limits : (path : List PathPart) (at : ℕ) (done : List Term) (ds : Items) (ts : List Term) → list_all term_fits done ≡ true
+    → terms_after path at done ds ≡ Ok ts → list_all term_fits ts ≡ true
 terms_limits path at done no_items ts h e = let same : done ≡ ts = cc e in rw (← same) h
 terms_limits path at done (item d ds) ts h e =
     let b = bind_ok (term_at (in_item path at) 1 d) _ ts e in

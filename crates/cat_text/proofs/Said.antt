@@ -27,7 +27,8 @@ use Rattle.cat_text.specs.Texts.{typed_by, shaped_by, read_by, catalog_of, refus
 none_wrong : (tables : List Table) (number : ℕ) (procs : List Proc) → All (IsWellTyped tables) procs → wrong_from tables number procs ≡ None
 none_wrong tables number [] typed = refl
 none_wrong tables number (p ∷ ps) typed =
-    wrong_from-typed tables number p ps (All-head (IsWellTyped tables) p ps typed) ∙ none_wrong tables (number + 1) ps (All-tail (IsWellTyped tables) p ps typed)
+    wrong_from-typed tables number p ps (All-head (IsWellTyped tables) p ps typed)
+    ∙ none_wrong tables (number + 1) ps (All-tail (IsWellTyped tables) p ps typed)
 
 -- a text that says data
 said : (text : List ℕ) (d : Data) → Says text d → catalog_of text ≡ shaped_by (plan_of d)

@@ -135,7 +135,8 @@ pub record AllSound (tables : List Table) (blocks : ℕ) (ss : Steps) : Type 0 w
   pub nests : json.items_depth (items_of (steps_data tables ss)) + 2 * blocks ≤ 26
 
 mutual
-  step_sound : (s : Scope) (st : Step) (r next : Reached) → s.blocks ≤ MOST_BLOCKS → step_fits st ≡ true → typed_step s st r ≡ Ok next → Sound s.tables s.blocks st
+  step_sound : (s : Scope) (st : Step) (r next : Reached) → s.blocks ≤ MOST_BLOCKS → step_fits st ≡ true → typed_step s st r ≡ Ok next
+      → Sound s.tables s.blocks st
   step_sound s (step.Let n e) r next b f h = record { known = refl; nests = omega (arith, fit_nests e f) }
   step_sound s (step.Read absence t ks rs) r next b f h =
       let p = passed_ok r _ next h in
@@ -170,7 +171,8 @@ mutual
   step_sound s (step.Give e) r next b f h = record { known = refl; nests = omega (arith, fit_nests e f) }
   step_sound s (step.Fail code) r next b f h = record { known = refl; nests = omega arith }
 
-  pub steps_sound : (s : Scope) (ss : Steps) (r next : Reached) → s.blocks ≤ MOST_BLOCKS → steps_fit ss ≡ true → typed_steps s ss r ≡ Ok next → AllSound s.tables s.blocks ss
+  pub steps_sound : (s : Scope) (ss : Steps) (r next : Reached) → s.blocks ≤ MOST_BLOCKS → steps_fit ss ≡ true → typed_steps s ss r ≡ Ok next
+      → AllSound s.tables s.blocks ss
   steps_sound s NoMore r next b f h = record { known = refl; nests = omega arith }
   steps_sound s (More st rest) r next b f h =
       let a = got_ok (typed_step s st r) _ next h in

@@ -29,7 +29,8 @@ use Rattle.cat_write.proofs.Soundness.{table_known, step_known, steps_known}
 -- ---- tables
 
 -- a name that none of these has is not the name at a place among them
-other_name : (names : List (List ℕ)) (n : ℕ) (name own : List ℕ) → list_any (bytes_eq own) names ≡ false → slice_get names n ≡ Some name → bytes_eq own name ≡ false
+other_name : (names : List (List ℕ)) (n : ℕ) (name own : List ℕ) → list_any (bytes_eq own) names ≡ false → slice_get names n ≡ Some name
+    → bytes_eq own name ≡ false
 other_name [] n name own h e = absurd (cc e)
 other_name (x ∷ names) zero name own h e =
     let first : bytes_eq own x ≡ false = grind (arith, common_steps, h) in
@@ -40,7 +41,8 @@ other_name (x ∷ names) (suc n) name own h e =
     other_name names n name own rest e
 
 -- a table's name leads to it
-place_again : (tables : List Table) (n : ℕ) (x : Table) → distinct (map (λ t. t.name) tables) ≡ true → slice_get tables n ≡ Some x → position_or_len (λ t. bytes_eq t.name x.name) tables ≡ n
+place_again : (tables : List Table) (n : ℕ) (x : Table) → distinct (map (λ t. t.name) tables) ≡ true → slice_get tables n ≡ Some x
+    → position_or_len (λ t. bytes_eq t.name x.name) tables ≡ n
 place_again [] n x d e = absurd (cc e)
 place_again (t ∷ ts) zero x d e =
     let same : t ≡ x = cc e in
@@ -54,7 +56,8 @@ place_again (t ∷ ts) (suc n) x d e =
     let later = place_again ts n x apart.1 e in
     rw (other, later) (omega arith)
 
-number_again : (tables : List Table) (n : ℕ) → distinct (map (λ t. t.name) tables) ≡ true → table_known tables n ≡ true → number_of tables (table_name tables n) ≡ n
+number_again : (tables : List Table) (n : ℕ) → distinct (map (λ t. t.name) tables) ≡ true → table_known tables n ≡ true
+    → number_of tables (table_name tables n) ≡ n
 number_again tables n d h = found (slice_get tables n) refl h where
   found : (o : Option Table) → slice_get tables n ≡ o → is_some o ≡ true → number_of tables (option_map_or (λ t. t.name) o []) ≡ n
   found None e h = absurd (cc h)
@@ -82,7 +85,8 @@ indexes_again done (n ∷ ns) h =
 regs_again : (ns : List ℕ) → list_all is_u32 ns ≡ true → indexes (indexes_data ns) ≡ Some ns
 regs_again ns h = indexes_again [] ns h
 
-exprs_again : (path : List PathPart) (at : ℕ) (ts : List Term) → list_all term_fits ts ≡ true → list_all term_held ts ≡ true → terms_at path at (terms_data ts) ≡ Ok ts
+exprs_again : (path : List PathPart) (at : ℕ) (ts : List Term) → list_all term_fits ts ≡ true → list_all term_held ts ≡ true
+    → terms_at path at (terms_data ts) ≡ Ok ts
 exprs_again path at ts f h = terms_again (in_item path at) 0 [] ts f h
 
 -- ---- statements
@@ -122,13 +126,15 @@ pub record AllFit (tables : List Table) (ss : Steps) : Type 0 where
   pub known : steps_known tables ss ≡ true
 
 module _ (tables : List Table) (d : distinct (map (λ t. t.name) tables) ≡ true) (body : List PathPart) where
-  row_again : (path : List PathPart) (t : ℕ) (ks : List Term) → table_known tables t ≡ true → list_all term_fits ks ≡ true → list_all term_held ks ≡ true → row_at tables path (table_ref tables t) (terms_data ks) ≡ Ok (t, ks)
+  row_again : (path : List PathPart) (t : ℕ) (ks : List Term) → table_known tables t ≡ true → list_all term_fits ks ≡ true → list_all term_held ks ≡ true
+      → row_at tables path (table_ref tables t) (terms_data ks) ≡ Ok (t, ks)
   row_again path t ks k f h =
       let et = number_again tables t d k in
       let ek = exprs_again path 2 ks f h in
       rw (et, ek)
 
-  read_again : (path : List PathPart) (t : ℕ) (ks : List Term) (rs : List ℕ) → table_known tables t ≡ true → list_all term_fits ks ≡ true → (list_all term_held ks && list_all is_u32 rs) ≡ true → read_at tables path (table_ref tables t) (terms_data ks) (indexes_data rs) ≡ Ok ((t, ks), rs)
+  read_again : (path : List PathPart) (t : ℕ) (ks : List Term) (rs : List ℕ) → table_known tables t ≡ true → list_all term_fits ks ≡ true
+      → (list_all term_held ks && list_all is_u32 rs) ≡ true → read_at tables path (table_ref tables t) (terms_data ks) (indexes_data rs) ≡ Ok ((t, ks), rs)
   read_again path t ks rs k f h =
       let held = and_parts (list_all term_held ks) (list_all is_u32 rs) h in
       let er = row_again path t ks k f held.0 in
@@ -137,7 +143,8 @@ module _ (tables : List Table) (d : distinct (map (λ t. t.name) tables) ≡ tru
 
   -- the walk has counted a statement before it comes to it, and then counts what lies in its blocks
   mutual
-    step_again : (path : List PathPart) (seen : ℕ) (s : Step) → Fit tables s → step_count s + seen ≤ 1 + MOST_STATEMENTS → (n : ℕ) × (step_at tables body path seen (step_data tables s) ≡ Ok (s, n)) × (n + 1 ≡ seen + step_count s)
+    step_again : (path : List PathPart) (seen : ℕ) (s : Step) → Fit tables s → step_count s + seen ≤ 1 + MOST_STATEMENTS
+        → (n : ℕ) × (step_at tables body path seen (step_data tables s) ≡ Ok (s, n)) × (n + 1 ≡ seen + step_count s)
     step_again path seen (step.Let n e) f few =
         let held = and_parts (is_u32 n) (term_held e) f.held in
         let en = index_again n held.0 in
@@ -194,7 +201,8 @@ module _ (tables : List Table) (d : distinct (map (λ t. t.name) tables) ≡ tru
         let ec = code_again c f.fits in
         (seen, rw ec, refl)
 
-    steps_again : (path : List PathPart) (at seen : ℕ) (done : List Step) (ss : Steps) → AllFit tables ss → steps_count ss + seen ≤ MOST_STATEMENTS → (n : ℕ) × (steps_after tables body path at seen done (items_of (steps_data tables ss)) ≡ Ok (behind done ss, n)) × (n ≡ seen + steps_count ss)
+    steps_again : (path : List PathPart) (at seen : ℕ) (done : List Step) (ss : Steps) → AllFit tables ss → steps_count ss + seen ≤ MOST_STATEMENTS
+        → (n : ℕ) × (steps_after tables body path at seen done (items_of (steps_data tables ss)) ≡ Ok (behind done ss, n)) × (n ≡ seen + steps_count ss)
     steps_again path at seen done NoMore f few = (seen, ap (λ (b : Steps). Ok (b, seen)) (sym (behind-none done)), omega arith)
     steps_again path at seen done (More s rest) f few =
         let fits = and_parts (step_fits s) (steps_fit rest) f.fits in
@@ -202,12 +210,14 @@ module _ (tables : List Table) (d : distinct (map (λ t. t.name) tables) ≡ tru
         let known = and_parts (step_known tables s) (steps_known tables rest) f.known in
         let room : nat_lt seen MOST_STATEMENTS ≡ true = grind (arith, common_steps, few, counts s) in
         let first = step_again (in_item path at) (seen + 1) s (record { fits = fits.0; held = held.0; known = known.0 }) (omega (arith, few)) in
-        let others = steps_again path (at + 1) first.0 (done ++ s ∷ []) rest (record { fits = fits.1; held = held.1; known = known.1 }) (omega (arith, few, first.2)) in
+        let others = steps_again path (at + 1) first.0 (done ++ s ∷ []) rest (record { fits = fits.1; held = held.1; known = known.1 })
+        (omega (arith, few, first.2)) in
         let es = first.1 in
         (others.0, rw (room, es) (others.1 ∙ ap (λ (b : Steps). Ok (b, others.0)) (behind-last done s rest)), omega (arith, first.2, others.2))
 
 -- the statements of a body
-pub body_again : (tables : List Table) → distinct (map (λ t. t.name) tables) ≡ true → (path : List PathPart) (ss : Steps) → AllFit tables ss → steps_count ss ≤ MOST_STATEMENTS → body_at tables path (list_data (steps_data tables ss)) ≡ Ok ss
+pub body_again : (tables : List Table) → distinct (map (λ t. t.name) tables) ≡ true → (path : List PathPart) (ss : Steps) → AllFit tables ss
+    → steps_count ss ≤ MOST_STATEMENTS → body_at tables path (list_data (steps_data tables ss)) ≡ Ok ss
 body_again tables d path ss f few =
     let read = steps_again tables d path path 0 0 [] ss f (omega (arith, few)) in
     let e = read.1 in

@@ -29,8 +29,10 @@ use Rattle.cat_write.specs.Held.{is_u32, term_held}
 shallow : {A : Type 0} (path : List PathPart) (level : ℕ) (read : Shaped A) → level ≤ DEEPEST_EXPR → at_level path level read ≡ read
 shallow path level read h = let e : nat_le level DEEPEST_EXPR ≡ true = grind (arith, common_steps, h) in rw e
 
-form_read : (path : List PathPart) (level : ℕ) (f : Form) (ops : Items) → level ≤ DEEPEST_EXPR → term_at path level (array (item (string (form_name f)) ops)) ≡ form_at path level (Some f) ops
-form_read path level f ops h = shallow path level (node_at path level (item (string (form_name f)) ops)) h ∙ ap (λ (g : Option Form). form_at path level g ops) (form_again f)
+form_read : (path : List PathPart) (level : ℕ) (f : Form) (ops : Items) → level ≤ DEEPEST_EXPR
+    → term_at path level (array (item (string (form_name f)) ops)) ≡ form_at path level (Some f) ops
+form_read path level f ops h = shallow path level (node_at path level (item (string (form_name f)) ops)) h
+    ∙ ap (λ (g : Option Form). form_at path level g ops) (form_again f)
 
 -- ---- plain operands
 
@@ -57,7 +59,9 @@ abbrev Again : ℕ → Term → Type 0
 Again level t = level + depth t ≤ 1 + DEEPEST_EXPR → fronts_fit t ≡ true → term_held t ≡ true → (path : List PathPart) → term_at path level (term_data t) ≡ Ok t
 
 -- two operands, as the first of a form
-both_again : (level : ℕ) (a b : Term) → level + (1 + max (depth a) (depth b)) ≤ 1 + DEEPEST_EXPR → (fronts_fit a && fronts_fit b) ≡ true → (term_held a && term_held b) ≡ true → Again (level + 1) a → Again (level + 1) b → (path : List PathPart) → both (term_at (in_item path 1) (level + 1) (term_data a)) (term_at (in_item path 2) (level + 1) (term_data b)) ≡ Ok (a, b)
+both_again : (level : ℕ) (a b : Term) → level + (1 + max (depth a) (depth b)) ≤ 1 + DEEPEST_EXPR → (fronts_fit a && fronts_fit b) ≡ true
+    → (term_held a && term_held b) ≡ true → Again (level + 1) a → Again (level + 1) b → (path : List PathPart)
+    → both (term_at (in_item path 1) (level + 1) (term_data a)) (term_at (in_item path 2) (level + 1) (term_data b)) ≡ Ok (a, b)
 both_again level a b d f h again_a again_b path =
     let fs = and_parts (fronts_fit a) (fronts_fit b) f in
     let hs = and_parts (term_held a) (term_held b) h in
@@ -66,10 +70,13 @@ both_again level a b d f h again_a again_b path =
     rw (ea, eb)
 
 term_again : (level : ℕ) (t : Term) → Again level t
-term_again level (Num z) d f h path = shallow path level (at_path path (option_map Num (as_i64 (of_integer z)))) (omega (arith, d)) ∙ ap (λ (o : Option ℤ). at_path path (option_map Num o)) (integer_again z h)
-term_again level (Text bytes) d f h path = shallow path level (at_path path (option_map Text (text_of bytes))) (omega (arith, d)) ∙ ap (λ (o : Option (List ℕ)). at_path path (option_map Text o)) (text_again bytes h)
+term_again level (Num z) d f h path = shallow path level (at_path path (option_map Num (as_i64 (of_integer z)))) (omega (arith, d))
+    ∙ ap (λ (o : Option ℤ). at_path path (option_map Num o)) (integer_again z h)
+term_again level (Text bytes) d f h path = shallow path level (at_path path (option_map Text (text_of bytes))) (omega (arith, d))
+    ∙ ap (λ (o : Option (List ℕ)). at_path path (option_map Text o)) (text_again bytes h)
 term_again level Me d f h path = form_read path level form.Me no_items (omega (arith, d))
-term_again level (Named from n) d f h path = form_read path level (form.Named from) (item (index_data n) no_items) (omega (arith, d)) ∙ ap (λ (o : Option ℕ). at_path path (option_map (Named from) o)) (index_again n h)
+term_again level (Named from n) d f h path = form_read path level (form.Named from) (item (index_data n) no_items) (omega (arith, d))
+    ∙ ap (λ (o : Option ℕ). at_path path (option_map (Named from) o)) (index_again n h)
 term_again level (Unary o a) d f h path =
     let e = term_again (level + 1) a (omega (arith, d)) f h (in_item path 1) in
     form_read path level (form.Unary o) (item (term_data a) no_items) (omega (arith, d)) ∙ rw e
@@ -96,7 +103,8 @@ whole_again path t f h =
     let few : depth t ≤ DEEPEST_EXPR = grind (arith, common_steps, fits.0) in
     term_again 1 t (omega (arith, few)) fits.1 h path
 
-pub terms_again : (path : List PathPart) (at : ℕ) (done ts : List Term) → list_all term_fits ts ≡ true → list_all term_held ts ≡ true → terms_after path at done (items_of (map term_data ts)) ≡ Ok (done ++ ts)
+pub terms_again : (path : List PathPart) (at : ℕ) (done ts : List Term) → list_all term_fits ts ≡ true → list_all term_held ts ≡ true
+    → terms_after path at done (items_of (map term_data ts)) ≡ Ok (done ++ ts)
 terms_again path at done [] f h = ap Ok (sym (append-nil done))
 terms_again path at done (t ∷ ts) f h =
     let fits = and_parts (term_fits t) (list_all term_fits ts) f in

@@ -28,7 +28,8 @@ module _ (slot : ℕ) (told : Option File) where
         go None i s = tt
         go (Some f) i s =
             let yes : nat_lt (length f.seen) 40 ≡ true = grind (arith, nat_tests, s, short) in
-            opened f i ∙ ap (λ (b : Bool). if b then Bad (length f.seen) else by_fault (first_fault (faults slot (fields_of (take 40 f.seen)))) (behind_head (fields_of (take 40 f.seen)) f.seen)) yes ∙ ap (λ (n : ℕ). Bad n) (sym s)
+            opened f i ∙ ap (λ (b : Bool). if b then Bad (length f.seen) else by_fault (first_fault (faults slot (fields_of (take 40 f.seen))))
+            (behind_head (fields_of (take 40 f.seen)) f.seen)) yes ∙ ap (λ (n : ℕ). Bad n) (sym s)
 
     module _ (long : 40 ≤ len) (fields : Fields) (read : IfSome told (λ f. fields ≡ fields_of (take 40 f.seen))) where
       pub room : IfSome told (λ f. 40 ≤ length f.seen)
@@ -38,36 +39,44 @@ module _ (slot : ℕ) (told : Option File) where
           go None s = tt
           go (Some f) s = omega (arith, s, long)
 
-      behind : (f : File) → gate ≡ is_open f.seen → len ≡ length f.seen → fields ≡ fields_of (take 40 f.seen) → slot_of slot f.seen ≡ by_fault (first_fault (faults slot fields)) (behind_head fields f.seen)
+      behind : (f : File) → gate ≡ is_open f.seen → len ≡ length f.seen → fields ≡ fields_of (take 40 f.seen)
+          → slot_of slot f.seen ≡ by_fault (first_fault (faults slot fields)) (behind_head fields f.seen)
       behind f i s r =
           let no : nat_lt (length f.seen) 40 ≡ false = grind (arith, nat_tests, s, long) in
-          opened f i ∙ ap (λ (b : Bool). if b then Bad (length f.seen) else by_fault (first_fault (faults slot (fields_of (take 40 f.seen)))) (behind_head (fields_of (take 40 f.seen)) f.seen)) no
+          opened f i ∙ ap (λ (b : Bool). if b then Bad (length f.seen) else by_fault (first_fault (faults slot (fields_of (take 40 f.seen))))
+          (behind_head (fields_of (take 40 f.seen)) f.seen)) no
           ∙ ap (λ (x : Fields). by_fault (first_fault (faults slot x)) (behind_head x f.seen)) (sym r)
 
       pub looks_wrong : (at : ℕ) → first_fault (faults slot fields) ≡ Some at → IfSome told (λ f. slot_of slot f.seen ≡ Bad at)
       looks_wrong at wrong = go told is size read
         where
-          go : (t : Option File) → IfSome t (λ f. gate ≡ is_open f.seen) → IfSome t (λ f. len ≡ length f.seen) → IfSome t (λ f. fields ≡ fields_of (take 40 f.seen)) → IfSome t (λ f. slot_of slot f.seen ≡ Bad at)
+          go : (t : Option File) → IfSome t (λ f. gate ≡ is_open f.seen) → IfSome t (λ f. len ≡ length f.seen)
+              → IfSome t (λ f. fields ≡ fields_of (take 40 f.seen)) → IfSome t (λ f. slot_of slot f.seen ≡ Bad at)
           go None i s r = tt
           go (Some f) i s r = behind f i s r ∙ ap (λ (o : Option ℕ). by_fault o (behind_head fields f.seen)) wrong
 
       pub looks_cut : first_fault (faults slot fields) ≡ None → len - 40 < fields.body → IfSome told (λ f. slot_of slot f.seen ≡ Bad 32)
       looks_cut sound cut = go told is size read
         where
-          go : (t : Option File) → IfSome t (λ f. gate ≡ is_open f.seen) → IfSome t (λ f. len ≡ length f.seen) → IfSome t (λ f. fields ≡ fields_of (take 40 f.seen)) → IfSome t (λ f. slot_of slot f.seen ≡ Bad 32)
+          go : (t : Option File) → IfSome t (λ f. gate ≡ is_open f.seen) → IfSome t (λ f. len ≡ length f.seen)
+              → IfSome t (λ f. fields ≡ fields_of (take 40 f.seen)) → IfSome t (λ f. slot_of slot f.seen ≡ Bad 32)
           go None i s r = tt
           go (Some f) i s r =
               let yes : nat_lt (length f.seen - 40) fields.body ≡ true = grind (arith, nat_tests, s, cut) in
-              behind f i s r ∙ ap (λ (o : Option ℕ). by_fault o (behind_head fields f.seen)) sound ∙ ap (λ (b : Bool). if b then Bad 32 else Shown (head_in fields) (take fields.body (drop 40 f.seen))) yes
+              behind f i s r ∙ ap (λ (o : Option ℕ). by_fault o (behind_head fields f.seen)) sound
+              ∙ ap (λ (b : Bool). if b then Bad 32 else Shown (head_in fields) (take fields.body (drop 40 f.seen))) yes
 
-      pub looks_shown : first_fault (faults slot fields) ≡ None → fields.body ≤ len - 40 → (h : Head) (n : ℕ) → h ≡ head_in fields → n ≡ fields.body → IfSome told (λ f. IsLooked (Some (h, n)) slot f.seen)
+      pub looks_shown : first_fault (faults slot fields) ≡ None → fields.body ≤ len - 40 → (h : Head) (n : ℕ) → h ≡ head_in fields → n ≡ fields.body
+          → IfSome told (λ f. IsLooked (Some (h, n)) slot f.seen)
       looks_shown sound fits h n h_is n_is = go told is size read
         where
-          go : (t : Option File) → IfSome t (λ f. gate ≡ is_open f.seen) → IfSome t (λ f. len ≡ length f.seen) → IfSome t (λ f. fields ≡ fields_of (take 40 f.seen)) → IfSome t (λ f. IsLooked (Some (h, n)) slot f.seen)
+          go : (t : Option File) → IfSome t (λ f. gate ≡ is_open f.seen) → IfSome t (λ f. len ≡ length f.seen)
+              → IfSome t (λ f. fields ≡ fields_of (take 40 f.seen)) → IfSome t (λ f. IsLooked (Some (h, n)) slot f.seen)
           go None i s r = tt
           go (Some f) i s r =
               let no : nat_lt (length f.seen - 40) fields.body ≡ false = grind (arith, nat_tests, s, fits) in (
-                behind f i s r ∙ ap (λ (o : Option ℕ). by_fault o (behind_head fields f.seen)) sound ∙ ap (λ (b : Bool). if b then Bad 32 else Shown (head_in fields) (take fields.body (drop 40 f.seen))) no
+                behind f i s r ∙ ap (λ (o : Option ℕ). by_fault o (behind_head fields f.seen)) sound
+                    ∙ ap (λ (b : Bool). if b then Bad 32 else Shown (head_in fields) (take fields.body (drop 40 f.seen))) no
                     ∙ ap (λ (x : Head). Shown x (take fields.body (drop 40 f.seen))) (sym h_is) ∙ ap (λ (k : ℕ). Shown h (take k (drop 40 f.seen))) (sym n_is),
                 omega (arith, s, fits, long, n_is),
               )

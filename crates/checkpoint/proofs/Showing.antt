@@ -24,14 +24,16 @@ pub record ShowsBy (o l r : Bool) (fault : Option ℕ) (s shown : Slot) : Type 0
   pub room : r ≡ false
   pub same : s ≡ shown
 
-invert : (o l r : Bool) (fault : Option ℕ) (at : ℕ) (s : Slot) (h : Head) (body : List ℕ) → (if o then (if l then Bad at else by_fault fault (if r then Bad 32 else s)) else Shut) ≡ Shown h body → ShowsBy o l r fault s (Shown h body)
+invert : (o l r : Bool) (fault : Option ℕ) (at : ℕ) (s : Slot) (h : Head) (body : List ℕ)
+    → (if o then (if l then Bad at else by_fault fault (if r then Bad 32 else s)) else Shut) ≡ Shown h body → ShowsBy o l r fault s (Shown h body)
 invert false l r fault at s h body e = absurd (cc e)
 invert true true r fault at s h body e = absurd (cc e)
 invert true false r (Some n) at s h body e = absurd (cc e)
 invert true false true None at s h body e = absurd (cc e)
 invert true false false None at s h body e = record { gate = refl; long = refl; sound = refl; room = refl; same = e }
 
-rebuild : (o l r : Bool) (fault : Option ℕ) (at : ℕ) (s shown : Slot) → ShowsBy o l r fault s shown → (if o then (if l then Bad at else by_fault fault (if r then Bad 32 else s)) else Shut) ≡ shown
+rebuild : (o l r : Bool) (fault : Option ℕ) (at : ℕ) (s shown : Slot) → ShowsBy o l r fault s shown
+    → (if o then (if l then Bad at else by_fault fault (if r then Bad 32 else s)) else Shut) ≡ shown
 rebuild false l r fault at s shown b = let no : false ≡ true = b.gate in absurd (cc no)
 rebuild true true r fault at s shown b = let no : true ≡ false = b.long in absurd (cc no)
 rebuild true false r (Some n) at s shown b = let no : Some n ≡ None = b.sound in absurd (cc no)
@@ -51,23 +53,28 @@ open_front (b ∷ bytes) more e = e
 pub longer_shown : (slot : ℕ) (bytes more : List ℕ) (h : Head) (body : List ℕ) → slot_of slot bytes ≡ Shown h body → slot_of slot (bytes ++ more) ≡ Shown h body
 longer_shown slot bytes more h body e =
     let f : Fields = fields_of (take 40 bytes) in
-    let b = invert (is_open bytes) (nat_lt (length bytes) 40) (nat_lt (length bytes - 40) f.body) (first_fault (faults slot f)) (length bytes) (Shown (head_in f) (take f.body (drop 40 bytes))) h body e in
+    let b = invert (is_open bytes) (nat_lt (length bytes) 40) (nat_lt (length bytes - 40) f.body) (first_fault (faults slot f)) (length bytes)
+    (Shown (head_in f) (take f.body (drop 40 bytes))) h body e in
     let long : 40 ≤ length bytes = grind (arith, nat_tests, b.long) in
     let room : f.body ≤ length bytes - 40 = grind (arith, nat_tests, b.room) in
     let size : length (bytes ++ more) ≡ length bytes + length more = length-append bytes more in
     let front : take 40 (bytes ++ more) ≡ take 40 bytes = take-append-le 40 bytes more long in
     let rest : take f.body (drop 40 (bytes ++ more)) ≡ take f.body (drop 40 bytes) =
-    ap (λ (l : List ℕ). take f.body l) (drop_front 40 bytes more long) ∙ take-append-le f.body (drop 40 bytes) more (omega (arith, room, length-drop 40 bytes)) in
-    rebuild (is_open (bytes ++ more)) (nat_lt (length (bytes ++ more)) 40) (nat_lt (length (bytes ++ more) - 40) (fields_of (take 40 (bytes ++ more))).body) (first_fault (faults slot (fields_of (take 40 (bytes ++ more))))) (length (bytes ++ more))
+    ap (λ (l : List ℕ). take f.body l) (drop_front 40 bytes more long)
+    ∙ take-append-le f.body (drop 40 bytes) more (omega (arith, room, length-drop 40 bytes)) in
+    rebuild (is_open (bytes ++ more)) (nat_lt (length (bytes ++ more)) 40) (nat_lt (length (bytes ++ more) - 40) (fields_of (take 40 (bytes ++ more))).body)
+    (first_fault (faults slot (fields_of (take 40 (bytes ++ more))))) (length (bytes ++ more))
     (Shown (head_in (fields_of (take 40 (bytes ++ more)))) (take (fields_of (take 40 (bytes ++ more))).body (drop 40 (bytes ++ more)))) (Shown h body) (record {
       gate = open_front bytes more b.gate;
       long = grind (arith, nat_tests, long, size);
       sound = ap (λ (l : List ℕ). first_fault (faults slot (fields_of l))) front ∙ b.sound;
       room = ap (λ (l : List ℕ). nat_lt (length (bytes ++ more) - 40) (fields_of l).body) front ∙ grind (arith, nat_tests, room, size);
-      same = ap (λ (l : List ℕ). Shown (head_in (fields_of l)) (take (fields_of l).body (drop 40 (bytes ++ more)))) front ∙ ap (λ (l : List ℕ). Shown (head_in f) l) rest ∙ b.same;
+      same = ap (λ (l : List ℕ). Shown (head_in (fields_of l)) (take (fields_of l).body (drop 40 (bytes ++ more)))) front
+          ∙ ap (λ (l : List ℕ). Shown (head_in f) l) rest ∙ b.same;
     })
 
-shut_gate : (o l : Bool) (at : ℕ) (fault : Option ℕ) (r : Bool) (h : Head) (body : List ℕ) → (if o then (if l then Bad at else by_fault fault (if r then Bad 32 else Shown h body)) else Shut) ≡ Shut → o ≡ false
+shut_gate : (o l : Bool) (at : ℕ) (fault : Option ℕ) (r : Bool) (h : Head) (body : List ℕ)
+    → (if o then (if l then Bad at else by_fault fault (if r then Bad 32 else Shown h body)) else Shut) ≡ Shut → o ≡ false
 shut_gate false l at fault r h body e = refl
 shut_gate true true at fault r h body e = absurd (cc e)
 shut_gate true false at (Some n) r h body e = absurd (cc e)
@@ -77,7 +84,8 @@ shut_gate true false at None false h body e = absurd (cc e)
 pub longer_shut : (slot gate : ℕ) (bytes more : List ℕ) → slot_of slot (gate ∷ bytes) ≡ Shut → slot_of slot ((gate ∷ bytes) ++ more) ≡ Shut
 longer_shut slot gate bytes more e =
     let f : Fields = fields_of (take 40 (gate ∷ bytes)) in
-    let no : gate == 1 ≡ false = shut_gate (gate == 1) (nat_lt (length (gate ∷ bytes)) 40) (length (gate ∷ bytes)) (first_fault (faults slot f)) (nat_lt (length (gate ∷ bytes) - 40) f.body) (head_in f) (take f.body (drop 40 (gate ∷ bytes))) e in
+    let no : gate == 1 ≡ false = shut_gate (gate == 1) (nat_lt (length (gate ∷ bytes)) 40) (length (gate ∷ bytes)) (first_fault (faults slot f))
+    (nat_lt (length (gate ∷ bytes) - 40) f.body) (head_in f) (take f.body (drop 40 (gate ∷ bytes))) e in
     ap (λ (b : Bool). if b then open_slot slot ((gate ∷ bytes) ++ more) else Shut) no
 
 pub closed_slot : (slot : ℕ) (image : List ℕ) → IsShut image → slot_of slot image ≡ Shut
@@ -87,7 +95,9 @@ closed_slot slot (gate ∷ rest) shut =
     ap (λ (b : Bool). if b then open_slot slot (gate ∷ rest) else Shut) no
 
 -- what an opened gate shows of what was laid, whatever stands behind it
-opened_laid : (h : Head) (body : List ℕ) (gate : ℕ) (rest : List ℕ) → opened (laid h body (gate ∷ rest)) ≡ ((1 ∷ head_bytes h (length body)) ++ body) ++ drop (40 + length body) (put (gate ∷ rest) 1 (head_bytes h (length body)))
+opened_laid : (h : Head) (body : List ℕ) (gate : ℕ) (rest : List ℕ)
+    → opened (laid h body (gate ∷ rest)) ≡ ((1 ∷ head_bytes h (length body)) ++ body) ++ drop (40 + length body)
+    (put (gate ∷ rest) 1 (head_bytes h (length body)))
 opened_laid h body gate rest = refl
 
 read_front : (h : Head) (n : ℕ) (more : List ℕ) → take 40 ((1 ∷ head_bytes h n) ++ more) ≡ 1 ∷ head_bytes h n
@@ -171,7 +181,8 @@ pub ranges : (slot : ℕ) (h : Head) → IsSound slot h → Ranges h
 ranges slot h sound =
     let known = clear slot (fields_for h 0) sound in
     let format : h.format ≤ 2 = known_format h.format known.format in
-    let above : nat_lt (h.batches + h.format) h.generation ≡ false = last_or (h.generation == 0) (not (h.generation % 2 == slot)) (nat_lt (h.batches + h.format) h.generation) known.generation in
+    let above : nat_lt (h.batches + h.format) h.generation ≡ false =
+    last_or (h.generation == 0) (not (h.generation % 2 == slot)) (nat_lt (h.batches + h.format) h.generation) known.generation in
     let generation : h.generation ≤ h.batches + h.format = grind (arith, nat_tests, above) in
     let batches : h.batches ≤ GREATEST_NUMBER = grind (arith, nat_tests, known.batches) in
     let requests : h.requests ≤ GREATEST_NUMBER = grind (arith, nat_tests, known.requests) in
@@ -185,23 +196,28 @@ head_back : (h : Head) (n : ℕ) → head_in (fields_for h n) ≡ h
 head_back h n = ap (λ (rule : Rule). record h { rule = rule }) (rule_back h.rule)
 
 -- a head and a body behind an open gate
-pub front_shows : (slot : ℕ) (h : Head) (body more : List ℕ) → IsSound slot h → length body < 256 ^ 8 → slot_of slot ((1 ∷ head_bytes h (length body)) ++ (body ++ more)) ≡ Shown h body
+pub front_shows : (slot : ℕ) (h : Head) (body more : List ℕ) → IsSound slot h → length body < 256 ^ 8
+    → slot_of slot ((1 ∷ head_bytes h (length body)) ++ (body ++ more)) ≡ Shown h body
 front_shows slot h body more sound small =
     let r = ranges slot h sound in
     let n : ℕ = length body in
     let bytes : List ℕ = (1 ∷ head_bytes h n) ++ (body ++ more) in
-    let size : length bytes ≡ 40 + (length body + length more) = length-append (1 ∷ head_bytes h n) (body ++ more) ∙ ap (λ (k : ℕ). 40 + k) (length-append body more) in
+    let size : length bytes ≡ 40 + (length body + length more) = length-append (1 ∷ head_bytes h n) (body ++ more)
+    ∙ ap (λ (k : ℕ). 40 + k) (length-append body more) in
     let fields : fields_of (take 40 bytes) ≡ fields_for h n = read_fields h n r small in
-    rebuild (is_open bytes) (nat_lt (length bytes) 40) (nat_lt (length bytes - 40) (fields_of (take 40 bytes)).body) (first_fault (faults slot (fields_of (take 40 bytes)))) (length bytes)
+    rebuild (is_open bytes) (nat_lt (length bytes) 40) (nat_lt (length bytes - 40) (fields_of (take 40 bytes)).body)
+    (first_fault (faults slot (fields_of (take 40 bytes)))) (length bytes)
     (Shown (head_in (fields_of (take 40 bytes))) (take (fields_of (take 40 bytes)).body (drop 40 bytes))) (Shown h body) (record {
       gate = refl;
       long = grind (arith, nat_tests, size);
       sound = ap (λ (f : Fields). first_fault (faults slot f)) fields ∙ sound;
       room = ap (λ (f : Fields). nat_lt (length bytes - 40) f.body) fields ∙ grind (arith, nat_tests, size);
-      same = ap (λ (f : Fields). Shown (head_in f) (take f.body (body ++ more))) fields ∙ ap (λ (x : Head). Shown x (take n (body ++ more))) (head_back h n) ∙ ap (λ (l : List ℕ). Shown h l) (take_at body more n refl);
+      same = ap (λ (f : Fields). Shown (head_in f) (take f.body (body ++ more))) fields ∙ ap (λ (x : Head). Shown x (take n (body ++ more))) (head_back h n)
+          ∙ ap (λ (l : List ℕ). Shown h l) (take_at body more n refl);
     })
 
-pub laid_shows : (slot : ℕ) (h : Head) (body bytes image : List ℕ) → IsSound slot h → length body < 256 ^ 8 → 0 < length bytes → take (length (opened (laid h body bytes))) image ≡ opened (laid h body bytes) → slot_of slot image ≡ Shown h body
+pub laid_shows : (slot : ℕ) (h : Head) (body bytes image : List ℕ) → IsSound slot h → length body < 256 ^ 8 → 0 < length bytes
+    → take (length (opened (laid h body bytes))) image ≡ opened (laid h body bytes) → slot_of slot image ≡ Shown h body
 laid_shows slot h body [] image sound small some front = absurd (omega (arith, some))
 laid_shows slot h body (gate ∷ rest) image sound small some front =
     let hb : List ℕ = 1 ∷ head_bytes h (length body) in

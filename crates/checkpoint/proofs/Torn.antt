@@ -48,7 +48,8 @@ opened_again [] is_open = absurd (omega arith)
 opened_again (gate ∷ rest) is_open = ap (λ (g : ℕ). g ∷ rest) (sym is_open)
 
 -- the gate that was read
-pub gate_is : (told : Option File) (buf : List ℕ) → IfSome told (λ f. buf ≡ take 1 (drop 0 f.seen)) → get_or buf 0 0 ≡ 1 → IfSome told (λ f. get_or f.seen 0 0 ≡ 1)
+pub gate_is : (told : Option File) (buf : List ℕ) → IfSome told (λ f. buf ≡ take 1 (drop 0 f.seen)) → get_or buf 0 0 ≡ 1
+    → IfSome told (λ f. get_or f.seen 0 0 ≡ 1)
 gate_is None buf read is_open = tt
 gate_is (Some f) buf read is_open = sym (first_of f.seen (ap (λ (l : List ℕ). get_or l 0 0) read)) ∙ is_open
   where
@@ -98,25 +99,29 @@ module _ (f : File) (image : List ℕ) (stable : (i : List ℕ) → IsImage f i 
           let byte : ℕ = get_or image k 0 in
           let made : put f.synced k (byte ∷ []) ≡ f.synced = stable _ (loose_byte f k byte within loose) ∙ sym same in
           let from : drop k (put f.synced k (byte ∷ [])) ≡ byte ∷ drop (k + 1) f.synced = put_here f.synced k (byte ∷ []) (omega arith) in
-          let split : get_or f.synced k 0 ∷ drop (k + 1) f.synced ≡ byte ∷ drop (k + 1) f.synced = sym (drop_more f.synced k 0 within) ∙ ap (λ (l : List ℕ). drop k l) (sym made) ∙ from in
+          let split : get_or f.synced k 0 ∷ drop (k + 1) f.synced ≡ byte ∷ drop (k + 1) f.synced = sym (drop_more f.synced k 0 within)
+          ∙ ap (λ (l : List ℕ). drop k l) (sym made) ∙ from in
           sym (cc split)
 
   begins_open : 0 < length f.seen → get_or image 0 0 ≡ 1 → take (length (opened f.seen)) image ≡ opened f.seen
   begins_open some is_open =
       let size : length f.synced ≡ length f.seen = ap (λ (l : List ℕ). length l) same in
       let long : length (opened f.seen) ≡ length f.seen = length_opened f.seen some in
-      let len : length (take (length (opened f.seen)) image) ≡ length (opened f.seen) = length-take-le (length (opened f.seen)) image (omega (arith, torn.long, size, long)) in
+      let len : length (take (length (opened f.seen)) image) ≡ length (opened f.seen) =
+      length-take-le (length (opened f.seen)) image (omega (arith, torn.long, size, long)) in
       same_lists (take (length (opened f.seen)) image) (opened f.seen) len (λ k d within.
       let low : k < length (opened f.seen) = omega (arith, within, len) in
       get_or_default (take (length (opened f.seen)) image) k d 0 within
       ∙ get_or-take (length (opened f.seen)) image k 0 low
       ∙ elim (cases_eq k 0) as (λ _. get_or image k 0 ≡ get_or (opened f.seen) k 0) [
         | inl first ↦ ap (λ (n : ℕ). get_or image n 0) first ∙ is_open ∙ ap (λ (n : ℕ). get_or (opened f.seen) n 0) (sym first)
-        | inr later ↦ other_byte k (omega arith) (omega (arith, low, long, size)) ∙ ap (λ (l : List ℕ). get_or l k 0) same ∙ sym (opened_byte f.seen k (omega arith) (omega (arith, low, long)))
+        | inr later ↦ other_byte k (omega arith) (omega (arith, low, long, size)) ∙ ap (λ (l : List ℕ). get_or l k 0) same
+            ∙ sym (opened_byte f.seen k (omega arith) (omega (arith, low, long)))
       ]
       ∙ get_or_default (opened f.seen) k 0 d low)
 
-pub torn_gate : (told : Option File) (image : List ℕ) → IfSome told (λ f. IsImage f f.seen) → EachImage told (λ i. 0 < length i) → IsStable told → HasImage (option_map (loosened 0 1) told) image → IsShutOrOpened told image
+pub torn_gate : (told : Option File) (image : List ℕ) → IfSome told (λ f. IsImage f f.seen) → EachImage told (λ i. 0 < length i) → IsStable told
+    → HasImage (option_map (loosened 0 1) told) image → IsShutOrOpened told image
 torn_gate None image reads some stable has = absurd has
 torn_gate (Some f) image reads some stable has = elim (cases_eq (get_or image 0 0) 1) [
   | inl is_open ↦ inr (f.seen, reads, begins_open f image stable has (some f.seen reads) is_open)
@@ -124,7 +129,8 @@ torn_gate (Some f) image reads some stable has = elim (cases_eq (get_or image 0 
 ]
 
 -- of one that was open
-torn_open : (told : Option File) (image : List ℕ) → IfSome told (λ f. get_or f.seen 0 0 ≡ 1) → IsStable told → IsShutOrOpened told image → IsShutOrSame told image
+torn_open : (told : Option File) (image : List ℕ) → IfSome told (λ f. get_or f.seen 0 0 ≡ 1) → IsStable told → IsShutOrOpened told image
+    → IsShutOrSame told image
 torn_open None image gate stable (inl shut) = inl shut
 torn_open None image gate stable (inr (before, has, front)) = absurd has
 torn_open (Some f) image gate stable (inl shut) = inl shut
@@ -134,7 +140,8 @@ torn_open (Some f) image gate stable (inr (before, has, front)) =
 
 -- ---- shutting
 
-module _ (a b : History) (file : ℕ) (stable : IsStable (current a file)) (some : EachImage (current a file) (λ i. 0 < length i)) (reads : IfSome (current a file) (λ f. IsImage f f.seen)) (acts : Acts a b file) (still : current b file ≡ current a file) where
+module _ (a b : History) (file : ℕ) (stable : IsStable (current a file)) (some : EachImage (current a file) (λ i. 0 < length i))
+    (reads : IfSome (current a file) (λ f. IsImage f f.seen)) (acts : Acts a b file) (still : current b file ≡ current a file) where
   as_it_was : EachImage (current a file) (IsShutOrSame (current a file))
   as_it_was = go (current a file)
     where
@@ -144,14 +151,17 @@ module _ (a b : History) (file : ℕ) (stable : IsStable (current a file)) (some
 
   -- while the gate is read
   pub read_leaves : Leaves a b file (IsShutOrSame (current a file))
-  read_leaves = within_call a b file acts (λ told. EachImage told (IsShutOrSame (current a file))) as_it_was (subst (λ told. EachImage told (IsShutOrSame (current a file))) (sym still) as_it_was)
+  read_leaves = within_call a b file acts (λ told. EachImage told (IsShutOrSame (current a file))) as_it_was
+      (subst (λ told. EachImage told (IsShutOrSame (current a file))) (sym still) as_it_was)
 
   -- and then closed
-  pub shut_leaves : (c : History) → IfSome (current a file) (λ f. get_or f.seen 0 0 ≡ 1) → Leaves b c file (HasImage (option_map (loosened 0 1) (current b file))) → Leaves a c file (IsShutOrSame (current a file))
+  pub shut_leaves : (c : History) → IfSome (current a file) (λ f. get_or f.seen 0 0 ≡ 1)
+      → Leaves b c file (HasImage (option_map (loosened 0 1) (current b file))) → Leaves a c file (IsShutOrSame (current a file))
   shut_leaves c gate writes =
       within_then a b c file _ _ (λ told. EachImage told (IsShutOrSame (current a file))) read_leaves writes (λ told each. each)
       (λ told each. each_more told _ _ (λ image has.
-      torn_open (current a file) image gate stable (torn_gate (current a file) image reads some stable (subst (λ t. HasImage (option_map (loosened 0 1) t) image) still has))) each)
+      torn_open (current a file) image gate stable (torn_gate (current a file) image reads some stable
+      (subst (λ t. HasImage (option_map (loosened 0 1) t) image) still has))) each)
 
 -- ---- showing
 
@@ -164,18 +174,21 @@ show_leaves a b file reads shut stable writes =
 -- ---- laying
 
 -- a torn write behind a gate leaves it closed
-torn_behind : (f g : File) (at len : ℕ) → 0 < at → at ≤ length f.seen → IsImage f f.seen → ((i : List ℕ) → IsImage f i → IsShut i) → g.synced ≡ f.synced → g.loose ≡ (at, len) ∷ f.loose
+torn_behind : (f g : File) (at len : ℕ) → 0 < at → at ≤ length f.seen → IsImage f f.seen → ((i : List ℕ) → IsImage f i → IsShut i) → g.synced ≡ f.synced
+    → g.loose ≡ (at, len) ∷ f.loose
     → (i : List ℕ) → IsImage g i → IsShut i
 torn_behind f g at len behind within reads shut synced loose i is =
     let torn = torn_front f at len i reads within (record {
       long = subst (λ (l : List ℕ). length l ≤ length i) synced is.long;
       short = λ none. absurd (cc none);
       stays = λ place inside free.
-          is.stays place (subst (λ (l : List ℕ). place < length l) (sym synced) inside) (ap (λ (l : List (ℕ × ℕ)). covers l place) loose ∙ free) ∙ ap (λ (l : List ℕ). get_or l place 0) synced;
+          is.stays place (subst (λ (l : List ℕ). place < length l) (sym synced) inside) (ap (λ (l : List (ℕ × ℕ)). covers l place) loose ∙ free)
+          ∙ ap (λ (l : List ℕ). get_or l place 0) synced;
     }) in
     same_gate torn.0 i at behind torn.2 (shut torn.0 torn.1)
 
-module _ (a b : History) (file : ℕ) (reads : IfSome (current a file) (λ f. IsImage f f.seen)) (shut : EachImage (current a file) IsShut) (bytes : List ℕ) (size : length bytes ≡ 39) (acts : Acts a b file) where
+module _ (a b : History) (file : ℕ) (reads : IfSome (current a file) (λ f. IsImage f f.seen)) (shut : EachImage (current a file) IsShut) (bytes : List ℕ)
+    (size : length bytes ≡ 39) (acts : Acts a b file) where
   -- while the write of the head fails
   pub head_lost : MayLose 1 (length bytes) (current a file) (current b file) → Leaves a b file IsShut
   head_lost lost = within_call a b file acts (λ told. EachImage told IsShut) shut (go (current a file) (current b file) reads shut lost)
@@ -204,17 +217,21 @@ module _ (a b : History) (file : ℕ) (reads : IfSome (current a file) (λ f. Is
         go (Some f) r s = omega (arith, put_length f.seen 1 bytes (some_bytes f.seen (s f.seen r)), size)
 
     -- while both are written
-    pub lay_leaves : (c : History) (len : ℕ) → IfSome (current b file) (λ f. IsImage f f.seen) → Leaves b c file (HasImage (option_map (loosened 40 len) (current b file))) → Leaves a c file IsShut
+    pub lay_leaves : (c : History) (len : ℕ) → IfSome (current b file) (λ f. IsImage f f.seen)
+        → Leaves b c file (HasImage (option_map (loosened 40 len) (current b file))) → Leaves a c file IsShut
     lay_leaves c len reads_b writes =
-        within_then a b c file _ _ (λ told. EachImage told IsShut) (within_call a b file acts (λ told. EachImage told IsShut) shut head_there) writes (λ told each. each)
+        within_then a b c file _ _ (λ told. EachImage told IsShut) (within_call a b file acts (λ told. EachImage told IsShut) shut head_there) writes
+        (λ told each. each)
         (λ told each. each_more told _ _ (go (current b file) reads_b head_there head_room) each)
       where
-        go : (t : Option File) → IfSome t (λ f. IsImage f f.seen) → EachImage t IsShut → IfSome t (λ f. 40 ≤ length f.seen) → (image : List ℕ) → HasImage (option_map (loosened 40 len) t) image → IsShut image
+        go : (t : Option File) → IfSome t (λ f. IsImage f f.seen) → EachImage t IsShut → IfSome t (λ f. 40 ≤ length f.seen) → (image : List ℕ)
+            → HasImage (option_map (loosened 40 len) t) image → IsShut image
         go None r s room image has = absurd has
         go (Some f) r s room image has = torn_behind f (loosened 40 len f) 40 len (omega arith) room r s refl refl image has
 
 -- both writes
-pub laid_both : (told : Option File) (front body : List ℕ) → option_map (λ f. untouched (put f.seen 40 body)) (option_map (wrote 1 front) told) ≡ option_map (λ f. untouched (put (put f.seen 1 front) 40 body)) told
+pub laid_both : (told : Option File) (front body : List ℕ) → option_map (λ f. untouched (put f.seen 40 body)) (option_map (wrote 1 front) told) ≡ option_map
+    (λ f. untouched (put (put f.seen 1 front) 40 body)) told
 laid_both None front body = refl
 laid_both (Some f) front body = refl
 

@@ -44,7 +44,8 @@ long_is_split (a ∷ b ∷ bs) = go (a == 45)
     more true = rest bs
     more false = refl
 
-    go : (x : Bool) → option_and_then long_of_rest (option_and_then (strip_byte 45) (cond x (Some (b ∷ bs)) None)) ≡ cond (x && (b == 45 && true)) (split_body bs) None
+    go : (x : Bool) → option_and_then long_of_rest (option_and_then (strip_byte 45) (cond x (Some (b ∷ bs)) None)) ≡ cond (x && (b == 45 && true))
+        (split_body bs) None
     go true = more (b == 45)
     go false = refl
 
@@ -107,14 +108,22 @@ pub neither : (a b : Bool) → (a || b) ≡ false → (a ≡ false) × (b ≡ fa
 neither true b e = absurd (true≢false e)
 neither false b e = (refl, e)
 
-pub at_new : (id : Text) (change : Row → List Row) (missing : List Row) (rows : List Row) → has_row id rows ≡ false → at_row id change missing rows ≡ rows ++ missing
+pub at_new : (id : Text) (change : Row → List Row) (missing : List Row) (rows : List Row) → has_row id rows ≡ false
+    → at_row id change missing rows ≡ rows ++ missing
 at_new id change missing [] none = refl
 at_new id change missing (r ∷ rs) none =
     let e = neither (bytes_eq r.id id) _ none in
     rw e.0 (ap (λ xs. r ∷ xs) (at_new id change missing rs e.1))
 
 pub set_new : (id : Text) (how : Reading) (v : Text) (rows : List Row) → has_row id rows ≡ false
-    → with_values id how CommandLine (v ∷ []) (without id rows) ≡ rows ++ record { id = id; values = v ∷ []; count = None; source = Some CommandLine; reading = how } ∷ []
+    → with_values id how CommandLine (v ∷ []) (without id rows) ≡ rows ++ record {
+      id = id;
+      values = v ∷ [];
+      count = None;
+      source = Some CommandLine;
+      reading =
+          how;
+    } ∷ []
 set_new id how v rows none =
     let kept : without id rows ≡ rows = at_new id (λ _. []) [] rows none ∙ append-nil rows in
     ap (with_values id how CommandLine (v ∷ [])) kept ∙ at_new id (more_values CommandLine (v ∷ [])) _ rows none
@@ -132,7 +141,8 @@ pub bytes_same : (xs : Text) → bytes_eq xs xs ≡ true
 bytes_same xs = (bytes_eq-Decides xs xs).1 refl
 
 pub has_name : (os : List Opt) (name : Text) (o : Opt) → opt_named os name ≡ Some o → opt_named os o.name ≡ Some o
-has_name os name o e = let same : o.name ≡ name = (bytes_eq-Decides o.name name).0 (find_passes (λ x. bytes_eq x.name name) os o e) in ap (opt_named os) same ∙ e
+has_name os name o e = let same : o.name ≡ name = (bytes_eq-Decides o.name name).0 (find_passes (λ x. bytes_eq x.name name) os o e) in ap (opt_named os) same
+    ∙ e
 
 pub none_some : {X : Type 0} (x : X) → None ≡ Some x → ⊥
 none_some x e = true≢false (sym (ap is_some e))
@@ -159,7 +169,8 @@ module _ (s : Shape) (os : List Opt) (plain : s.args_override_self ≡ false) (r
   -- where the walk stands, against what the line's reader has
   abbrev Related : List Given → Option Opt → Held → Type 0
   Related given None h = (settle_passes s.rules false h ≡ true) × ((settled s.rules h).rows ≡ map row_for given)
-  Related given (Some o) h = (h.rows ≡ map row_for given) × (h.pending ≡ Some (o.name, [])) × (opt_named os o.name ≡ Some o) × (o.is_flag ≡ false) × (is_given given o.name ≡ false)
+  Related given (Some o) h = (h.rows ≡ map row_for given) × (h.pending ≡ Some (o.name, [])) × (opt_named os o.name ≡ Some o) × (o.is_flag ≡ false)
+      × (is_given given o.name ≡ false)
 
   abbrev Steps : Option Opt → Held → Text → Read → Type 0
   Steps pending h word r = (turn_passes s [] (at h (waiting_for pending)) word ≡ true)
@@ -175,11 +186,13 @@ module _ (s : Shape) (os : List Opt) (plain : s.args_override_self ≡ false) (r
   abbrev taken : Held → Opt → Text → Held
   taken h o v = record { rows = (settled s.rules h).rows ++ row_for (given_of o v) ∷ []; pending = None; skip = h.skip }
 
-  none_yet : (given : List Given) (h : Held) (o : Opt) → (settled s.rules h).rows ≡ map row_for given → is_given given o.name ≡ false → has_row o.name (settled s.rules h).rows ≡ false
+  none_yet : (given : List Given) (h : Held) (o : Opt) → (settled s.rules h).rows ≡ map row_for given → is_given given o.name ≡ false
+      → has_row o.name (settled s.rules h).rows ≡ false
   none_yet given h o rows new = ap (has_row o.name) rows ∙ has_row_is given o.name ∙ new
 
   -- `--name=value`
-  both_step : (given : List Given) (h : Held) (word name v : Text) (o : Opt) → Related given None h → split word ≡ Some (name, Some v) → opt_named os name ≡ Some o
+  both_step : (given : List Given) (h : Held) (word name v : Text) (o : Opt) → Related given None h → split word ≡ Some (name, Some v)
+      → opt_named os name ≡ Some o
       → o.is_flag ≡ false → is_given given o.name ≡ false → Steps None h word (add given o v)
   unfolding walked
   both_step given h word name v o rel parts found valued new =
@@ -229,7 +242,8 @@ module _ (s : Shape) (os : List Opt) (plain : s.args_override_self ≡ false) (r
       )
 
   -- the value that follows
-  value_step : (given : List Given) (h : Held) (word : Text) (o : Opt) → Related given (Some o) h → has_dash word ≡ false → Steps (Some o) h word (add given o word)
+  value_step : (given : List Given) (h : Held) (word : Text) (o : Opt) → Related given (Some o) h → has_dash word ≡ false
+      → Steps (Some o) h word (add given o word)
   unfolding walked
   value_step given h word o rel dash =
       let p = plain_word_is word dash in
@@ -243,22 +257,28 @@ module _ (s : Shape) (os : List Opt) (plain : s.args_override_self ≡ false) (r
         ),
       )
 
-  one_step : (given : List Given) (pending : Option Opt) (h : Held) (word : Text) (r : Read) → Related given pending h → with_word os given pending word ≡ Some r → Steps pending h word r
+  one_step : (given : List Given) (pending : Option Opt) (h : Held) (word : Text) (r : Read) → Related given pending h
+      → with_word os given pending word ≡ Some r → Steps pending h word r
   one_step given None h word r rel e = by_split (split word) refl e
     where
-      by_part : (name : Text) (v : Option Text) (o : Opt) (b : Bool) → split word ≡ Some (name, v) → opt_named os name ≡ Some o → is_given given o.name ≡ false → o.is_flag ≡ b
+      by_part : (name : Text) (v : Option Text) (o : Opt) (b : Bool) → split word ≡ Some (name, v) → opt_named os name ≡ Some o → is_given given o.name ≡ false
+          → o.is_flag ≡ b
           → with_part_by given b o v ≡ Some r → Steps None h word r
-      by_part name None o true parts found new flag e = subst (Steps None h word) (ap (λ x. unwrap_or x r) e) (flag_step given h word name o rel parts found flag new)
-      by_part name None o false parts found new flag e = subst (Steps None h word) (ap (λ x. unwrap_or x r) e) (name_step given h word name o rel parts found flag new)
+      by_part name None o true parts found new flag e = subst (Steps None h word) (ap (λ x. unwrap_or x r) e)
+          (flag_step given h word name o rel parts found flag new)
+      by_part name None o false parts found new flag e = subst (Steps None h word) (ap (λ x. unwrap_or x r) e)
+          (name_step given h word name o rel parts found flag new)
       by_part name (Some v) o true parts found new flag e = absurd (none_some r e)
-      by_part name (Some v) o false parts found new flag e = subst (Steps None h word) (ap (λ x. unwrap_or x r) e) (both_step given h word name v o rel parts found flag new)
+      by_part name (Some v) o false parts found new flag e =
+          subst (Steps None h word) (ap (λ x. unwrap_or x r) e) (both_step given h word name v o rel parts found flag new)
 
       by_new : (name : Text) (v : Option Text) (o : Opt) (b : Bool) → split word ≡ Some (name, v) → opt_named os name ≡ Some o → is_given given o.name ≡ b
           → cond b None (with_part given o v) ≡ Some r → Steps None h word r
       by_new name v o true parts found new e = absurd (none_some r e)
       by_new name v o false parts found new e = by_part name v o o.is_flag parts found new refl (by_flag given o v ∙ e)
 
-      by_opt : (name : Text) (v : Option Text) (o : Option Opt) → split word ≡ Some (name, v) → opt_named os name ≡ o → with_opt given o v ≡ Some r → Steps None h word r
+      by_opt : (name : Text) (v : Option Text) (o : Option Opt) → split word ≡ Some (name, v) → opt_named os name ≡ o → with_opt given o v ≡ Some r
+          → Steps None h word r
       by_opt name v None parts found e = absurd (none_some r e)
       by_opt name v (Some o) parts found e = by_new name v o (is_given given o.name) parts found refl e
 
@@ -276,15 +296,18 @@ module _ (s : Shape) (os : List Opt) (plain : s.args_override_self ≡ false) (r
   Ends w words final = (walk_passes s [] w words ≡ true) × (settle_passes s.rules false (fold (walked s.rules []) w words).held ≡ true)
       × ((settled s.rules (fold (walked s.rules []) w words).held).rows ≡ map row_for final)
 
-  pub passes : (given : List Given) (pending : Option Opt) (h : Held) (words : List Text) (final : List Given) → Related given pending h → options_of os given pending words ≡ Some final
+  pub passes : (given : List Given) (pending : Option Opt) (h : Held) (words : List Text) (final : List Given) → Related given pending h
+      → options_of os given pending words ≡ Some final
       → Ends (at h (waiting_for pending)) words final
   unfolding walk_passes
   passes given None h [] final rel e = (refl, rel.0, rel.1 ∙ ap (λ x. map row_for (unwrap_or x final)) e)
   passes given (Some o) h [] final rel e = absurd (none_some final e)
-  passes given pending h (word ∷ words) final rel e = go (with_word os given pending word) refl e (λ r after rel2 e2. passes r.given r.pending after words final rel2 e2)
+  passes given pending h (word ∷ words) final rel e = go (with_word os given pending word) refl e
+      (λ r after rel2 e2. passes r.given r.pending after words final rel2 e2)
     where
       go : (o : Option Read) → with_word os given pending word ≡ o → option_and_then (λ r. options_of os r.given r.pending words) o ≡ Some final
-          → ((r : Read) (after : Held) → Related r.given r.pending after → options_of os r.given r.pending words ≡ Some final → Ends (at after (waiting_for r.pending)) words final)
+          → ((r : Read) (after : Held) → Related r.given r.pending after → options_of os r.given r.pending words ≡ Some final
+          → Ends (at after (waiting_for r.pending)) words final)
           → Ends (at h (waiting_for pending)) (word ∷ words) final
       go None is e more = absurd (none_some final e)
       go (Some r) is e more =
@@ -322,7 +345,8 @@ leaf_passes name c words final e =
     let rules_are : s.rules ≡ map built_rule c.options = filled_is 1 c.options in
     let p = passes s c.options refl rules_are [] None nothing_held words final (refl, refl) e in
     let valid : (rows : List Row) → is_valid s rows false ≡ true = λ rows.
-    rw (rules_are, all_true (λ a. a.is_free) built_rule c.options (λ o. refl)) (all_true (λ a. not a.required || is_present a.id rows) built_rule c.options (λ o. refl)) in (
+    rw (rules_are, all_true (λ a. a.is_free) built_rule c.options (λ o. refl))
+    (all_true (λ a. not a.required || is_present a.id rows) built_rule c.options (λ o. refl)) in (
       rw (p.0, p.1, ap (list_all default_passes) rules_are, defaults_pass c.options) (valid _),
       ap₂ (λ rs c. fold with_default rs c) p.2 rules_are,
     )
@@ -352,14 +376,16 @@ stays_found [] name rows r e = e
 stays_found (o ∷ os) name rows r e =
     let more = if has_row o.name rows then [] else extra o.is_flag o in
     let next : find (λ x. bytes_eq x.id name) (with_default rows (built_rule o)) ≡ Some r =
-    ap (find (λ x. bytes_eq x.id name)) (with_default_is rows o (has_row o.name rows) o.is_flag refl refl) ∙ find-append (λ x. bytes_eq x.id name) rows more ∙ ap (λ f. option_or f (find (λ x. bytes_eq x.id name) more)) e in
+    ap (find (λ x. bytes_eq x.id name)) (with_default_is rows o (has_row o.name rows) o.is_flag refl refl) ∙ find-append (λ x. bytes_eq x.id name) rows more
+    ∙ ap (λ f. option_or f (find (λ x. bytes_eq x.id name) more)) e in
     stays_found os name (with_default rows (built_rule o)) r next
 
 no_row_named : (name : Text) (rows : List Row) → find (λ x. bytes_eq x.id name) rows ≡ None → has_row name rows ≡ false
 no_row_named name [] e = refl
 no_row_named name (r ∷ rows) e = go (bytes_eq r.id name) e (no_row_named name rows)
   where
-    go : (b : Bool) → cond b (Some r) (find (λ x. bytes_eq x.id name) rows) ≡ None → (find (λ x. bytes_eq x.id name) rows ≡ None → has_row name rows ≡ false) → (b || has_row name rows) ≡ false
+    go : (b : Bool) → cond b (Some r) (find (λ x. bytes_eq x.id name) rows) ≡ None → (find (λ x. bytes_eq x.id name) rows ≡ None → has_row name rows ≡ false)
+        → (b || has_row name rows) ≡ false
     go true e more = absurd (none_some r (sym e))
     go false e more = more e
 
@@ -373,23 +399,27 @@ default_text [] name rows e = ap (option_and_then (λ r. slice_get r.values 0)) 
 default_text (o ∷ os) name rows e = go (bytes_eq o.name name) o.is_flag refl refl (λ next. default_text os name (with_default rows (built_rule o)) next)
   where
     go : (same flag : Bool) → bytes_eq o.name name ≡ same → o.is_flag ≡ flag
-        → (find (λ x. bytes_eq x.id name) (with_default rows (built_rule o)) ≡ None → first_of name (fold with_default (with_default rows (built_rule o)) (map built_rule os)) ≡ off (is_flag_of os name))
+        → (find (λ x. bytes_eq x.id name) (with_default rows (built_rule o)) ≡ None
+        → first_of name (fold with_default (with_default rows (built_rule o)) (map built_rule os)) ≡ off (is_flag_of os name))
         → first_of name (fold with_default (with_default rows (built_rule o)) (map built_rule os)) ≡ off ((same && flag) || is_flag_of os name)
     go true true s f more =
         let name_is : o.name ≡ name = (bytes_eq-Decides o.name name).0 s in
         let none : has_row o.name rows ≡ false = ap (λ n. has_row n rows) name_is ∙ no_row_named name rows e in
         let here : find (λ x. bytes_eq x.id name) (default_row o ∷ []) ≡ Some (default_row o) = rw s refl in
         let next : find (λ x. bytes_eq x.id name) (with_default rows (built_rule o)) ≡ Some (default_row o) =
-        ap (find (λ x. bytes_eq x.id name)) (with_default_is rows o false true none f) ∙ find-append (λ x. bytes_eq x.id name) rows (default_row o ∷ []) ∙ ap₂ option_or e here in
+        ap (find (λ x. bytes_eq x.id name)) (with_default_is rows o false true none f) ∙ find-append (λ x. bytes_eq x.id name) rows (default_row o ∷ [])
+        ∙ ap₂ option_or e here in
         ap (option_and_then (λ r. slice_get r.values 0)) (stays_found os name (with_default rows (built_rule o)) (default_row o) next)
     go true false s f more =
-        more (ap (find (λ x. bytes_eq x.id name)) (with_default_is rows o (has_row o.name rows) false refl f) ∙ find-append (λ x. bytes_eq x.id name) rows _ ∙ ap₂ option_or e (nothing (has_row o.name rows)))
+        more (ap (find (λ x. bytes_eq x.id name)) (with_default_is rows o (has_row o.name rows) false refl f) ∙ find-append (λ x. bytes_eq x.id name) rows _
+        ∙ ap₂ option_or e (nothing (has_row o.name rows)))
       where
         nothing : (b : Bool) → find (λ x. bytes_eq x.id name) (if b then [] else extra false o) ≡ None
         nothing true = refl
         nothing false = refl
     go false flag s f more =
-        more (ap (find (λ x. bytes_eq x.id name)) (with_default_is rows o (has_row o.name rows) flag refl f) ∙ find-append (λ x. bytes_eq x.id name) rows _ ∙ ap₂ option_or e (nothing (has_row o.name rows) flag))
+        more (ap (find (λ x. bytes_eq x.id name)) (with_default_is rows o (has_row o.name rows) flag refl f) ∙ find-append (λ x. bytes_eq x.id name) rows _
+        ∙ ap₂ option_or e (nothing (has_row o.name rows) flag))
       where
         nothing : (b c : Bool) → find (λ x. bytes_eq x.id name) (if b then [] else extra c o) ≡ None
         nothing true c = refl
@@ -404,8 +434,10 @@ texts_are c given name = go (find (λ g. bytes_eq g.opt.name name) given) refl
     rows_find : find (λ r. bytes_eq r.id name) (map row_for given) ≡ option_map row_for (find (λ g. bytes_eq g.opt.name name) given)
     rows_find = sym (find-map (λ (r : Row). bytes_eq r.id name) row_for given)
 
-    go : (o : Option Given) → find (λ g. bytes_eq g.opt.name name) given ≡ o → first_of name (fold with_default (map row_for given) (map built_rule c.options)) ≡ text_by c.options name o
-    go (Some g) e = ap (option_and_then (λ r. slice_get r.values 0)) (stays_found c.options name (map row_for given) (row_for g) (rows_find ∙ ap (option_map row_for) e))
+    go : (o : Option Given) → find (λ g. bytes_eq g.opt.name name) given ≡ o
+        → first_of name (fold with_default (map row_for given) (map built_rule c.options)) ≡ text_by c.options name o
+    go (Some g) e = ap (option_and_then (λ r. slice_get r.values 0))
+        (stays_found c.options name (map row_for given) (row_for g) (rows_find ∙ ap (option_map row_for) e))
     go None e = default_text c.options name (map row_for given) (rows_find ∙ ap (option_map row_for) e)
 
 -- ---- the whole line
@@ -416,7 +448,10 @@ top_stopped s names w p [] e = refl
 top_stopped s names w p (word ∷ words) e =
     let next : (walked s.rules names w word).stopped ≡ Some (p.0, p.1 ++ word ∷ []) = rw e refl in
     let rest = top_stopped s names (walked s.rules names w word) _ words next in
-    ap (λ b. b && walk_passes s names (walked s.rules names w word) words) (ap (λ o. is_some o || (word_passes s names w.is_trailing w.waiting word w.held && step_passes s w.position (word_met s.rules names w.is_trailing w.waiting w.position word w.held).0 (word_met s.rules names w.is_trailing w.waiting w.position word w.held).1)) e) ∙ rest
+    ap (λ b. b && walk_passes s names (walked s.rules names w word) words)
+    (ap (λ o. is_some o || (word_passes s names w.is_trailing w.waiting word w.held && step_passes s w.position
+    (word_met s.rules names w.is_trailing w.waiting w.position word w.held).0 (word_met s.rules names w.is_trailing w.waiting w.position word w.held).1))
+    e) ∙ rest
 
 none_true : {X Y : Type 0} (p : Y → Bool) (f : X → Y) (xs : List X) → ((x : X) → p (f x) ≡ false) → list_any p (map f xs) ≡ false
 none_true p f [] each = refl
@@ -431,21 +466,26 @@ module _ (name : Text) where
   leaves_are [] = refl
   leaves_are (c ∷ cs) = ap (λ xs. leaf name c ∷ xs) (leaves_are cs)
 
-  find_label : (word : Text) (cs : List Cmd) → find (answers_to word) (map label_of (map (leaf name) cs)) ≡ option_map (λ (c : Cmd). (c.name, [])) (find (λ c. bytes_eq c.name word) cs)
+  find_label : (word : Text) (cs : List Cmd) → find (answers_to word) (map label_of (map (leaf name) cs)) ≡ option_map (λ (c : Cmd). (c.name, []))
+      (find (λ c. bytes_eq c.name word) cs)
   find_label word [] = refl
   find_label word (c ∷ cs) = go (bytes_eq c.name word) (find_label word cs)
     where
-      go : (b : Bool) → find (answers_to word) (map label_of (map (leaf name) cs)) ≡ option_map (λ (x : Cmd). (x.name, [])) (find (λ x. bytes_eq x.name word) cs)
-          → cond (b || false) (Some (c.name, [])) (find (answers_to word) (map label_of (map (leaf name) cs))) ≡ option_map (λ (x : Cmd). (x.name, [])) (cond b (Some c) (find (λ x. bytes_eq x.name word) cs))
+      go : (b : Bool) → find (answers_to word) (map label_of (map (leaf name) cs)) ≡ option_map (λ (x : Cmd). (x.name, []))
+          (find (λ x. bytes_eq x.name word) cs)
+          → cond (b || false) (Some (c.name, [])) (find (answers_to word) (map label_of (map (leaf name) cs))) ≡ option_map (λ (x : Cmd). (x.name, []))
+          (cond b (Some c) (find (λ x. bytes_eq x.name word) cs))
       go true e = refl
       go false e = e
 
-  find_leaf : (word : Text) (cs : List Cmd) → find (λ s. answers_to word (label_of s)) (map (leaf name) cs) ≡ option_map (leaf name) (find (λ c. bytes_eq c.name word) cs)
+  find_leaf : (word : Text) (cs : List Cmd) → find (λ s. answers_to word (label_of s)) (map (leaf name) cs) ≡ option_map (leaf name)
+      (find (λ c. bytes_eq c.name word) cs)
   find_leaf word [] = refl
   find_leaf word (c ∷ cs) = go (bytes_eq c.name word) (find_leaf word cs)
     where
       go : (b : Bool) → find (λ s. answers_to word (label_of s)) (map (leaf name) cs) ≡ option_map (leaf name) (find (λ x. bytes_eq x.name word) cs)
-          → cond (b || false) (Some (leaf name c)) (find (λ s. answers_to word (label_of s)) (map (leaf name) cs)) ≡ option_map (leaf name) (cond b (Some c) (find (λ x. bytes_eq x.name word) cs))
+          → cond (b || false) (Some (leaf name c)) (find (λ s. answers_to word (label_of s)) (map (leaf name) cs)) ≡ option_map (leaf name)
+          (cond b (Some c) (find (λ x. bytes_eq x.name word) cs))
       go true e = refl
       go false e = e
 
@@ -474,10 +514,12 @@ module _ (name : Text) where
     turned = rw met refl
 
     walk_is : walk [] (names_of (whole cmds)) nothing_held (word ∷ rest) ≡ record (at nothing_held idle) { stopped = Some (cmd.name, rest) }
-    walk_is = ap (λ w. fold (walked [] (names_of (whole cmds))) w rest) turned ∙ sym (walk_stopped [] (names_of (whole cmds)) (at nothing_held idle) cmd.name [] rest)
+    walk_is = ap (λ w. fold (walked [] (names_of (whole cmds))) w rest) turned
+        ∙ sym (walk_stopped [] (names_of (whole cmds)) (at nothing_held idle) cmd.name [] rest)
 
     again : find (λ c. bytes_eq c.name cmd.name) cmds ≡ Some cmd
-    again = let same : cmd.name ≡ word = (bytes_eq-Decides cmd.name word).0 (find_passes (λ c. bytes_eq c.name word) cmds cmd found) in ap (λ n. find (λ c. bytes_eq c.name n) cmds) same ∙ found
+    again = let same : cmd.name ≡ word = (bytes_eq-Decides cmd.name word).0 (find_passes (λ c. bytes_eq c.name word) cmds cmd found) in
+        ap (λ n. find (λ c. bytes_eq c.name n) cmds) same ∙ found
 
     enters : find (λ s. answers_to cmd.name (label_of s)) (map (leaf name) cmds) ≡ Some (leaf name cmd)
     enters = find_leaf cmd.name cmds ∙ ap (option_map (leaf name)) again
@@ -486,7 +528,8 @@ module _ (name : Text) where
     unfolding walk_passes
     top_passes =
         let turn : turn_passes (whole cmds).top (names_of (whole cmds)) (at nothing_held idle) word ≡ true = rw (met, or_yes) refl in
-        rw (turn, turned) (top_stopped (whole cmds).top (names_of (whole cmds)) (record (at nothing_held idle) { stopped = Some (cmd.name, []) }) (cmd.name, []) rest refl)
+        rw (turn, turned) (top_stopped (whole cmds).top (names_of (whole cmds)) (record (at nothing_held idle) { stopped = Some (cmd.name, []) })
+        (cmd.name, []) rest refl)
 
     pub taken_as : (given : List Given) → options_of cmd.options [] None rest ≡ Some given
         → (takes (app_for name cmds) (word ∷ rest) ≡ true)
@@ -514,7 +557,8 @@ module _ (name : Text) where
   line_is_taken cmds [] l e = absurd (none_some l e)
   line_is_taken cmds (word ∷ rest) l e = by_cmd (find (λ c. bytes_eq c.name word) cmds) refl e
     where
-      by_given : (cmd : Cmd) (o : Option (List Given)) → find (λ c. bytes_eq c.name word) cmds ≡ Some cmd → options_of cmd.options [] None rest ≡ o → with_options cmd o ≡ Some l → Taken cmds (word ∷ rest) l
+      by_given : (cmd : Cmd) (o : Option (List Given)) → find (λ c. bytes_eq c.name word) cmds ≡ Some cmd → options_of cmd.options [] None rest ≡ o
+          → with_options cmd o ≡ Some l → Taken cmds (word ∷ rest) l
       by_given cmd None found is e = absurd (none_some l e)
       by_given cmd (Some given) found is e = subst (Taken cmds (word ∷ rest)) (ap (λ x. unwrap_or x l) e) (taken_as cmds cmd word rest found given is)
 

@@ -22,12 +22,14 @@ module _ (words : List ℕ) (n w r : ℕ) (long : length words ≡ 2 * n) where
   even : slice_index ((words ++ w ∷ []) ++ r ∷ []) (2 * n) ≡ w
   even =
       let place : 2 * n ≡ length words + 0 = omega arith in
-      ap (λ l. slice_index l (2 * n)) (append_assoc words (w ∷ []) (r ∷ [])) ∙ ap (slice_index (words ++ w ∷ r ∷ [])) place ∙ get_or-append-add words (w ∷ r ∷ []) 0 0
+      ap (λ l. slice_index l (2 * n)) (append_assoc words (w ∷ []) (r ∷ [])) ∙ ap (slice_index (words ++ w ∷ r ∷ [])) place
+      ∙ get_or-append-add words (w ∷ r ∷ []) 0 0
 
   odd : slice_index ((words ++ w ∷ []) ++ r ∷ []) (2 * n + 1) ≡ r
   odd =
       let place : 2 * n + 1 ≡ length words + 1 = omega arith in
-      ap (λ l. slice_index l (2 * n + 1)) (append_assoc words (w ∷ []) (r ∷ [])) ∙ ap (slice_index (words ++ w ∷ r ∷ [])) place ∙ get_or-append-add words (w ∷ r ∷ []) 1 0
+      ap (λ l. slice_index l (2 * n + 1)) (append_assoc words (w ∷ []) (r ∷ [])) ∙ ap (slice_index (words ++ w ∷ r ∷ [])) place
+      ∙ get_or-append-add words (w ∷ r ∷ []) 1 0
 
 pub laid_more : (tag : ℕ) (reads writes : List (List ℕ)) (words : List ℕ) (n w r : ℕ) → IsLaid tag reads writes words n
     → tid_under tag w ≡ least (λ list. is_among nat_cmp list n) writes → tid_under tag r ≡ least (λ list. is_among nat_cmp list n) reads
@@ -37,14 +39,17 @@ laid_more tag reads writes words n w r laid is_w is_r = record {
   writers = λ key below. elim (cases_lt key n) [
     | inl lt ↦ ap (tid_under tag) (before words n w r laid.long (2 * key) (let long = laid.long in omega (arith, long, lt))) ∙ laid.writers key lt
     | inr ge ↦ let e : key ≡ n = omega (arith, below, ge) in
-        subst (λ k. tid_under tag (slice_index ((words ++ w ∷ []) ++ r ∷ []) (2 * k)) ≡ least (λ list. is_among nat_cmp list k) writes) (sym e) (ap (tid_under tag) (even words n w r laid.long) ∙ is_w)
+        subst (λ k. tid_under tag (slice_index ((words ++ w ∷ []) ++ r ∷ []) (2 * k)) ≡ least (λ list. is_among nat_cmp list k) writes) (sym e)
+        (ap (tid_under tag) (even words n w r laid.long) ∙ is_w)
   ];
   readers = λ key below. elim (cases_lt key n) [
     | inl lt ↦ ap (tid_under tag) (before words n w r laid.long (2 * key + 1) (let long = laid.long in omega (arith, long, lt))) ∙ laid.readers key lt
     | inr ge ↦ let e : key ≡ n = omega (arith, below, ge) in
-        subst (λ k. tid_under tag (slice_index ((words ++ w ∷ []) ++ r ∷ []) (2 * k + 1)) ≡ least (λ list. is_among nat_cmp list k) reads) (sym e) (ap (tid_under tag) (odd words n w r laid.long) ∙ is_r)
+        subst (λ k. tid_under tag (slice_index ((words ++ w ∷ []) ++ r ∷ []) (2 * k + 1)) ≡ least (λ list. is_among nat_cmp list k) reads) (sym e)
+        (ap (tid_under tag) (odd words n w r laid.long) ∙ is_r)
   ];
 }
 
-pub laid_tells : (tag keys : ℕ) (reads writes : List (List ℕ)) (words : List ℕ) → IsLaid tag reads writes words keys → Tell (record { reads = reads; writes = writes; keys = keys }) tag words
+pub laid_tells : (tag keys : ℕ) (reads writes : List (List ℕ)) (words : List ℕ) → IsLaid tag reads writes words keys
+    → Tell (record { reads = reads; writes = writes; keys = keys }) tag words
 laid_tells tag keys reads writes words laid = record { two_a_key = laid.long; writers = laid.writers; readers = laid.readers }

@@ -26,22 +26,32 @@ at_least_less i (Some j) h = omega arith
 none_earlier : (tid : ℕ) (r : Option ℕ) → AtLeast tid r → earlier_only tid r ≡ None
 unfolding AtLeast
 none_earlier tid None h = refl
-none_earlier tid (Some j) h = elim (nat_lt j tid) as (λ b. nat_lt j tid ≡ b → cond b (Some j) None ≡ None) [ true ↦ λ e. let lt = ltb-true j tid e in absurd (omega arith) | false ↦ λ e. refl ] refl
+none_earlier tid (Some j) h = elim (nat_lt j tid) as (λ b. nat_lt j tid ≡ b → cond b (Some j) None ≡ None) [
+  | true ↦ λ e. let lt = ltb-true j tid e in
+      absurd (omega arith)
+  | false ↦ λ e. refl
+] refl
 
 module _ {S : Type 0} (holds : S → Bool) where
   first_at_least : (i : ℕ) (xs : List S) → AtLeast i (position_from holds i xs)
   unfolding AtLeast
   first_at_least i [] = tt
-  first_at_least i (x ∷ xs) = elim (holds x) as (λ b. AtLeast i (cond b (Some i) (position_from holds (i + 1) xs))) [ true ↦ (let e : i ≤ i = omega arith in e) | false ↦ at_least_less i _ (first_at_least (i + 1) xs) ]
+  first_at_least i (x ∷ xs) = elim (holds x) as (λ b. AtLeast i (cond b (Some i) (position_from holds (i + 1) xs))) [
+    | true ↦
+        (let e : i ≤ i = omega arith in e)
+    | false ↦ at_least_less i _ (first_at_least (i + 1) xs)
+  ]
 
   -- among the places below i + n it is the first one among the first n items
   earlier_first : (i n : ℕ) (xs : List S) → earlier_only (i + n) (position_from holds i xs) ≡ position_from holds i (take n xs)
-  earlier_first i zero xs = let e : i ≡ i + 0 = omega arith in ap (λ t. earlier_only t (position_from holds i xs)) (sym e) ∙ none_earlier i _ (first_at_least i xs)
+  earlier_first i zero xs = let e : i ≡ i + 0 = omega arith in ap (λ t. earlier_only t (position_from holds i xs)) (sym e)
+      ∙ none_earlier i _ (first_at_least i xs)
   earlier_first i (suc n) [] = refl
-  earlier_first i (suc n) (x ∷ xs) = elim (holds x) as (λ b. earlier_only (i + suc n) (cond b (Some i) (position_from holds (i + 1) xs)) ≡ cond b (Some i) (position_from holds (i + 1) (take n xs))) [
-    | true ↦ ap (λ b. cond b (Some i) None) (lt-ltb i (i + suc n) (omega arith))
-    | false ↦ let e : i + suc n ≡ i + 1 + n = omega arith in ap (λ t. earlier_only t (position_from holds (i + 1) xs)) e ∙ earlier_first (i + 1) n xs
-  ]
+  earlier_first i (suc n) (x ∷ xs) = elim (holds x) as (λ b. earlier_only (i + suc n) (cond b (Some i) (position_from holds (i + 1) xs)) ≡ cond b (Some i)
+      (position_from holds (i + 1) (take n xs))) [
+        | true ↦ ap (λ b. cond b (Some i) None) (lt-ltb i (i + suc n) (omega arith))
+        | false ↦ let e : i + suc n ≡ i + 1 + n = omega arith in ap (λ t. earlier_only t (position_from holds (i + 1) xs)) e ∙ earlier_first (i + 1) n xs
+      ]
 
 -- ---- of two tests, and of none
 
@@ -68,13 +78,16 @@ lesser_joined (Some t) (Some u) (Some v) = ap Some (omega arith)
 module _ {S : Type 0} (a b : S → Bool) where
   first_either : (i : ℕ) (xs : List S) → position_from (λ x. a x || b x) i xs ≡ lesser (position_from a i xs) (position_from b i xs)
   first_either i [] = refl
-  first_either i (x ∷ xs) = elim (a x) as (λ p. cond (p || b x) (Some i) (position_from (λ x. a x || b x) (i + 1) xs) ≡ lesser (cond p (Some i) (position_from a (i + 1) xs)) (cond (b x) (Some i) (position_from b (i + 1) xs))) [
-    | true ↦ sym (lesser_own i _ (first_at_least b i (x ∷ xs)))
-    | false ↦ elim (b x) as (λ q. cond q (Some i) (position_from (λ x. a x || b x) (i + 1) xs) ≡ lesser (position_from a (i + 1) xs) (cond q (Some i) (position_from b (i + 1) xs))) [
-      | true ↦ sym (lesser_turned i _ (at_least_less i _ (first_at_least a (i + 1) xs)))
-      | false ↦ first_either (i + 1) xs
-    ]
-  ]
+  first_either i (x ∷ xs) =
+      elim (a x) as (λ p. cond (p || b x) (Some i) (position_from (λ x. a x || b x) (i + 1) xs) ≡ lesser (cond p (Some i) (position_from a (i + 1) xs))
+      (cond (b x) (Some i) (position_from b (i + 1) xs))) [
+        | true ↦ sym (lesser_own i _ (first_at_least b i (x ∷ xs)))
+        | false ↦ elim (b x) as (λ q. cond q (Some i) (position_from (λ x. a x || b x) (i + 1) xs) ≡ lesser (position_from a (i + 1) xs)
+            (cond q (Some i) (position_from b (i + 1) xs))) [
+              | true ↦ sym (lesser_turned i _ (at_least_less i _ (first_at_least a (i + 1) xs)))
+              | false ↦ first_either (i + 1) xs
+            ]
+      ]
 
 first_never : {S : Type 0} (i : ℕ) (xs : List S) → position_from (λ x. false) i xs ≡ None
 first_never i [] = refl
@@ -88,13 +101,15 @@ module _ (f : ℕ → Option ℕ) (lists : List (List ℕ)) where
 
   least_meets : (best : Option ℕ) (keys : List ℕ) → All Tells keys → least_of f best keys ≡ lesser best (least (meets nat_cmp keys) lists)
   least_meets best [] a = sym (ap (lesser best) (first_never 1 lists) ∙ lesser_none best)
-  least_meets best (key ∷ keys) a = least_meets (lesser best (f key)) keys (All-tail Tells key keys a) ∙ lesser_joined best (f key) (least (meets nat_cmp keys) lists)
+  least_meets best (key ∷ keys) a = least_meets (lesser best (f key)) keys (All-tail Tells key keys a)
+      ∙ lesser_joined best (f key) (least (meets nat_cmp keys) lists)
       ∙ ap (λ r. lesser best (lesser r (least (meets nat_cmp keys) lists))) (All-head Tells key keys a)
       ∙ ap (lesser best) (sym (first_either (λ list. is_among nat_cmp list key) (meets nat_cmp keys) 1 lists))
 
 -- the first place as a test of numbers from i on finds it, where the items behind the last one fail
 module _ {S : Type 0} (test : S → Bool) (none : S) (fails : test none ≡ false) where
-  first_numbered : (holds : ℕ → Bool) (i n : ℕ) (xs : List S) → ((k : ℕ) → holds (i + k) ≡ test (get_or xs k none)) → position_from holds i (range_with_len i n) ≡ position_from test i (take n xs)
+  first_numbered : (holds : ℕ → Bool) (i n : ℕ) (xs : List S) → ((k : ℕ) → holds (i + k) ≡ test (get_or xs k none))
+      → position_from holds i (range_with_len i n) ≡ position_from test i (take n xs)
   first_numbered holds i zero xs same = refl
   first_numbered holds i (suc n) [] same =
       let here : holds i ≡ false = let e : i ≡ i + 0 = omega arith in ap holds e ∙ same 0 ∙ fails in
@@ -115,7 +130,8 @@ meets_none (key ∷ keys) = meets_none keys
 
 -- one side of a batch, by its lists and by their TIDs
 module _ (lists : List (List ℕ)) (tid : ℕ) (first : 1 ≤ tid) where
-  by_tids : (keys : List ℕ) → least (meets nat_cmp keys) (take (tid - 1) lists) ≡ least (λ t. meets nat_cmp keys (slice_index_or lists (t - 1) [])) (tids_before tid)
+  by_tids : (keys : List ℕ) → least (meets nat_cmp keys) (take (tid - 1) lists) ≡ least (λ t. meets nat_cmp keys (slice_index_or lists (t - 1) []))
+      (tids_before tid)
   by_tids keys = sym (first_numbered (meets nat_cmp keys) [] (meets_none keys) (λ t. meets nat_cmp keys (slice_index_or lists (t - 1) [])) 1 (tid - 1) lists
       (λ k. let place : 1 + k - 1 ≡ k = omega arith in ap (λ n. meets nat_cmp keys (slice_index_or lists n [])) place))
 
@@ -125,14 +141,17 @@ module _ (lists : List (List ℕ)) (tid : ℕ) (first : 1 ≤ tid) where
   least_told f keys a =
       let e : tid ≡ 1 + (tid - 1) = omega arith in
       least_meets f (take (tid - 1) lists) None keys (λ k d below. a k d below
-      ∙ ap (λ t. earlier_only t (least (λ list. is_among nat_cmp list (get_or keys k d)) lists)) e ∙ earlier_first (λ list. is_among nat_cmp list (get_or keys k d)) 1 (tid - 1) lists)
+      ∙ ap (λ t. earlier_only t (least (λ list. is_among nat_cmp list (get_or keys k d)) lists)) e
+      ∙ earlier_first (λ list. is_among nat_cmp list (get_or keys k d)) 1 (tid - 1) lists)
       ∙ by_tids keys
 
 module _ (sheet : Sheet) (tag : ℕ) (words : List ℕ) (tell : Tell sheet tag words) (tid : ℕ) (is_tid : IsTid sheet tid) where
   pub least_written : (keys : List ℕ) → All (λ k. k < sheet.keys) keys
       → least_of (told words tag side.Writes tid) None keys ≡ least (λ other. meets nat_cmp keys (writes_at sheet other)) (tids_before tid)
-  least_written keys below = least_told sheet.writes tid is_tid.0 (told words tag side.Writes tid) keys (λ k d lt. ap (earlier_only tid) (tell.writers _ (below k d lt)))
+  least_written keys below = least_told sheet.writes tid is_tid.0 (told words tag side.Writes tid) keys
+      (λ k d lt. ap (earlier_only tid) (tell.writers _ (below k d lt)))
 
   pub least_read : (keys : List ℕ) → All (λ k. k < sheet.keys) keys
       → least_of (told words tag side.Reads tid) None keys ≡ least (λ other. meets nat_cmp keys (reads_at sheet other)) (tids_before tid)
-  least_read keys below = least_told sheet.reads tid is_tid.0 (told words tag side.Reads tid) keys (λ k d lt. ap (earlier_only tid) (tell.readers _ (below k d lt)))
+  least_read keys below = least_told sheet.reads tid is_tid.0 (told words tag side.Reads tid) keys
+      (λ k d lt. ap (earlier_only tid) (tell.readers _ (below k d lt)))

@@ -53,8 +53,12 @@ module _ (sheet : Sheet) (is : IsSheet sheet) (marks : List Mark) (are : AreMark
   is_marked t first last has =
       let many = as_many s sheet is in
       let there = slice_get-get_or (lists_on s sheet) (t - 1) [] (omega (arith, last, first)) in
-      let among = Contains-from_any (same_key nat_cmp-IsAntisymmetric) key _ (subst (λ o. IsSomeAnd o (λ list. is_among nat_cmp list key ≡ true)) there has) in
-      (record { tid = t; key = key; writes = writes_on s }, (are _).1 ((first, omega (arith, many, last)), subst (λ l. Contains l key) (sym (side_is s sheet t)) among), place_is s t key, refl)
+      let among = Contains-from_any (same_key nat_cmp-IsAntisymmetric) key _ (subst (λ o. IsSomeAnd o (λ list. is_among nat_cmp list key ≡ true)) there has) in (
+        record { tid = t; key = key; writes = writes_on s },
+        (are _).1 ((first, omega (arith, many, last)), subst (λ l. Contains l key) (sym (side_is s sheet t)) among),
+        place_is s t key,
+        refl,
+      )
 
   marked_is : (t : ℕ) → IsMarked (place_on s key) marks t → (1 ≤ t) × (t < length (lists_on s sheet) + 1) × Has t
   marked_is t (m, stands, at, tid) =
@@ -65,9 +69,14 @@ module _ (sheet : Sheet) (is : IsSheet sheet) (marks : List Mark) (are : AreMark
       let first = is_tid.0 in
       let last = is_tid.1 in
       let within : t - 1 < length (lists_on s sheet) = omega (arith, many, first, last) in
-      let among : Contains (slice_index_or (lists_on s sheet) (t - 1) []) key = subst (λ t. Contains (slice_index_or (lists_on s sheet) (t - 1) []) key) tid (subst (Contains (slice_index_or (lists_on s sheet) (m.tid - 1) [])) on.0
-      (subst (λ l. Contains l m.key) (ap (λ b. cond b (writes_at sheet m.tid) (reads_at sheet m.tid)) on.1 ∙ side_is s sheet m.tid) of.1)) in
-      (first, omega (arith, within), subst (λ o. IsSomeAnd o (λ list. is_among nat_cmp list key ≡ true)) (sym (slice_get-get_or (lists_on s sheet) (t - 1) [] within)) (list_any-from_Contains (eq_by_cmp_equiv nat_cmp_total) key _ among))
+      let among : Contains (slice_index_or (lists_on s sheet) (t - 1) []) key =
+      subst (λ t. Contains (slice_index_or (lists_on s sheet) (t - 1) []) key) tid (subst (Contains (slice_index_or (lists_on s sheet) (m.tid - 1) [])) on.0
+      (subst (λ l. Contains l m.key) (ap (λ b. cond b (writes_at sheet m.tid) (reads_at sheet m.tid)) on.1 ∙ side_is s sheet m.tid) of.1)) in (
+        first,
+        omega (arith, within),
+        subst (λ o. IsSomeAnd o (λ list. is_among nat_cmp list key ≡ true))
+            (sym (slice_get-get_or (lists_on s sheet) (t - 1) [] within)) (list_any-from_Contains (eq_by_cmp_equiv nat_cmp_total) key _ among),
+      )
 
   one : (r q : Option ℕ) → IsLeast (place_on s key) marks r → IsLeastOf (λ list. is_among nat_cmp list key) (lists_on s sheet) q → r ≡ q
   one None None m h = refl
@@ -82,7 +91,8 @@ module _ (sheet : Sheet) (is : IsSheet sheet) (marks : List Mark) (are : AreMark
   pub least_marked : least_tid (place_on s key) marks ≡ least (λ list. is_among nat_cmp list key) (lists_on s sheet)
   least_marked = one _ _ (IsLeast-least_tid (place_on s key) marks) (least-is (λ list. is_among nat_cmp list key) (lists_on s sheet))
 
-pub marks_tell : (sheet : Sheet) (tag : ℕ) (words : List ℕ) (marks : List Mark) → IsSheet sheet → AreMarksOf sheet marks → StandFor tag sheet.keys marks words → Tell sheet tag words
+pub marks_tell : (sheet : Sheet) (tag : ℕ) (words : List ℕ) (marks : List Mark) → IsSheet sheet → AreMarksOf sheet marks → StandFor tag sheet.keys marks words
+    → Tell sheet tag words
 marks_tell sheet tag words marks is are stand = record {
   two_a_key = stand.two_a_key;
   writers = λ key below. stand.each (2 * key) (omega (arith, below)) ∙ least_marked sheet is marks are side.Writes key;

@@ -44,9 +44,11 @@ all_bytes_push (x ∷ xs) e = omega (arith, all_bytes_push xs e)
 
 pub steps_of_note : (entries : List Entry) (bytes : List ℕ) (e : Entry) → all_bytes entries ≡ length bytes → entry_bytes e ≡ 0
     → steps_of (entries ++ e ∷ []) bytes ≡ steps_of entries bytes ++ step_of e [] ∷ []
-steps_of_note entries bytes e all none = sym (ap (λ (l : List ℕ). steps_of (entries ++ e ∷ []) l) (append-nil bytes)) ∙ steps_of_push entries bytes e [] all none
+steps_of_note entries bytes e all none = sym (ap (λ (l : List ℕ). steps_of (entries ++ e ∷ []) l) (append-nil bytes))
+    ∙ steps_of_push entries bytes e [] all none
 
 pub steps_of_write : (entries : List Entry) (bytes : List ℕ) (file at : ℕ) (more : List ℕ) → all_bytes entries ≡ length bytes
     → steps_of (entries ++ kept.Wrote file at (length more) ∷ []) (bytes ++ more) ≡ steps_of entries bytes ++ Wrote file at more ∷ []
 steps_of_write entries bytes file at more all =
-    steps_of_push entries bytes (kept.Wrote file at (length more)) more all refl ∙ ap (λ (l : List ℕ). steps_of entries bytes ++ Wrote file at l ∷ []) (take_all (length more) more (omega arith))
+    steps_of_push entries bytes (kept.Wrote file at (length more)) more all refl
+    ∙ ap (λ (l : List ℕ). steps_of entries bytes ++ Wrote file at l ∷ []) (take_all (length more) more (omega arith))

@@ -43,10 +43,18 @@ pub record LeadsTo (entries : List Entry) (rest : List ℕ) (file : ℕ) (bytes 
   pub fits : all_bytes entries ≤ length rest
   pub leads : (f : File) → Shows f bytes ranges → Alike (after (steps_of entries rest) file f) target
 
-pub leads_start : (entries : List Entry) (rest : List ℕ) (file : ℕ) (start bytes : List ℕ) (ranges : List (ℕ × ℕ)) → all_bytes entries ≤ length rest → bytes ≡ start → ranges ≡ []
+pub leads_start : (entries : List Entry) (rest : List ℕ) (file : ℕ) (start bytes : List ℕ) (ranges : List (ℕ × ℕ)) → all_bytes entries ≤ length rest
+    → bytes ≡ start → ranges ≡ []
     → LeadsTo entries rest file bytes ranges (after (steps_of entries rest) file (untouched start))
 leads_start entries rest file start bytes ranges fits same none =
-    record { fits = fits; leads = λ f shows. after_alike (steps_of entries rest) file f (untouched start) (shows.0 ∙ same, shows.1 ∙ ap (λ (r : List (ℕ × ℕ)). reverse r) none) }
+    record {
+      fits = fits;
+      leads = λ f shows. after_alike (steps_of entries rest) file f (untouched start) (
+        shows.0 ∙ same,
+        shows.1
+            ∙ ap (λ (r : List (ℕ × ℕ)). reverse r) none,
+      );
+    }
 
 -- the step of an entry, whose bytes come first
 pub leads_more : (e : Entry) (entries : List Entry) (rest : List ℕ) (file : ℕ) (bytes new_bytes : List ℕ) (ranges new_ranges : List (ℕ × ℕ)) (target : File)
@@ -60,11 +68,16 @@ leads_more e entries rest file bytes new_bytes ranges new_ranges target so_far m
     record {
       fits = omega (arith, so_far.fits, length-drop (entry_bytes e) rest);
       leads = λ f shows.
-          let same = after_alike (steps_of entries (drop (entry_bytes e) rest)) file f (effect (step_of e rest) file g) (shows.0 ∙ sym made.0, shows.1 ∙ sym made.1) in
+          let same = after_alike (steps_of entries (drop (entry_bytes e) rest)) file f (effect (step_of e rest) file g) (
+            shows.0 ∙ sym made.0,
+            shows.1
+                ∙ sym made.1,
+          ) in
           (same.0 ∙ now.0, same.1 ∙ now.1);
     }
 
-pub leads_all : (rest : List ℕ) (file : ℕ) (bytes : List ℕ) (ranges : List (ℕ × ℕ)) (target : File) → LeadsTo [] rest file bytes ranges target → Shows target bytes ranges
+pub leads_all : (rest : List ℕ) (file : ℕ) (bytes : List ℕ) (ranges : List (ℕ × ℕ)) (target : File) → LeadsTo [] rest file bytes ranges target
+    → Shows target bytes ranges
 leads_all rest file bytes ranges target so_far =
     let now = so_far.leads (record { seen = bytes; synced = []; loose = reverse ranges }) (refl, refl) in
     (sym now.0, sym now.1)

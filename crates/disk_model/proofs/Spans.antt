@@ -23,7 +23,8 @@ stable_untouched (Some f) bytes = untouched_image (bytes f)
 
 module _ (a b : History) (file : ℕ) (acts : Acts a b file) where
   -- each of its moments is the one before it or the one after it
-  at_moment : (P : Option File → Type 0) (moment other : ℕ) → a.now ≤ moment → moment ≤ b.now → P (current a other) → P (current b other) → P (b.file_at moment other)
+  at_moment : (P : Option File → Type 0) (moment other : ℕ) → a.now ≤ moment → moment ≤ b.now → P (current a other) → P (current b other)
+      → P (b.file_at moment other)
   at_moment P moment other from to before after = elim (cases_eq moment a.now) [
     | inl then ↦ subst P (sym (acts.past moment other (omega arith) ∙ ap (λ (m : ℕ). a.file_at m other) then)) before
     | inr later ↦ let now : moment ≡ b.now = omega (arith, acts.soon) in subst P (sym (ap (λ (m : ℕ). b.file_at m other) now)) after
@@ -53,7 +54,8 @@ module _ (a b : History) (file : ℕ) (acts : Acts a b file) where
 -- ---- calls on one file
 
 -- one calls after another
-pub within_then : (a b c : History) (file : ℕ) (P Q R : Option File → Type 0) → Within a b file P → Within b c file Q → ((told : Option File) → P told → R told) → ((told : Option File) → Q told → R told)
+pub within_then : (a b c : History) (file : ℕ) (P Q R : Option File → Type 0) → Within a b file P → Within b c file Q
+    → ((told : Option File) → P told → R told) → ((told : Option File) → Q told → R told)
     → Within a c file R
 within_then a b c file P Q R first second from_p from_q = record {
   later = omega (arith, first.later, second.later);
@@ -84,10 +86,13 @@ pub other_stays : (a b : History) (file : ℕ) (P : Option File → Type 0) → 
 other_stays a b file P calls other apart = calls.others b.now other calls.later (omega arith) apart
 
 -- What a stop at any moment since the first may leave: of the file what has P, of the others an image from before.
-pub left_since : (a b : History) (file : ℕ) (P : List ℕ → Type 0) (moment : ℕ) (images : ℕ → List ℕ) → file < 4 → Leaves a b file P → a.now ≤ moment → moment ≤ b.now → MayLeave b moment images
+pub left_since : (a b : History) (file : ℕ) (P : List ℕ → Type 0) (moment : ℕ) (images : ℕ → List ℕ) → file < 4 → Leaves a b file P → a.now ≤ moment
+    → moment ≤ b.now → MayLeave b moment images
     → P (images file) × ((other : ℕ) → other < 4 → other ≢ file → HasImage (current a other) (images other))
-left_since a b file P moment images own all from to left =
-    (from_each (b.file_at moment file) P (images file) (all.each moment from to) (left file own), λ other is apart. subst (λ told. HasImage told (images other)) (all.others moment other from to apart) (left other is))
+left_since a b file P moment images own all from to left = (
+  from_each (b.file_at moment file) P (images file) (all.each moment from to) (left file own),
+  λ other is apart. subst (λ told. HasImage told (images other)) (all.others moment other from to apart) (left other is),
+)
 
 -- ---- calls that change nothing
 
@@ -127,11 +132,18 @@ leaves_then a b c Q first second = record {
 }
 
 pub leaves_more : (a b : History) (P Q : (ℕ → List ℕ) → Type 0) → LeavesAll a b P → ((images : ℕ → List ℕ) → P images → Q images) → LeavesAll a b Q
-leaves_more a b P Q all more = record { later = all.later; past = all.past; each = λ moment from to images left. more images (all.each moment from to images left); faults = all.faults }
+leaves_more a b P Q all more = record {
+  later = all.later;
+  past = all.past;
+  each =
+      λ moment from to images left. more images (all.each moment from to images left);
+  faults = all.faults;
+}
 
 -- what calls on one file leave of all
 pub leaves_file : (a b : History) (file : ℕ) (P : List ℕ → Type 0) (Q : (ℕ → List ℕ) → Type 0) → file < 4 → Leaves a b file P
-    → ((images : ℕ → List ℕ) → P (images file) → ((other : ℕ) → other < 4 → other ≢ file → HasImage (current a other) (images other)) → Q images) → LeavesAll a b Q
+    → ((images : ℕ → List ℕ) → P (images file) → ((other : ℕ) → other < 4 → other ≢ file → HasImage (current a other) (images other)) → Q images)
+    → LeavesAll a b Q
 leaves_file a b file P Q own all lifts = record {
   later = all.later;
   past = all.past;

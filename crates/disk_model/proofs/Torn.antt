@@ -17,13 +17,20 @@ module _ (old : List ℕ) (at : ℕ) (bytes : List ℕ) (within : at ≤ length 
   put_here = ap (λ (l : List ℕ). drop at l) regroup ∙ drop_at (take at old) (bytes ++ drop (at + length bytes) old) at (length-take-le at old within)
 
   pub put_length : at + length bytes ≤ length (put old at bytes)
-  put_length = omega (arith, length-append (take at old ++ bytes) (drop (at + length bytes) old), length-append (take at old) bytes, length-take-le at old within)
+  put_length = omega (
+    arith,
+    length-append (take at old ++ bytes) (drop (at + length bytes) old),
+    length-append (take at old) bytes,
+    length-take-le at old within,
+  )
 
 -- what is written behind a byte, and then that byte, are one write
-pub put_twice : (old : List ℕ) (at : ℕ) (bytes : List ℕ) (byte : ℕ) → at + 1 ≤ length old → put (put old (at + 1) bytes) at (byte ∷ []) ≡ put old at (byte ∷ bytes)
+pub put_twice : (old : List ℕ) (at : ℕ) (bytes : List ℕ) (byte : ℕ) → at + 1 ≤ length old
+    → put (put old (at + 1) bytes) at (byte ∷ []) ≡ put old at (byte ∷ bytes)
 put_twice old at bytes byte within =
     let new : List ℕ = put old (at + 1) bytes in
-    let front : take at new ≡ take at old = sym (take-take at (at + 1) new (omega arith)) ∙ ap (λ (l : List ℕ). take at l) (put_before old (at + 1) bytes within) ∙ take-take at (at + 1) old (omega arith) in
+    let front : take at new ≡ take at old = sym (take-take at (at + 1) new (omega arith))
+    ∙ ap (λ (l : List ℕ). take at l) (put_before old (at + 1) bytes within) ∙ take-take at (at + 1) old (omega arith) in
     ap (λ (l : List ℕ). l ++ byte ∷ [] ++ drop (at + 1) new) front
     ∙ ap (λ (l : List ℕ). take at old ++ byte ∷ [] ++ l) (put_here old (at + 1) bytes within)
     ∙ append_assoc (take at old) (byte ∷ []) (bytes ++ drop (at + 1 + length bytes) old)
@@ -31,7 +38,8 @@ put_twice old at bytes byte within =
     ∙ sym (append_assoc (take at old) (byte ∷ bytes) (drop (at + length (byte ∷ bytes)) old))
 
 -- places that agree make parts that agree
-pub same_part : (at n : ℕ) (xs ys : List ℕ) → at + n ≤ length xs → at + n ≤ length ys → ((k : ℕ) → at ≤ k → k < at + n → get_or xs k 0 ≡ get_or ys k 0) → take n (drop at xs) ≡ take n (drop at ys)
+pub same_part : (at n : ℕ) (xs ys : List ℕ) → at + n ≤ length xs → at + n ≤ length ys → ((k : ℕ) → at ≤ k → k < at + n → get_or xs k 0 ≡ get_or ys k 0)
+    → take n (drop at xs) ≡ take n (drop at ys)
 same_part at n xs ys in_xs in_ys same =
     let len_x : length (take n (drop at xs)) ≡ n = omega (arith, length-take n (drop at xs), length-drop at xs) in
     let len_y : length (take n (drop at ys)) ≡ n = omega (arith, length-take n (drop at ys), length-drop at ys) in
@@ -49,7 +57,8 @@ free at len loose place before out =
     ap (λ (b : Bool). b && nat_lt place (at + len) || covers loose place) no ∙ out
 
 -- an image from before with the same prefix
-pub torn_front : (f : File) (at len : ℕ) (image : List ℕ) → IsImage f f.seen → at ≤ length f.seen → IsImage (loosened at len f) image → (before : List ℕ) × IsImage f before × (take at before ≡ take at image)
+pub torn_front : (f : File) (at len : ℕ) (image : List ℕ) → IsImage f f.seen → at ≤ length f.seen → IsImage (loosened at len f) image
+    → (before : List ℕ) × IsImage f before × (take at before ≡ take at image)
 torn_front f at len image reads within torn = (take at image ++ drop at f.synced, mixed, front)
   where
     before : List ℕ
@@ -62,7 +71,8 @@ torn_front f at len image reads within torn = (take at image ++ drop at f.synced
     front = elim (cases_lt (length image) at) [
       | inl short ↦
           let none : drop at f.synced ≡ [] = drop_all at f.synced (omega (arith, torn.long)) in
-          ap (λ (l : List ℕ). take at (take at image ++ l)) none ∙ ap (λ (l : List ℕ). take at l) (append-nil (take at image)) ∙ take-take at at image (omega arith)
+          ap (λ (l : List ℕ). take at (take at image ++ l)) none ∙ ap (λ (l : List ℕ). take at l) (append-nil (take at image))
+          ∙ take-take at at image (omega arith)
       | inr long ↦ take-append-le at (take at image) (drop at f.synced) (omega (arith, length-take at image)) ∙ take-take at at image (omega arith)
     ]
 
@@ -84,7 +94,8 @@ torn_front f at len image reads within torn = (take at image ++ drop at f.synced
     }
 
 -- an image of a file of which only one byte was written since its sync
-pub torn_byte : (seen : List ℕ) (at : ℕ) (image : List ℕ) → IsImage (loosened at 1 (untouched seen)) image → (place : ℕ) → place < length seen → place ≢ at → get_or image place 0 ≡ get_or seen place 0
+pub torn_byte : (seen : List ℕ) (at : ℕ) (image : List ℕ) → IsImage (loosened at 1 (untouched seen)) image → (place : ℕ) → place < length seen → place ≢ at
+    → get_or image place 0 ≡ get_or seen place 0
 torn_byte seen at image torn place inside apart =
     let out : covers ((at, 1) ∷ []) place ≡ false = grind (arith, nat_tests) in
     torn.stays place inside out

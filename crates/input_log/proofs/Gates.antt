@@ -53,7 +53,8 @@ opened (g ∷ rest) payload e =
     let fits : 4 + little_number 4 rest < length rest = grind (arith, nat_tests, t.1) in
     subst (λ (x : ℕ). Opened (x ∷ rest) payload) (sym is_one) (opened_rest rest payload fits t.2)
 
-open_gate : (a b c d : ℕ) (payload behind : List ℕ) → little_number 4 (a ∷ b ∷ c ∷ d ∷ []) ≡ length payload → 0 < length behind → next_of ((1 ∷ a ∷ b ∷ c ∷ d ∷ payload) ++ behind) ≡ Open payload
+open_gate : (a b c d : ℕ) (payload behind : List ℕ) → little_number 4 (a ∷ b ∷ c ∷ d ∷ []) ≡ length payload → 0 < length behind
+    → next_of ((1 ∷ a ∷ b ∷ c ∷ d ∷ payload) ++ behind) ≡ Open payload
 open_gate a b c d payload behind size more =
     let len : ℕ = little_number 4 (a ∷ b ∷ c ∷ d ∷ []) in
     let fits : nat_lt (4 + len) (length (a ∷ b ∷ c ∷ d ∷ (payload ++ behind))) ≡ true = grind (arith, nat_tests, length-append payload behind) in
@@ -63,13 +64,15 @@ pub openly : (bytes payload : List ℕ) → Opened bytes payload → next_of byt
 openly bytes payload o = ap (λ (l : List ℕ). next_of l) o.split ∙ open_gate o.a o.b o.c o.d payload o.behind o.size o.more
 
 -- another list with the same prefix, which has a gate behind the record too
-pub same_next : (bytes other payload : List ℕ) (n : ℕ) → next_of bytes ≡ Open payload → take n other ≡ take n bytes → 5 + length payload ≤ n → n < length other → next_of other ≡ Open payload
+pub same_next : (bytes other payload : List ℕ) (n : ℕ) → next_of bytes ≡ Open payload → take n other ≡ take n bytes → 5 + length payload ≤ n → n < length other
+    → next_of other ≡ Open payload
 same_next bytes other payload n e same past within =
     let o = opened bytes payload e in
     let record_bytes : List ℕ = 1 ∷ o.a ∷ o.b ∷ o.c ∷ o.d ∷ payload in
     let m : ℕ = length record_bytes in
     let le : m ≤ n = omega arith in
-    let front : take m other ≡ record_bytes = sym (take-take m n other le) ∙ ap (λ (l : List ℕ). take m l) same ∙ take-take m n bytes le ∙ ap (λ (l : List ℕ). take m l) o.split ∙ take_at record_bytes o.behind m refl in
+    let front : take m other ≡ record_bytes = sym (take-take m n other le) ∙ ap (λ (l : List ℕ). take m l) same ∙ take-take m n bytes le
+    ∙ ap (λ (l : List ℕ). take m l) o.split ∙ take_at record_bytes o.behind m refl in
     let split : other ≡ record_bytes ++ drop m other = sym (take-append-drop m other) ∙ ap (λ (l : List ℕ). l ++ drop m other) front in
     ap (λ (l : List ℕ). next_of l) split ∙ open_gate o.a o.b o.c o.d payload (drop m other) o.size (omega (arith, length-drop m other))
 
@@ -82,7 +85,8 @@ within_next bytes payload e =
 pub closed_next : (gate : ℕ) (rest : List ℕ) → gate ≢ 1 → next_of (gate ∷ rest) ≡ Closed
 closed_next gate rest apart =
     let no : gate == 1 ≡ false = grind (arith, nat_tests) in
-    ap (λ (t : Bool). if t then (if nat_lt (4 + little_number 4 rest) (length rest) then Open (take (little_number 4 rest) (drop 4 rest)) else Broken) else Closed) no
+    ap (λ (t : Bool). if t then (if nat_lt (4 + little_number 4 rest) (length rest) then Open
+    (take (little_number 4 rest) (drop 4 rest)) else Broken) else Closed) no
 
 pub not_open : (gate : ℕ) (rest : List ℕ) → next_of (gate ∷ rest) ≡ Closed → gate ≢ 1
 not_open gate rest e is_one =
@@ -98,11 +102,13 @@ little_front (a ∷ b ∷ c ∷ []) = refl
 little_front (a ∷ b ∷ c ∷ d ∷ rest) = refl
 
 -- behind an open gate, by the length
-pub open_next : (gate : ℕ) (rest payload : List ℕ) → gate ≡ 1 → 4 + little_number 4 rest < length rest → take (little_number 4 rest) (drop 4 rest) ≡ payload → next_of (gate ∷ rest) ≡ Open payload
+pub open_next : (gate : ℕ) (rest payload : List ℕ) → gate ≡ 1 → 4 + little_number 4 rest < length rest → take (little_number 4 rest) (drop 4 rest) ≡ payload
+    → next_of (gate ∷ rest) ≡ Open payload
 open_next gate rest payload is_one fits is =
     let yes : gate == 1 ≡ true = grind (arith, nat_tests) in
     let room : nat_lt (4 + little_number 4 rest) (length rest) ≡ true = grind (arith, nat_tests) in
-    ap (λ (t : Bool). if t then (if nat_lt (4 + little_number 4 rest) (length rest) then Open (take (little_number 4 rest) (drop 4 rest)) else Broken) else Closed) yes
+    ap (λ (t : Bool). if t then (if nat_lt (4 + little_number 4 rest) (length rest) then Open
+    (take (little_number 4 rest) (drop 4 rest)) else Broken) else Closed) yes
     ∙ ap (λ (t : Bool). if t then Open (take (little_number 4 rest) (drop 4 rest)) else Broken) room
     ∙ ap (λ (l : List ℕ). Open l) is
 
@@ -110,5 +116,6 @@ pub broken_next : (gate : ℕ) (rest : List ℕ) → gate ≡ 1 → length rest 
 broken_next gate rest is_one short =
     let yes : gate == 1 ≡ true = grind (arith, nat_tests) in
     let no : nat_lt (4 + little_number 4 rest) (length rest) ≡ false = grind (arith, nat_tests) in
-    ap (λ (t : Bool). if t then (if nat_lt (4 + little_number 4 rest) (length rest) then Open (take (little_number 4 rest) (drop 4 rest)) else Broken) else Closed) yes
+    ap (λ (t : Bool). if t then (if nat_lt (4 + little_number 4 rest) (length rest) then Open
+    (take (little_number 4 rest) (drop 4 rest)) else Broken) else Closed) yes
     ∙ ap (λ (t : Bool). if t then Open (take (little_number 4 rest) (drop 4 rest)) else Broken) no

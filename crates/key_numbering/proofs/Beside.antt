@@ -23,7 +23,8 @@ same_key q k tied = key_cmp-IsAntisymmetric q k (equal _ tied)
 find-append : (q : Key) (xs ys : List (Key × ℕ)) → fin.find key_cmp q (xs ++ ys) ≡ option_or (fin.find key_cmp q xs) (fin.find key_cmp q ys)
 find-append q [] ys = refl
 find-append q (x ∷ xs) ys =
-    elim (eq_by_cmp key_cmp q x.0) as (λ b. cond b (Some x.1) (fin.find key_cmp q (xs ++ ys)) ≡ option_or (cond b (Some x.1) (fin.find key_cmp q xs)) (fin.find key_cmp q ys)) [
+    elim (eq_by_cmp key_cmp q x.0) as (λ b. cond b (Some x.1) (fin.find key_cmp q (xs ++ ys)) ≡ option_or (cond b (Some x.1) (fin.find key_cmp q xs))
+    (fin.find key_cmp q ys)) [
       | true ↦ refl
       | false ↦ find-append q xs ys
     ]
@@ -54,7 +55,8 @@ IsApart-bare near far bare q some = let there : IsSome {T = ℕ} None = subst Is
 
 pub beside-bare : (near far : Numbers) → near ≡ fin.empty → far ≡ fin.empty → beside near far ≡ fin.empty
 beside-bare near far one two = fin.same_map key_cmp_total key_cmp-IsAntisymmetric _ _ (λ q.
-    get-beside near far q ∙ ap (λ m. option_or (fin.get m q) (fin.get far q)) one ∙ ap (λ r. option_or r (fin.get far q)) (fin.get-empty key_cmp q) ∙ ap (λ m. fin.get m q) two)
+    get-beside near far q ∙ ap (λ m. option_or (fin.get m q) (fin.get far q)) one ∙ ap (λ r. option_or r (fin.get far q)) (fin.get-empty key_cmp q)
+    ∙ ap (λ m. fin.get m q) two)
 
 -- ---- one more in either
 
@@ -71,7 +73,8 @@ beside-near near far k n = fin.same_map key_cmp_total key_cmp-IsAntisymmetric _ 
 pub beside-far : (near far : Numbers) (k : Key) (n : ℕ) → fin.get near k ≡ None → beside near (fin.insert far k n) ≡ fin.insert (beside near far) k n
 beside-far near far k n none = fin.same_map key_cmp_total key_cmp-IsAntisymmetric _ _ (λ q.
     get-beside near (fin.insert far k n) q ∙ ap (λ r. option_or (fin.get near q) r) (fin.get-insert key_cmp_total far k n q)
-    ∙ elim (eq_by_cmp key_cmp q k) as (λ b. eq_by_cmp key_cmp q k ≡ b → option_or (fin.get near q) (cond b (Some n) (fin.get far q)) ≡ cond b (Some n) (option_or (fin.get near q) (fin.get far q))) [
+    ∙ elim (eq_by_cmp key_cmp q k) as (λ b. eq_by_cmp key_cmp q k ≡ b
+    → option_or (fin.get near q) (cond b (Some n) (fin.get far q)) ≡ cond b (Some n) (option_or (fin.get near q) (fin.get far q))) [
       | true ↦ λ tied. ap (λ r. option_or r (Some n)) (ap (fin.get near) (same_key q k tied) ∙ none)
       | false ↦ λ _. refl
     ] refl

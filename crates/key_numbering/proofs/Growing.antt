@@ -54,7 +54,8 @@ keeps_new m k none q n at =
     ] refl
 
 -- a key has no number, or has one
-module _ (P : Numbers → Type 0) (m : Numbers) (k : Key) (absent : fin.get m k ≡ None → P (fin.insert m k (fin.len m))) (there : (n : ℕ) → fin.get m k ≡ Some n → P m) where
+module _ (P : Numbers → Type 0) (m : Numbers) (k : Key) (absent : fin.get m k ≡ None → P (fin.insert m k (fin.len m))) (there : (n : ℕ) → fin.get m k ≡ Some n
+    → P m) where
   pub either : P (with_key m k)
   either = elim (fin.get m k) as (λ o. fin.get m k ≡ o → P (with_key m k)) [
     | None ↦ λ e. subst P (sym (new m k e)) (absent e)
@@ -118,7 +119,8 @@ module _ (m : Numbers) (k : Key) (are : AreNumbers m) (none : fin.get m k ≡ No
     ];
   }
 
-pub more : (m after : Numbers) (k : Key) (len : ℕ) → len ≡ fin.len m → AreNumbers m → fin.get m k ≡ None → after ≡ fin.insert m k len → (len + 1 ≡ fin.len after) × AreNumbers after
+pub more : (m after : Numbers) (k : Key) (len : ℕ) → len ≡ fin.len m → AreNumbers m → fin.get m k ≡ None → after ≡ fin.insert m k len
+    → (len + 1 ≡ fin.len after) × AreNumbers after
 more m after k len long are none is =
     let whole : after ≡ fin.insert m k (fin.len m) = is ∙ ap (fin.insert m k) long in (
       (let one = len-new m k none in let same = ap fin.len whole in omega arith),
@@ -180,7 +182,8 @@ same_numbers m final (k ∷ ks) keeps all =
 abbrev Among : Numbers → Numbers → Type 0
 Among few many = (k : Key) → Has few k → Has many k
 
-fewer_key : (few many : Numbers) (k : Key) → Among few many → Among (with_key few k) (with_key many k) × (fin.len (with_key many k) + fin.len few ≤ fin.len (with_key few k) + fin.len many)
+fewer_key : (few many : Numbers) (k : Key) → Among few many
+    → Among (with_key few k) (with_key many k) × (fin.len (with_key many k) + fin.len few ≤ fin.len (with_key few k) + fin.len many)
 fewer_key few many k among = either (λ o. Among o (with_key many k) × (fin.len (with_key many k) + fin.len few ≤ fin.len o + fin.len many)) few k
     (λ none. (
       (λ q has. fewer_new q has.0 (sym (fin.get-insert key_cmp_total few k (fin.len few) q) ∙ has.1)),
@@ -192,10 +195,11 @@ fewer_key few many k among = either (λ o. Among o (with_key many k) × (fin.len
     ))
   where
     fewer_new : (q : Key) (n : ℕ) → cond (eq_by_cmp key_cmp q k) (Some (fin.len few)) (fin.get few q) ≡ Some n → Has (with_key many k) q
-    fewer_new q n = elim (eq_by_cmp key_cmp q k) as (λ b. eq_by_cmp key_cmp q k ≡ b → cond b (Some (fin.len few)) (fin.get few q) ≡ Some n → Has (with_key many k) q) [
-      | true ↦ λ tied _. subst (Has (with_key many k)) (sym (same_key q k tied)) (has_key many k)
-      | false ↦ λ _ at. kept_has many (with_key many k) q (keeps_key many k) (among q (n, at))
-    ] refl
+    fewer_new q n = elim (eq_by_cmp key_cmp q k) as (λ b. eq_by_cmp key_cmp q k ≡ b → cond b (Some (fin.len few)) (fin.get few q) ≡ Some n
+        → Has (with_key many k) q) [
+          | true ↦ λ tied _. subst (Has (with_key many k)) (sym (same_key q k tied)) (has_key many k)
+          | false ↦ λ _ at. kept_has many (with_key many k) q (keeps_key many k) (among q (n, at))
+        ] refl
 
 abbrev Fewer : Numbers → Numbers → Numbers → Numbers → Type 0
 Fewer few many more most = Among more most × (fin.len most + fin.len few ≤ fin.len more + fin.len many)
@@ -207,7 +211,8 @@ fewer_keys : (few many : Numbers) (ks : List Key) → Among few many → Fewer f
 fewer_keys few many [] among = (among, omega arith)
 fewer_keys few many (k ∷ ks) among =
     let one = fewer_key few many k among in
-    fewer_on few many (with_key few k) (with_key many k) (with_keys (with_key few k) ks) (with_keys (with_key many k) ks) one (fewer_keys (with_key few k) (with_key many k) ks one.0)
+    fewer_on few many (with_key few k) (with_key many k) (with_keys (with_key few k) ks) (with_keys (with_key many k) ks) one
+    (fewer_keys (with_key few k) (with_key many k) ks one.0)
 
 fewer_sets : (few many : Numbers) (sets : List Sets) → Among few many → Fewer few many (with_sets few sets) (with_sets many sets)
 fewer_sets few many [] among = (among, omega arith)
@@ -215,7 +220,8 @@ fewer_sets few many (s ∷ ss) among =
     let reads = fewer_keys few many s.reads among in
     let writes = fewer_keys (with_keys few s.reads) (with_keys many s.reads) s.writes reads.0 in
     let one = fewer_on few many (with_keys few s.reads) (with_keys many s.reads) (after_set few s) (after_set many s) reads writes in
-    fewer_on few many (after_set few s) (after_set many s) (with_sets (after_set few s) ss) (with_sets (after_set many s) ss) one (fewer_sets (after_set few s) (after_set many s) ss one.0)
+    fewer_on few many (after_set few s) (after_set many s) (with_sets (after_set few s) ss) (with_sets (after_set many s) ss) one
+    (fewer_sets (after_set few s) (after_set many s) ss one.0)
 
 -- no more keys come than are touched
 pub at_most : (m : Numbers) (sets : List Sets) → fin.len (with_sets m sets) ≤ fin.len m + fin.len (with_sets fin.empty sets)
@@ -240,16 +246,18 @@ long_sets m (s ∷ ss) =
 -- ---- numbers in the place of keys
 
 has_of : (m : Numbers) (k : Key) → is_among key_cmp (fin.keys m) k ≡ true → Has m k
-has_of m k among = elim (fin.get m k) as (λ o. fin.get m k ≡ o → is_some o ≡ true → Has m k) [ None ↦ λ e some. cc | Some n ↦ λ e some. (n, e) ] refl (fin.contains_key-keys m k ∙ among)
+has_of m k among = elim (fin.get m k) as (λ o. fin.get m k ≡ o → is_some o ≡ true → Has m k) [ None ↦ λ e some. cc | Some n ↦ λ e some. (n, e) ] refl
+    (fin.contains_key-keys m k ∙ among)
 
 among_of : (m : Numbers) (k : Key) → Has m k → is_among key_cmp (fin.keys m) k ≡ true
 among_of m k has = sym (fin.contains_key-keys m k) ∙ ap is_some has.1
 
 pub one_to_one : (m : Numbers) → AreNumbers m → IsOneToOneOn key_cmp (fin.keys m) (number_in m)
-one_to_one m are x y in_x in_y = unsigned_tied (number_in m x) (number_in m y) ∙ elim (eq_by_cmp key_cmp x y) as (λ b. eq_by_cmp key_cmp x y ≡ b → nat_eq (number_in m x) (number_in m y) ≡ b) [
-  | true ↦ λ e. eq-eqb (number_in m x) (number_in m y) (ap (number_in m) (same_key x y e))
-  | false ↦ λ e. false_from_ne_true _ (λ same. false≢true (sym e ∙ tied (eqb-true (number_in m x) (number_in m y) same)))
-] refl
+one_to_one m are x y in_x in_y = unsigned_tied (number_in m x) (number_in m y)
+    ∙ elim (eq_by_cmp key_cmp x y) as (λ b. eq_by_cmp key_cmp x y ≡ b → nat_eq (number_in m x) (number_in m y) ≡ b) [
+      | true ↦ λ e. eq-eqb (number_in m x) (number_in m y) (ap (number_in m) (same_key x y e))
+      | false ↦ λ e. false_from_ne_true _ (λ same. false≢true (sym e ∙ tied (eqb-true (number_in m x) (number_in m y) same)))
+    ] refl
   where
     tied : number_in m x ≡ number_in m y → eq_by_cmp key_cmp x y ≡ true
     tied same =
@@ -261,7 +269,8 @@ one_to_one m are x y in_x in_y = unsigned_tied (number_in m x) (number_in m y) �
 has_reads : (m final : Numbers) (sets : List Sets) → Keeps (with_sets m sets) final → All (λ s. All (Has final) s.reads) sets
 has_reads m final [] keeps = All-nil (λ (s : Sets). All (Has final) s.reads)
 has_reads m final (s ∷ ss) keeps = All-cons (λ (t : Sets). All (Has final) t.reads) s ss
-    (has_keys m final s.reads (keeps_on (with_keys m s.reads) (after_set m s) final (keeps_keys (with_keys m s.reads) s.writes) (keeps_on (after_set m s) (with_sets (after_set m s) ss) final (keeps_sets (after_set m s) ss) keeps)))
+    (has_keys m final s.reads (keeps_on (with_keys m s.reads) (after_set m s) final (keeps_keys (with_keys m s.reads) s.writes)
+    (keeps_on (after_set m s) (with_sets (after_set m s) ss) final (keeps_sets (after_set m s) ss) keeps)))
     (has_reads (after_set m s) final ss keeps)
 
 has_writes : (m final : Numbers) (sets : List Sets) → Keeps (with_sets m sets) final → All (λ s. All (Has final) s.writes) sets
@@ -279,26 +288,33 @@ writes_among m sets i d lt j e within = among_of (with_sets m sets) _ (has_write
 below_of : (m : Numbers) (k : Key) → AreNumbers m → Has m k → number_in m k < fin.len m
 below_of m k are has = let is = number-is m k has.0 has.1 in let lt = are.below k has.0 has.1 in omega arith
 
-pub reads_below : (m final : Numbers) (sets : List Sets) → final ≡ with_sets m sets → AreNumbers final → All (λ list. All (λ n. n < fin.len final) list) (map (λ s. map (number_in final) s.reads) sets)
+pub reads_below : (m final : Numbers) (sets : List Sets) → final ≡ with_sets m sets → AreNumbers final
+    → All (λ list. All (λ n. n < fin.len final) list) (map (λ s. map (number_in final) s.reads) sets)
 reads_below m final sets is are =
     let all = has_reads m final sets (subst (Keeps (with_sets m sets)) (sym is) (λ k n at. at)) in
-    All-map (λ list. All (λ n. n < fin.len final) list) (λ s. map (number_in final) s.reads) sets (λ i d lt. All-map (λ n. n < fin.len final) (number_in final) (get_or sets i d).reads (λ j e within. below_of final _ are (all i d lt j e within)))
+    All-map (λ list. All (λ n. n < fin.len final) list) (λ s. map (number_in final) s.reads) sets
+    (λ i d lt. All-map (λ n. n < fin.len final) (number_in final) (get_or sets i d).reads (λ j e within. below_of final _ are (all i d lt j e within)))
 
-pub writes_below : (m final : Numbers) (sets : List Sets) → final ≡ with_sets m sets → AreNumbers final → All (λ list. All (λ n. n < fin.len final) list) (map (λ s. map (number_in final) s.writes) sets)
+pub writes_below : (m final : Numbers) (sets : List Sets) → final ≡ with_sets m sets → AreNumbers final
+    → All (λ list. All (λ n. n < fin.len final) list) (map (λ s. map (number_in final) s.writes) sets)
 writes_below m final sets is are =
     let all = has_writes m final sets (subst (Keeps (with_sets m sets)) (sym is) (λ k n at. at)) in
-    All-map (λ list. All (λ n. n < fin.len final) list) (λ s. map (number_in final) s.writes) sets (λ i d lt. All-map (λ n. n < fin.len final) (number_in final) (get_or sets i d).writes (λ j e within. below_of final _ are (all i d lt j e within)))
+    All-map (λ list. All (λ n. n < fin.len final) list) (λ s. map (number_in final) s.writes) sets
+    (λ i d lt. All-map (λ n. n < fin.len final) (number_in final) (get_or sets i d).writes (λ j e within. below_of final _ are (all i d lt j e within)))
 
 -- what touches are counted for a list of sets
-pub counted_more : (most touched next both : ℕ) (sets : List Sets) (i : ℕ) (s : Sets) → i < length sets → s ≡ get_or sets i s → both ≡ touch_count s → next ≡ min most (touched + both)
-    → min most (touched + sum_by touch_count (drop i sets)) ≡ min most (sum_by touch_count sets) → min most (next + sum_by touch_count (drop (i + 1) sets)) ≡ min most (sum_by touch_count sets)
+pub counted_more : (most touched next both : ℕ) (sets : List Sets) (i : ℕ) (s : Sets) → i < length sets → s ≡ get_or sets i s → both ≡ touch_count s
+    → next ≡ min most (touched + both)
+    → min most (touched + sum_by touch_count (drop i sets)) ≡ min most (sum_by touch_count sets)
+    → min most (next + sum_by touch_count (drop (i + 1) sets)) ≡ min most (sum_by touch_count sets)
 counted_more most touched next both sets i s lt at is step so_far =
     let e : suc i ≡ i + 1 = omega arith in
     let here : sum_by touch_count (drop i sets) ≡ touch_count s + sum_by touch_count (drop (i + 1) sets) =
     ap (sum_by touch_count) (drop-cons sets i s lt ∙ (λ j. sym at j ∷ drop (e j) sets)) ∙ sum_by-cons touch_count s (drop (i + 1) sets) in
     omega arith
 
-pub few_touched : (most touched limit : ℕ) (sets : List Sets) (i : ℕ) → limit < most → length sets ≤ i → min most (touched + sum_by touch_count (drop i sets)) ≡ min most (sum_by touch_count sets) → touched ≤ limit → fin.len (with_sets fin.empty sets) ≤ limit
+pub few_touched : (most touched limit : ℕ) (sets : List Sets) (i : ℕ) → limit < most → length sets ≤ i
+    → min most (touched + sum_by touch_count (drop i sets)) ≡ min most (sum_by touch_count sets) → touched ≤ limit → fin.len (with_sets fin.empty sets) ≤ limit
 few_touched most touched limit sets i below ended so_far few =
     let rest : sum_by touch_count (drop i sets) ≡ 0 = ap (sum_by touch_count) (drop_all i sets ended) in
     let long = long_sets fin.empty sets in

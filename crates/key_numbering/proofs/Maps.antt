@@ -27,7 +27,8 @@ module _ (E : Key → Key → Bool) (same : (x y : Key) → E x y ≡ eq_by_cmp 
   pub get-lookup : (es : List (Key × ℕ)) (q : Key) → fin.get (fin.from_entries {R = key_cmp} es) q ≡ lookup (E q) es
   get-lookup es q = fin.get-from_entries key_cmp_total es q ∙ sym (lookup-find es q)
 
-  pub from_entries-insert : (es fs : List (Key × ℕ)) (k : Key) (n : ℕ) → ((q : Key) → lookup (E q) fs ≡ cond (E k q) (Some n) (lookup (E q) es)) → fin.from_entries {R = key_cmp} fs ≡ fin.insert (fin.from_entries es) k n
+  pub from_entries-insert : (es fs : List (Key × ℕ)) (k : Key) (n : ℕ) → ((q : Key) → lookup (E q) fs ≡ cond (E k q) (Some n) (lookup (E q) es))
+      → fin.from_entries {R = key_cmp} fs ≡ fin.insert (fin.from_entries es) k n
   from_entries-insert es fs k n is = fin.same_map key_cmp_total key_cmp-IsAntisymmetric _ _ (λ q.
       get-lookup fs q ∙ is q ∙ ap (λ b. cond b (Some n) (lookup (E q) es)) (same k q ∙ (eq_by_cmp_equiv key_cmp_total).symm k q)
       ∙ ap (cond (eq_by_cmp key_cmp q k) (Some n)) (sym (get-lookup es q))

@@ -35,7 +35,8 @@ module _ (before m : Numbers) (done : List ℕ) (x : ℕ) (k : Key) (ks : List K
   final = with_keys m ks
 
   -- from the list with this number put at the end of what is done
-  one_more : settled (m, (done ++ x ∷ []) ++ rest) (unknown_in before (length (done ++ x ∷ [])) ks) ≡ (final, (done ++ x ∷ []) ++ map (number_in final) ks) → x ≡ number_in final k
+  one_more : settled (m, (done ++ x ∷ []) ++ rest) (unknown_in before (length (done ++ x ∷ [])) ks) ≡ (final, (done ++ x ∷ []) ++ map (number_in final) ks)
+      → x ≡ number_in final k
       → settled (m, done ++ x ∷ rest) (unknown_in before (length done + 1) ks) ≡ (final, done ++ number_in final k ∷ map (number_in final) ks)
   one_more is number =
       let joined = sym (append_assoc done (x ∷ []) rest) in
@@ -47,42 +48,56 @@ pub settles : (before m : Numbers) (done : List ℕ) (ks : List Key) → Keeps b
     → settled (m, done ++ map (number_in before) ks) (unknown_in before (length done) ks) ≡ (with_keys m ks, done ++ map (number_in (with_keys m ks)) ks)
 settles before m done [] keeps = refl
 settles before m done (k ∷ ks) keeps =
-    elim (fin.get before k) as (λ o. fin.get before k ≡ o → settled (m, done ++ number_in before k ∷ map (number_in before) ks) (cond (is_some o) (unknown_in before (length done + 1) ks) ((length done, k) ∷ unknown_in before (length done + 1) ks))
+    elim (fin.get before k) as (λ o. fin.get before k ≡ o → settled (m, done ++ number_in before k ∷ map (number_in before) ks)
+    (cond (is_some o) (unknown_in before (length done + 1) ks) ((length done, k) ∷ unknown_in before (length done + 1) ks))
     ≡ (with_keys (with_key m k) ks, done ++ number_in (with_keys (with_key m k) ks) k ∷ map (number_in (with_keys (with_key m k) ks)) ks)) [
       | Some n ↦ λ at.
-          subst (λ o. settled (m, done ++ number_in before k ∷ map (number_in before) ks) (unknown_in before (length done + 1) ks) ≡ (with_keys o ks, done ++ number_in (with_keys o ks) k ∷ map (number_in (with_keys o ks)) ks))
+          subst (λ o. settled (m, done ++ number_in before k ∷ map (number_in before) ks)
+          (unknown_in before (length done + 1) ks) ≡ (with_keys o ks, done ++ number_in (with_keys o ks) k ∷ map (number_in (with_keys o ks)) ks))
           (sym (known m k n (keeps k n at)))
-          (one_more before m done (number_in before k) k ks (settles before m (done ++ number_in before k ∷ []) ks keeps) (same_number before (with_keys m ks) k (keeps_on before m (with_keys m ks) keeps (keeps_keys m ks)) (n, at)))
+          (one_more before m done (number_in before k) k ks (settles before m (done ++ number_in before k ∷ []) ks keeps)
+          (same_number before (with_keys m ks) k (keeps_on before m (with_keys m ks) keeps (keeps_keys m ks)) (n, at)))
       | None ↦ λ none.
           let x = number_in (with_key m k) k in
           ap (λ l. settled (with_key m k, l) (unknown_in before (length done + 1) ks)) (set_here done (number_in before k) x (map (number_in before) ks))
-          ∙ one_more before (with_key m k) done x k ks (settles before (with_key m k) (done ++ x ∷ []) ks (keeps_on before m (with_key m k) keeps (keeps_key m k))) (same_number (with_key m k) (with_keys (with_key m k) ks) k (keeps_keys (with_key m k) ks) (has_key m k))
+          ∙ one_more before (with_key m k) done x k ks (settles before (with_key m k) (done ++ x ∷ []) ks
+          (keeps_on before m (with_key m k) keeps (keeps_key m k)))
+          (same_number (with_key m k) (with_keys (with_key m k) ks) k (keeps_keys (with_key m k) ks) (has_key m k))
     ] refl
 
-pub settles_by : (before m : Numbers) (ks : List Key) (looked : Looked) → Keeps before m → IsLooked before ks looked → settled_by m looked ≡ (with_keys m ks, map (number_in (with_keys m ks)) ks)
+pub settles_by : (before m : Numbers) (ks : List Key) (looked : Looked) → Keeps before m → IsLooked before ks looked
+    → settled_by m looked ≡ (with_keys m ks, map (number_in (with_keys m ks)) ks)
 settles_by before m ks looked keeps is = (λ i. settled (m, is.numbers_are i) (is.unknown_are i)) ∙ settles before m [] ks keeps
 
 pub longer_settled : (state : Numbers × List ℕ) (us : List (ℕ × Key)) → fin.len state.0 ≤ fin.len (settled state us).0
 longer_settled state [] = omega arith
-longer_settled state (u ∷ us) = let one = longer_key state.0 u.1 in let rest = longer_settled (with_key state.0 u.1, set state.1 u.0 (number_in (with_key state.0 u.1) u.1)) us in omega arith
+longer_settled state (u ∷ us) = let one = longer_key state.0 u.1 in let rest =
+    longer_settled (with_key state.0 u.1, set state.1 u.0 (number_in (with_key state.0 u.1) u.1)) us in omega arith
 
 pub unknown_more : (m : Numbers) (p : ℕ) (k : Key) (ks : List Key) → unknown_in m p (k ∷ ks) ≡ unknown_in m p (k ∷ []) ++ unknown_in m (p + 1) ks
-unknown_more m p k ks = elim (fin.contains_key m k) as (λ b. cond b (unknown_in m (p + 1) ks) ((p, k) ∷ unknown_in m (p + 1) ks) ≡ cond b [] ((p, k) ∷ []) ++ unknown_in m (p + 1) ks) [ true ↦ refl | false ↦ refl ]
+unknown_more m p k ks = elim (fin.contains_key m k) as (λ b. cond b (unknown_in m (p + 1) ks) ((p, k) ∷ unknown_in m (p + 1) ks) ≡ cond b []
+    ((p, k) ∷ []) ++ unknown_in m (p + 1) ks) [ true ↦ refl | false ↦ refl ]
 
 places_below : (m : Numbers) (p n : ℕ) (ks : List Key) → p + length ks ≤ n → All (λ u. u.0 < n) (unknown_in m p ks)
 places_below m p n [] le = All-nil (λ (u : ℕ × Key). u.0 < n)
 places_below m p n (k ∷ ks) le =
     let rest = places_below m (p + 1) n ks (omega (arith, le)) in
-    elim (fin.contains_key m k) as (λ b. All (λ u. u.0 < n) (cond b (unknown_in m (p + 1) ks) ((p, k) ∷ unknown_in m (p + 1) ks))) [ true ↦ rest | false ↦ All-cons (λ (u : ℕ × Key). u.0 < n) (p, k) (unknown_in m (p + 1) ks) (omega (arith, le)) rest ]
+    elim (fin.contains_key m k) as (λ b. All (λ u. u.0 < n) (cond b (unknown_in m (p + 1) ks) ((p, k) ∷ unknown_in m (p + 1) ks))) [
+      | true ↦ rest
+      | false ↦
+          All-cons (λ (u : ℕ × Key). u.0 < n) (p, k) (unknown_in m (p + 1) ks) (omega (arith, le)) rest
+    ]
 
 all_shown : (n : ℕ) (us : List Unknown) → All (λ u. u.0 < n) (shown us) → All (λ u. u.place < n) us
 all_shown n [] all = All-nil (λ (u : Unknown). u.place < n)
-all_shown n (u ∷ us) all = All-cons (λ (v : Unknown). v.place < n) u us (All-head (λ (v : ℕ × Key). v.0 < n) (u.place, u.key.now) (shown us) all) (all_shown n us (All-tail (λ (v : ℕ × Key). v.0 < n) (u.place, u.key.now) (shown us) all))
+all_shown n (u ∷ us) all = All-cons (λ (v : Unknown). v.place < n) u us (All-head (λ (v : ℕ × Key). v.0 < n) (u.place, u.key.now) (shown us) all)
+    (all_shown n us (All-tail (λ (v : ℕ × Key). v.0 < n) (u.place, u.key.now) (shown us) all))
 
 has_places : (m : Numbers) (ks : List Key) (looked : Looked) → IsLooked m ks looked → HasPlaces looked
 has_places m ks looked is =
     let long : length looked.numbers.items ≡ length ks = ap length is.numbers_are ∙ length-map ks (number_in m) in
-    all_shown (length looked.numbers.items) looked.unknown.items (subst (All (λ u. u.0 < length looked.numbers.items)) (sym is.unknown_are) (places_below m 0 (length looked.numbers.items) ks (omega arith)))
+    all_shown (length looked.numbers.items) looked.unknown.items
+    (subst (All (λ u. u.0 < length looked.numbers.items)) (sym is.unknown_are) (places_below m 0 (length looked.numbers.items) ks (omega arith)))
 
 -- ---- all requests
 
@@ -112,7 +127,8 @@ unfolding AllFound
 have_places m [] [] found = All-nil HasBothPlaces
 have_places m [] (f ∷ fs) found = absurd found
 have_places m (s ∷ ss) [] found = absurd found
-have_places m (s ∷ ss) (f ∷ fs) found = All-cons HasBothPlaces f fs (record { reads = has_places m s.reads f.reads found.0.reads; writes = has_places m s.writes f.writes found.0.writes }) (have_places m ss fs found.1)
+have_places m (s ∷ ss) (f ∷ fs) found = All-cons HasBothPlaces f fs
+    (record { reads = has_places m s.reads f.reads found.0.reads; writes = has_places m s.writes f.writes found.0.writes }) (have_places m ss fs found.1)
 
 abbrev pub read_lists : Numbers → List Sets → List (List ℕ)
 read_lists m sets = map (λ s. map (number_in m) s.reads) sets
@@ -150,7 +166,8 @@ pub record IsSettled (m : Numbers) (sets : List Sets) (fs : List Found) : Type 0
   pub is : settled_all (m, ([], [])) fs ≡ (with_sets m sets, (read_lists (with_sets m sets) sets, write_lists (with_sets m sets) sets))
 
 pub is_settled : (m : Numbers) (sets : List Sets) (fs : List Found) → AreGiven (IsFoundAt m sets) (length sets) fs → IsSettled m sets fs
-is_settled m sets fs given = let found = all_found m sets fs given in record { places = have_places m sets fs found; is = settles_all m m sets fs [] [] (λ k n at. at) found }
+is_settled m sets fs given = let found = all_found m sets fs given in
+    record { places = have_places m sets fs found; is = settles_all m m sets fs [] [] (λ k n at. at) found }
 
 pub longer_all : (state : Numbers × Lists) (fs : List Found) → fin.len state.0 ≤ fin.len (settled_all state fs).0
 longer_all state [] = omega arith
@@ -165,28 +182,37 @@ pub record IsFoundUpTo (m : Numbers) (sets : List Sets) (fs : List Found) (i : �
   pub long : length fs ≡ i
   pub each : (place : ℕ) (d : Found) → place < i → IsFoundAt m sets place (slice_index_or fs place d)
 
-pub found_more : (m : Numbers) (sets : List Sets) (fs gs : List Found) (s : Sets) (f : Found) (i : ℕ) → IsFoundUpTo m sets fs i → i < length sets → s ≡ get_or sets i s → IsFound m s f → gs ≡ fs ++ f ∷ [] → IsFoundUpTo m sets gs (i + 1)
+pub found_more : (m : Numbers) (sets : List Sets) (fs gs : List Found) (s : Sets) (f : Found) (i : ℕ) → IsFoundUpTo m sets fs i → i < length sets
+    → s ≡ get_or sets i s → IsFound m s f → gs ≡ fs ++ f ∷ [] → IsFoundUpTo m sets gs (i + 1)
 found_more m sets fs gs s f i so_far below at is more = record {
   long = let long = so_far.long in ap length more ∙ length-append fs (f ∷ []) ∙ omega arith;
   each = λ place d lt. elim (cases_lt place i) as (λ _. IsFoundAt m sets place (slice_index_or gs place d)) [
-    | inl less ↦ let long = so_far.long in subst (IsFoundAt m sets place) (sym (ap (λ l. slice_index_or l place d) more ∙ get_or_append_left fs (f ∷ []) d place (omega arith))) (so_far.each place d less)
+    | inl less ↦ let long = so_far.long in subst (IsFoundAt m sets place)
+        (sym (ap (λ l. slice_index_or l place d) more ∙ get_or_append_left fs (f ∷ []) d place (omega arith))) (so_far.each place d less)
     | inr ge ↦
         let long = so_far.long in
         let here : place ≡ length fs + 0 = omega arith in
-        let last : slice_index_or gs place d ≡ f = ap (λ l. slice_index_or l place d) more ∙ ap (λ n. slice_index_or (fs ++ f ∷ []) n d) here ∙ get_or-append-add fs (f ∷ []) 0 d in
+        let last : slice_index_or gs place d ≡ f = ap (λ l. slice_index_or l place d) more ∙ ap (λ n. slice_index_or (fs ++ f ∷ []) n d) here
+        ∙ get_or-append-add fs (f ∷ []) 0 d in
         let same : i ≡ place = omega arith in
         let within : place < length sets = omega arith in
-        subst (IsFoundAt m sets place) (sym last) (within, λ e. subst (λ t. IsFound m t f) (at ∙ ap (λ n. get_or sets n s) same ∙ get_or_default sets place s e within) is)
+        subst (IsFoundAt m sets place) (sym last) (
+          within,
+          λ e. subst (λ t. IsFound m t f) (at ∙ ap (λ n. get_or sets n s) same
+              ∙ get_or_default sets place s e within) is,
+        )
   ];
 }
 
-pub found_all : (m : Numbers) (sets : List Sets) (fs : List Found) (i : ℕ) → IsFoundUpTo m sets fs i → length sets ≡ i → AreGiven (IsFoundAt m sets) (length sets) fs
+pub found_all : (m : Numbers) (sets : List Sets) (fs : List Found) (i : ℕ) → IsFoundUpTo m sets fs i → length sets ≡ i
+    → AreGiven (IsFoundAt m sets) (length sets) fs
 found_all m sets fs i so_far whole = record { each_place = let long = so_far.long in omega arith; given = λ place d lt. so_far.each place d (omega arith) }
 
 -- ---- the lists of all requests, by the keys with theirs
 
 module _ (m final : Numbers) (sets : List Sets) (are : final ≡ with_sets m sets) where
-  pub numbered_lists : (sheet : Sheet) → sheet.reads ≡ read_lists (with_sets m sets) sets → sheet.writes ≡ write_lists (with_sets m sets) sets → IsNumbered key_cmp reads_of writes_of (fin.keys final) (number_in final) sets sheet
+  pub numbered_lists : (sheet : Sheet) → sheet.reads ≡ read_lists (with_sets m sets) sets → sheet.writes ≡ write_lists (with_sets m sets) sets
+      → IsNumbered key_cmp reads_of writes_of (fin.keys final) (number_in final) sets sheet
   numbered_lists sheet reads writes = record {
     reads_among = subst (λ o. HasKeysOf key_cmp (fin.keys o) reads_of sets) (sym are) (reads_among m sets);
     writes_among = subst (λ o. HasKeysOf key_cmp (fin.keys o) writes_of sets) (sym are) (writes_among m sets);
@@ -194,12 +220,14 @@ module _ (m final : Numbers) (sets : List Sets) (are : final ≡ with_sets m set
     writes_are = writes ∙ ap (λ o. write_lists o sets) (sym are);
   }
 
-  pub all_reads_below : (keys : ℕ) (lists : List (List ℕ)) → AreNumbers final → keys ≡ fin.len final → lists ≡ read_lists (with_sets m sets) sets → AllBelow keys lists
+  pub all_reads_below : (keys : ℕ) (lists : List (List ℕ)) → AreNumbers final → keys ≡ fin.len final → lists ≡ read_lists (with_sets m sets) sets
+      → AllBelow keys lists
   all_reads_below keys lists numbers long is =
       let same : lists ≡ read_lists final sets = is ∙ ap (λ o. read_lists o sets) (sym are) in
       subst (λ n. AllBelow n lists) (sym long) (subst (AllBelow (fin.len final)) (sym same) (reads_below m final sets are numbers))
 
-  pub all_writes_below : (keys : ℕ) (lists : List (List ℕ)) → AreNumbers final → keys ≡ fin.len final → lists ≡ write_lists (with_sets m sets) sets → AllBelow keys lists
+  pub all_writes_below : (keys : ℕ) (lists : List (List ℕ)) → AreNumbers final → keys ≡ fin.len final → lists ≡ write_lists (with_sets m sets) sets
+      → AllBelow keys lists
   all_writes_below keys lists numbers long is =
       let same : lists ≡ write_lists final sets = is ∙ ap (λ o. write_lists o sets) (sym are) in
       subst (λ n. AllBelow n lists) (sym long) (subst (AllBelow (fin.len final)) (sym same) (writes_below m final sets are numbers))
@@ -215,10 +243,14 @@ longer_by m looked = longer_settled (m, looked.numbers.items) (shown looked.unkn
 longer_next : (state : Numbers × List ℕ) (u : Unknown) (us : List Unknown) → fin.len (with_key state.0 u.key.now) ≤ fin.len (settled state (shown (u ∷ us))).0
 longer_next state u us = longer_settled (with_key state.0 u.key.now, set state.1 u.place (number_in (with_key state.0 u.key.now) u.key.now)) (shown us)
 
-pub longer_at : (state : Numbers × List ℕ) (us : List Unknown) (i : ℕ) (u : Unknown) → i < length us → u ≡ get_or us i u → fin.len (with_key state.0 u.key.now) ≤ fin.len (settled state (shown (drop i us))).0
+pub longer_at : (state : Numbers × List ℕ) (us : List Unknown) (i : ℕ) (u : Unknown) → i < length us → u ≡ get_or us i u
+    → fin.len (with_key state.0 u.key.now) ≤ fin.len (settled state (shown (drop i us))).0
 longer_at state us i u lt is =
     subst (λ l. fin.len (with_key state.0 u.key.now) ≤ fin.len (settled state (shown l)).0) (sym (drop-cons us i u lt))
-    (subst (λ v. fin.len (with_key state.0 v.key.now) ≤ fin.len (settled state (shown (get_or us i u ∷ drop (suc i) us))).0) (sym is) (longer_next state (get_or us i u) (drop (suc i) us)))
+    (subst (λ v. fin.len (with_key state.0 v.key.now) ≤ fin.len (settled state (shown (get_or us i u ∷ drop (suc i) us))).0) (sym is)
+    (longer_next state (get_or us i u) (drop (suc i) us)))
 
-pub longer_first : (m : Numbers) (lists : Lists) (f : Found) (fs all : List Found) → all ≡ f ∷ fs → fin.len (settled_by (settled_by m f.reads).0 f.writes).0 ≤ fin.len (settled_all (m, lists) all).0
-longer_first m lists f fs all is = subst (λ l. fin.len (settled_by (settled_by m f.reads).0 f.writes).0 ≤ fin.len (settled_all (m, lists) l).0) (sym is) (longer_all (settled_one (m, lists) f) fs)
+pub longer_first : (m : Numbers) (lists : Lists) (f : Found) (fs all : List Found) → all ≡ f ∷ fs
+    → fin.len (settled_by (settled_by m f.reads).0 f.writes).0 ≤ fin.len (settled_all (m, lists) all).0
+longer_first m lists f fs all is = subst (λ l. fin.len (settled_by (settled_by m f.reads).0 f.writes).0 ≤ fin.len (settled_all (m, lists) l).0) (sym is)
+    (longer_all (settled_one (m, lists) f) fs)

@@ -22,7 +22,11 @@ stray key = Strays key
 
 pub ends_as : (run : Run) (old new : Window) (end : End) → play None run old ≡ record { end = Finishes end; seen = new } → EndsAs run old new end
 ends_as run old new end e =
-    let whole : Played key_cmp Cells End = record { end = Finishes (end_of run old.map); seen = record { map = left_by run old.map; noted = all_noted key_cmp old.noted (trace_of run old.map) } } in
+    let whole : Played key_cmp Cells End = record {
+      end = Finishes (end_of run old.map);
+      seen =
+          record { map = left_by run old.map; noted = all_noted key_cmp old.noted (trace_of run old.map) };
+    } in
     let same : whole ≡ record { end = Finishes end; seen = new } = sym (play-is run old) ∙ e in
     let ends : finish (end_of run old.map) ≡ finish end = ap (λ (p : Played key_cmp Cells End). p.end) same in
     (cc, sym (ap (λ (p : Played key_cmp Cells End). p.seen) same))
@@ -33,18 +37,24 @@ never_strays run old new key e =
     let ends : finish (end_of run old.map) ≡ stray key = ap (λ (p : Played key_cmp Cells End). p.end) (sym (play-is run old) ∙ e) in
     cc
 
-ended : (declared : Touchable Key) (run : Run) (old new : Window) (r : Ran) → outside key_cmp declared (trace_of run old.map) ≡ None → play None run old ≡ record { end = end_of_ran r; seen = new } → EndsWithin declared run old new r
+ended : (declared : Touchable Key) (run : Run) (old new : Window) (r : Ran) → outside key_cmp declared (trace_of run old.map) ≡ None
+    → play None run old ≡ record { end = end_of_ran r; seen = new } → EndsWithin declared run old new r
 ended declared run old new (ran.Ended end) none e = (none, ends_as run old new end e)
 ended declared run old new (ran.Moved key) none e = absurd (never_strays run old new key e)
 
-moved : (declared : Touchable Key) (run : Run) (old new : Window) (r : Ran) (key : Key) → outside key_cmp declared (trace_of run old.map) ≡ Some key → stray key ≡ end_of_ran r → EndsWithin declared run old new r
+moved : (declared : Touchable Key) (run : Run) (old new : Window) (r : Ran) (key : Key) → outside key_cmp declared (trace_of run old.map) ≡ Some key
+    → stray key ≡ end_of_ran r → EndsWithin declared run old new r
 moved declared run old new (ran.Ended end) key some e = cc
 moved declared run old new (ran.Moved other) key some e = cc
 
 by_outside : (declared : Touchable Key) (run : Run) (old new : Window) (r : Ran) → play (Some declared) run old ≡ record { end = end_of_ran r; seen = new }
-    → (o : Option Key) → outside key_cmp declared (trace_of run old.map) ≡ o → MatchOption o (play (Some declared) run old ≡ play None run old) (λ key. (play (Some declared) run old).end ≡ Strays key) → EndsWithin declared run old new r
+    → (o : Option Key) → outside key_cmp declared (trace_of run old.map) ≡ o
+    → MatchOption o (play (Some declared) run old ≡ play None run old) (λ key. (play (Some declared) run old).end ≡ Strays key)
+    → EndsWithin declared run old new r
 by_outside declared run old new r e None none same = ended declared run old new r none (sym same ∙ e)
 by_outside declared run old new r e (Some key) some strays = moved declared run old new r key some (sym strays ∙ ap (λ (p : Played key_cmp Cells End). p.end) e)
 
-pub ends_within : (declared : Touchable Key) (run : Run) (old new : Window) (r : Ran) → play (Some declared) run old ≡ record { end = end_of_ran r; seen = new } → EndsWithin declared run old new r
-ends_within declared run old new r e = by_outside declared run old new r e (outside key_cmp declared (trace_of run old.map)) refl (play_within-is declared run old)
+pub ends_within : (declared : Touchable Key) (run : Run) (old new : Window) (r : Ran)
+    → play (Some declared) run old ≡ record { end = end_of_ran r; seen = new } → EndsWithin declared run old new r
+ends_within declared run old new r e = by_outside declared run old new r e (outside key_cmp declared (trace_of run old.map)) refl
+    (play_within-is declared run old)

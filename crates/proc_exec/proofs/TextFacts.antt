@@ -25,11 +25,15 @@ no_bad_byte bytes at text found =
     cc
 
 pub text_front : (first second : List ℕ) (n : ℕ) → IsText first → IsText second → n ≤ LONGEST_TEXT → IsText (take n (first ++ second))
-text_front first second n p q small =
-    (omega (arith, length-take n (first ++ second)), All-take (λ b. may_hold b ≡ true) n (first ++ second) (All-append (λ b. may_hold b ≡ true) first second p.1 q.1))
+text_front first second n p q small = (
+  omega (arith, length-take n (first ++ second)),
+  All-take (λ b. may_hold b ≡ true) n (first ++ second)
+      (All-append (λ b. may_hold b ≡ true) first second p.1 q.1),
+)
 
 -- two texts joined, where they are not too long
-pub joined_whole : (first second : List ℕ) → length first + length second ≤ LONGEST_TEXT → joined first second ≡ Ok (value.Text (take LONGEST_TEXT (first ++ second)))
+pub joined_whole : (first second : List ℕ) → length first + length second ≤ LONGEST_TEXT
+    → joined first second ≡ Ok (value.Text (take LONGEST_TEXT (first ++ second)))
 joined_whole first second small =
     let fits : length (first ++ second) ≤ LONGEST_TEXT = omega (arith, length-append first second) in
     rw (le-leb (length (first ++ second)) LONGEST_TEXT fits, take_all LONGEST_TEXT (first ++ second) fits) refl

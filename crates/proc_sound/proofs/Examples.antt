@@ -52,7 +52,8 @@ other_row : (r : Request) → careful_script accounts (by (More (Put 0 (Num (pos
 other_row r = refl
 
 -- a register is set in a loop alone: the loop may go over no tuple
-set_in_loop : (r : Request) → r.call.args ≡ given.List [] ∷ [] → careful_script accounts (by (More (Each 0 (More (Let 0 (Named Item 1)) NoMore)) (More (Give (Named Reg 0)) NoMore))) r ≡ Ends None
+set_in_loop : (r : Request) → r.call.args ≡ given.List [] ∷ []
+    → careful_script accounts (by (More (Each 0 (More (Let 0 (Named Item 1)) NoMore)) (More (Give (Named Reg 0)) NoMore))) r ≡ Ends None
 set_in_loop r e = rw e refl
 
 -- ---- not stuck
@@ -61,7 +62,8 @@ by_zero : (r : Request) → careful_value r [] [] (Binary Div (Num (pos 1)) (Num
 by_zero r = refl
 
 abbrev copying : Proc
-copying = by (More (Read Traps 0 (Num (pos 7) ∷ []) (0 ∷ [])) (More (Each 0 (More (Put 0 (Named Item 0 ∷ []) (Binary Add (Named Reg 0) (Named Item 1) ∷ [])) NoMore)) NoMore))
+copying = by (More (Read Traps 0 (Num (pos 7) ∷ []) (0 ∷ []))
+    (More (Each 0 (More (Put 0 (Named Item 0 ∷ []) (Binary Add (Named Reg 0) (Named Item 1) ∷ [])) NoMore)) NoMore))
 
 copying_suits : (r : Request) → args_fit copying.args r.call.args ≡ true → Suits accounts copying r
 copying_suits r fits = record { shapes = refl; typed = refl; args = fits }

@@ -50,11 +50,13 @@ with-short n (Err trap) go h = tt
 abbrev one_more : Frame → Frame
 one_more f = record { regs = f.regs; gives = f.gives; made = f.made + 1 }
 
-counted-short : (f : Frame) (go : Next) → (f.made < MOST_ACCESSES → Within (MOST_ACCESSES - f.made) (go (one_more f))) → Within (MOST_ACCESSES - f.made) (counted f go)
-counted-short f go h = elim (nat_lt f.made MOST_ACCESSES) as (λ b. nat_lt f.made MOST_ACCESSES ≡ b → Within (MOST_ACCESSES - f.made) (if b then go (one_more f) else Ends (end.Trap Many))) [
-  | true ↦ λ e. h (ltb-true f.made MOST_ACCESSES e)
-  | false ↦ λ e. tt
-] refl
+counted-short : (f : Frame) (go : Next) → (f.made < MOST_ACCESSES → Within (MOST_ACCESSES - f.made) (go (one_more f)))
+    → Within (MOST_ACCESSES - f.made) (counted f go)
+counted-short f go h = elim (nat_lt f.made MOST_ACCESSES) as (λ b. nat_lt f.made MOST_ACCESSES ≡ b
+    → Within (MOST_ACCESSES - f.made) (if b then go (one_more f) else Ends (end.Trap Many))) [
+      | true ↦ λ e. h (ltb-true f.made MOST_ACCESSES e)
+      | false ↦ λ e. tt
+    ] refl
 
 less-one : (f : Frame) (t : Run) → Within (MOST_ACCESSES - (f.made + 1)) t → Within (MOST_ACCESSES - f.made - 1) t
 less-one f t h = let same : MOST_ACCESSES - (f.made + 1) ≡ MOST_ACCESSES - f.made - 1 = omega arith in subst (λ n. Within n t) same h
@@ -76,30 +78,37 @@ row_or-short (Blanks flag) rs next h None f few = h _ few
 row_or-short (Blanks flag) rs next h (Some row) f few = h _ few
 
 gives-short : (next : Next) (f : Frame) → IsShort next → f.made ≤ MOST_ACCESSES → (v : Value) → Within (MOST_ACCESSES - f.made) (gives next f v)
-gives-short next f h few v = elim (nat_lt (length f.gives) MOST_GIVEN) as (λ b. Within (MOST_ACCESSES - f.made) (if b then next (record { regs = f.regs; gives = f.gives ++ v ∷ []; made = f.made }) else Ends (end.Trap Many))) [
-  | true ↦ h _ few
-  | false ↦ tt
-]
+gives-short next f h few v =
+    elim (nat_lt (length f.gives) MOST_GIVEN) as (λ b. Within (MOST_ACCESSES - f.made)
+    (if b then next (record { regs = f.regs; gives = f.gives ++ v ∷ []; made = f.made }) else Ends (end.Trap Many))) [
+      | true ↦ h _ few
+      | false ↦ tt
+    ]
 
 if-short : (n : ℕ) (b : Bool) (t u : Run) → Within n t → Within n u → Within n (if b then t else u)
 if-short n true t u h k = h
 if-short n false t u h k = k
 
-for_each-short : (body : List ℤ → Next → Next) → ((t : List ℤ) (next : Next) → IsShort next → IsShort (body t next)) → (ts : List (List ℤ)) (next : Next) → IsShort next → IsShort (for_each body ts next)
+for_each-short : (body : List ℤ → Next → Next) → ((t : List ℤ) (next : Next) → IsShort next → IsShort (body t next)) → (ts : List (List ℤ)) (next : Next)
+    → IsShort next → IsShort (for_each body ts next)
 for_each-short body each [] next h = h
 for_each-short body each (t ∷ ts) next h = each t (for_each body ts next) (for_each-short body each ts next h)
 
 mutual
   step-short : (r : Request) (s : Step) (item : List ℤ) (next : Next) → IsShort next → IsShort (step_run r s item next)
   step-short r (step.Let n e) item next h f few = with-short (MOST_ACCESSES - f.made) (value_of r item f.regs e) _ (λ v. h _ few)
-  step-short r (step.Read absence t ks rs) item next h f few = reads-short (λ f. key_from r item f.regs t ks) (row_or absence rs next) (row_or-short absence rs next h) f few
-  step-short r (step.Put t ks es) item next h f few = writes-short (λ f. key_from r item f.regs t ks) (λ f. got (row_from r item f.regs es) (λ row. Ok (Some row))) next h f few
+  step-short r (step.Read absence t ks rs) item next h f few =
+      reads-short (λ f. key_from r item f.regs t ks) (row_or absence rs next) (row_or-short absence rs next h) f few
+  step-short r (step.Put t ks es) item next h f few = writes-short (λ f. key_from r item f.regs t ks)
+      (λ f. got (row_from r item f.regs es) (λ row. Ok (Some row))) next h f few
   step-short r (step.Del t ks) item next h f few = writes-short (λ f. key_from r item f.regs t ks) (λ f. Ok None) next h f few
   step-short r (step.If e a b) item next h f few =
       let first = steps-short r a item next h in
       let second = steps-short r b item next h in
-      with-short (MOST_ACCESSES - f.made) (value_of r item f.regs e) _ (λ v. if-short (MOST_ACCESSES - f.made) (is_true v) (steps_run r a item next f) (steps_run r b item next f) (first f few) (second f few))
-  step-short r (step.Each n body) item next h f few = for_each-short (steps_run r body) (λ t next h. steps-short r body t next h) (tuples_of (slice_get r.call.args n)) next h f few
+      with-short (MOST_ACCESSES - f.made) (value_of r item f.regs e) _
+      (λ v. if-short (MOST_ACCESSES - f.made) (is_true v) (steps_run r a item next f) (steps_run r b item next f) (first f few) (second f few))
+  step-short r (step.Each n body) item next h f few = for_each-short (steps_run r body) (λ t next h. steps-short r body t next h)
+      (tuples_of (slice_get r.call.args n)) next h f few
   step-short r (step.Give e) item next h f few = with-short (MOST_ACCESSES - f.made) (value_of r item f.regs e) _ (gives-short next f h few)
   step-short r (step.Fail code) item next h f few = tt
 
@@ -115,19 +124,21 @@ run-short (Some p) r = steps-short r p.body [] done (λ f few. tt) (begun p.regs
 
 with_write-length : (ws : List (Key × Option Cells)) (k : Key) (row : Option Cells) → length (with_write key_cmp ws k row) ≤ length ws + 1
 with_write-length [] k row = omega arith
-with_write-length (w ∷ ws) k row = elim (eq_by_cmp key_cmp k w.0) as (λ b. length (if b then (w.0, row) ∷ ws else w ∷ with_write key_cmp ws k row) ≤ suc (length ws) + 1) [
-  | true ↦ omega arith
-  | false ↦ omega (arith, with_write-length ws k row)
-]
+with_write-length (w ∷ ws) k row = elim (eq_by_cmp key_cmp k w.0) as (λ b. length (if b then (w.0, row) ∷ ws else w ∷ with_write key_cmp ws k row) ≤ suc
+    (length ws) + 1) [
+      | true ↦ omega arith
+      | false ↦ omega (arith, with_write-length ws k row)
+    ]
 
 abbrev size_of : Noted Key Cells → ℕ
 size_of n = length n.reads + length n.writes
 
 one_noted : (n : Noted Key Cells) (visit : Visit Key Cells) → size_of (noted key_cmp n visit) ≤ size_of n + 1
-one_noted n (Read k) = elim (is_among key_cmp n.reads k || is_among key_cmp (keys_of n.writes) k) as (λ b. length (if b then n.reads else n.reads ++ k ∷ []) + length n.writes ≤ size_of n + 1) [
-  | true ↦ omega arith
-  | false ↦ omega (arith, length-append n.reads (k ∷ []))
-]
+one_noted n (Read k) = elim (is_among key_cmp n.reads k || is_among key_cmp (keys_of n.writes) k) as (λ b. length
+    (if b then n.reads else n.reads ++ k ∷ []) + length n.writes ≤ size_of n + 1) [
+      | true ↦ omega arith
+      | false ↦ omega (arith, length-append n.reads (k ∷ []))
+    ]
 one_noted n (Write k row) = omega (arith, with_write-length n.writes k row)
 
 all_noted-size : (n : Noted Key Cells) (visits : List (Visit Key Cells)) → size_of (all_noted key_cmp n visits) ≤ size_of n + length visits

@@ -37,8 +37,11 @@ kind_at (v ∷ vs) (suc n) k e = kind_at vs n k e
 
 -- two lists joined are two others joined, if the first ones are as long
 pub fronts_same : (xs us ys vs : List Kind) → xs ++ us ≡ ys ++ vs → length xs ≡ length ys → (xs ≡ ys) × (us ≡ vs)
-fronts_same xs us ys vs e l =
-    (sym (take-append_seam xs us) ∙ (λ i. take (l i) (e i)) ∙ take-append_seam ys vs, sym (drop-append_seam xs us) ∙ (λ i. drop (l i) (e i)) ∙ drop-append_seam ys vs)
+fronts_same xs us ys vs e l = (
+  sym (take-append_seam xs us) ∙ (λ i. take (l i) (e i)) ∙ take-append_seam ys vs,
+  sym (drop-append_seam xs us) ∙ (λ i. drop (l i) (e i))
+      ∙ drop-append_seam ys vs,
+)
 
 -- ---- one place
 
@@ -53,7 +56,8 @@ set_same (y ∷ xs) zero x e = ap (λ z. z ∷ xs) (sym (same_Some _ _ e))
 set_same (y ∷ xs) (suc n) x e = ap (λ zs. y ∷ zs) (set_same xs n x e)
 
 -- a register that was the other list's element is it still when both are changed at one place, and is it at that place
-pub kept_set : {X : Type 0} (os : List (Option X)) (xs : List X) (n m : ℕ) (x : X) → length os ≡ length xs → slice_index_or os m None ≡ slice_get xs m → slice_index_or (slice_set os n (Some x)) m None ≡ slice_get (slice_set xs n x) m
+pub kept_set : {X : Type 0} (os : List (Option X)) (xs : List X) (n m : ℕ) (x : X) → length os ≡ length xs → slice_index_or os m None ≡ slice_get xs m
+    → slice_index_or (slice_set os n (Some x)) m None ≡ slice_get (slice_set xs n x) m
 kept_set [] [] n m x l e = refl
 kept_set [] (y ∷ xs) n m x l e = cc
 kept_set (o ∷ os) [] n m x l e = cc
@@ -62,7 +66,8 @@ kept_set (o ∷ os) (y ∷ xs) zero (suc m) x l e = e
 kept_set (o ∷ os) (y ∷ xs) (suc n) zero x l e = e
 kept_set (o ∷ os) (y ∷ xs) (suc n) (suc m) x l e = kept_set os xs n m x (cc) e
 
-pub held_set : {X : Type 0} (os : List (Option X)) (xs : List X) (n : ℕ) (x : X) → length os ≡ length xs → slice_index_or (slice_set os n (Some x)) n None ≡ slice_get (slice_set xs n x) n
+pub held_set : {X : Type 0} (os : List (Option X)) (xs : List X) (n : ℕ) (x : X) → length os ≡ length xs
+    → slice_index_or (slice_set os n (Some x)) n None ≡ slice_get (slice_set xs n x) n
 held_set [] [] n x l = refl
 held_set [] (y ∷ xs) n x l = cc
 held_set (o ∷ os) [] n x l = cc

@@ -46,7 +46,8 @@ pub record Goes (tables : List Table) (W : ℕ → Type 0) (kinds : List Kind) (
 
 -- ---- words of the meaning
 
-pub with_like : {A : Type 0} (tables : List Table) (P : A → Type 0) {c : Sure A} (v : Got A) (go : A → Run) (go' : A → Careful) → IsSure P c v → ((x : A) → P x → Like tables (go x) (go' x)) → Like tables (plain.with v go) (with c go')
+pub with_like : {A : Type 0} (tables : List Table) (P : A → Type 0) {c : Sure A} (v : Got A) (go : A → Run) (go' : A → Careful) → IsSure P c v
+    → ((x : A) → P x → Like tables (go x) (go' x)) → Like tables (plain.with v go) (with c go')
 with_like tables P (Ok x) go go' s h = rw s.same (h x s.value)
 with_like tables P (Err trap) go go' s h = rw s.same refl
 
@@ -56,10 +57,21 @@ checked_like tables false t t' e like = cc
 
 module _ (tables : List Table) {W : ℕ → Type 0} {kinds : List Kind} {set : Set} where
   -- a state in which less is known
-  abbrev pub loosened : {V : ℕ → Type 0} {less : Set} (i : States W kinds set) → ((n : ℕ) → V n → slice_index_or i.state.regs n None ≡ slice_get i.frame.regs n) → ((n : ℕ) → IsSet less n → slice_index_or i.state.regs n None ≡ slice_get i.frame.regs n) → States V kinds less
-  loosened i kept held = record { frame = i.frame; state = i.state; regs = record { kinds_are = i.regs.kinds_are; held = held }; count = i.count; kept = kept; given = i.given; made = i.made }
+  abbrev pub loosened : {V : ℕ → Type 0} {less : Set} (i : States W kinds set)
+      → ((n : ℕ) → V n → slice_index_or i.state.regs n None ≡ slice_get i.frame.regs n)
+      → ((n : ℕ) → IsSet less n → slice_index_or i.state.regs n None ≡ slice_get i.frame.regs n) → States V kinds less
+  loosened i kept held = record {
+    frame = i.frame;
+    state = i.state;
+    regs = record { kinds_are = i.regs.kinds_are; held = held };
+    count = i.count;
+    kept = kept;
+    given = i.given;
+    made = i.made;
+  }
 
-  pub counted_like : (go : plain.Next) (go' : Next) → Follows tables W kinds set go go' → (i : States W kinds set) → Like tables (plain.counted i.frame go) (counted go' i.state)
+  pub counted_like : (go : plain.Next) (go' : Next) → Follows tables W kinds set go go' → (i : States W kinds set)
+      → Like tables (plain.counted i.frame go) (counted go' i.state)
   counted_like go go' h i =
       let j : States W kinds set = record {
         frame = record { regs = i.frame.regs; gives = i.frame.gives; made = i.frame.made + 1 };
@@ -70,9 +82,12 @@ module _ (tables : List Table) {W : ℕ → Type 0} {kinds : List Kind} {set : S
         given = i.given;
         made = ap (λ n. n + 1) i.made;
       } in
-      rw (ap (λ n. nat_lt n MOST_ACCESSES) i.made) (elim (nat_lt i.frame.made MOST_ACCESSES) as (λ b. Like tables (if b then go j.frame else Ends (end.Trap Many)) (if b then go' j.state else Ends (Some (end.Trap Many)))) [ true ↦ h.like j | false ↦ refl ])
+      rw (ap (λ n. nat_lt n MOST_ACCESSES) i.made)
+      (elim (nat_lt i.frame.made MOST_ACCESSES) as (λ b. Like tables (if b then go j.frame else Ends (end.Trap Many))
+      (if b then go' j.state else Ends (Some (end.Trap Many)))) [ true ↦ h.like j | false ↦ refl ])
 
-  pub gives_like : (next : plain.Next) (next' : Next) → Follows tables W kinds set next next' → (v : Value) (i : States W kinds set) → Like tables (plain.gives next i.frame v) (gives next' i.state v)
+  pub gives_like : (next : plain.Next) (next' : Next) → Follows tables W kinds set next next' → (v : Value) (i : States W kinds set)
+      → Like tables (plain.gives next i.frame v) (gives next' i.state v)
   gives_like next next' h v i =
       let j : States W kinds set = record {
         frame = record { regs = i.frame.regs; gives = i.frame.gives ++ v ∷ []; made = i.frame.made };
@@ -83,7 +98,9 @@ module _ (tables : List Table) {W : ℕ → Type 0} {kinds : List Kind} {set : S
         given = ap (λ vs. vs ++ v ∷ []) i.given;
         made = i.made;
       } in
-      rw (ap (λ vs. nat_lt (length vs) MOST_GIVEN) i.given) (elim (nat_lt (length i.frame.gives) MOST_GIVEN) as (λ b. Like tables (if b then next j.frame else Ends (end.Trap Many)) (if b then next' j.state else Ends (Some (end.Trap Many)))) [ true ↦ h.like j | false ↦ refl ])
+      rw (ap (λ vs. nat_lt (length vs) MOST_GIVEN) i.given)
+      (elim (nat_lt (length i.frame.gives) MOST_GIVEN) as (λ b. Like tables (if b then next j.frame else Ends (end.Trap Many))
+      (if b then next' j.state else Ends (Some (end.Trap Many)))) [ true ↦ h.like j | false ↦ refl ])
 
 -- ---- setting registers
 
@@ -93,8 +110,10 @@ pub record Sets (kinds : List Kind) (n : ℕ) (k : Kind) (set set' : Set) : Type
   pub is : set' ≡ slice_set set n true
 
 pub sets_ok : (s : Scope) (n : ℕ) (k : Kind) (set : Set) → IfOk (typing.set_one s n k set) (Sets s.regs n k set)
-sets_ok s n k set = got_ok (found REGISTER (slice_get s.regs n)) (λ holds. got (wanted KIND (same_kind holds k)) (λ _. Ok (slice_set set n true))) (λ holds. slice_get s.regs n ≡ Some holds) (Sets s.regs n k set) (found_is REGISTER (slice_get s.regs n)) (λ holds e.
-    wanted_ok KIND (same_kind holds k) (λ _. Ok (slice_set set n true)) (Sets s.regs n k set) (λ same. record { there_is = e ∙ ap Some ((same_kind-decides holds k).0 same); is = refl }))
+sets_ok s n k set = got_ok (found REGISTER (slice_get s.regs n)) (λ holds. got (wanted KIND (same_kind holds k)) (λ _. Ok (slice_set set n true)))
+    (λ holds. slice_get s.regs n ≡ Some holds) (Sets s.regs n k set) (found_is REGISTER (slice_get s.regs n)) (λ holds e.
+    wanted_ok KIND (same_kind holds k) (λ _. Ok (slice_set set n true)) (Sets s.regs n k set)
+    (λ same. record { there_is = e ∙ ap Some ((same_kind-decides holds k).0 same); is = refl }))
 
 blank_kind : (k : Kind) → value_kind (blank k) ≡ k
 blank_kind Int = refl
@@ -111,7 +130,8 @@ abbrev pub blanking_all : List ℕ → plain.Next → plain.Next
 blanking_all rs next f = next (plain.set_to f (plain.blank_all rs f.regs))
 
 module _ (tables : List Table) (W : ℕ → Type 0) where
-  abbrev changed : {kinds : List Kind} {set : Set} (i : States W kinds set) (n : ℕ) (v : Value) → slice_get kinds n ≡ Some (value_kind v) → States W kinds (slice_set set n true)
+  abbrev changed : {kinds : List Kind} {set : Set} (i : States W kinds set) (n : ℕ) (v : Value) → slice_get kinds n ≡ Some (value_kind v)
+      → States W kinds (slice_set set n true)
   changed {kinds} {set} i n v e = record {
     frame = plain.set_to i.frame (slice_set i.frame.regs n v);
     state = set_to i.state (slice_set i.state.regs n (Some v));
@@ -128,7 +148,8 @@ module _ (tables : List Table) (W : ℕ → Type 0) where
     made = i.made;
   }
 
-  pub set_one_goes : {kinds : List Kind} {n : ℕ} {k : Kind} {set set' : Set} → Sets kinds n k set set' → (v : Value) → value_kind v ≡ k → Goes tables W kinds set set' (setting n v) (set_one kinds n v)
+  pub set_one_goes : {kinds : List Kind} {n : ℕ} {k : Kind} {set set' : Set} → Sets kinds n k set set' → (v : Value) → value_kind v ≡ k
+      → Goes tables W kinds set set' (setting n v) (set_one kinds n v)
   set_one_goes {kinds} {n} {k} {set} {set'} sets v is = record {
     go = λ next next' h. record {
       like = λ i.
@@ -138,31 +159,43 @@ module _ (tables : List Table) (W : ℕ → Type 0) where
     };
   }
 
-  goes_then : {kinds : List Kind} {set mid set' : Set} {m l : plain.Next → plain.Next} {m' l' : Next → Next} → Goes tables W kinds set mid m m' → Goes tables W kinds mid set' l l' → Goes tables W kinds set set' (λ next. m (l next)) (λ next. m' (l' next))
+  goes_then : {kinds : List Kind} {set mid set' : Set} {m l : plain.Next → plain.Next} {m' l' : Next → Next} → Goes tables W kinds set mid m m'
+      → Goes tables W kinds mid set' l l' → Goes tables W kinds set set' (λ next. m (l next)) (λ next. m' (l' next))
   goes_then {l = l} {l' = l'} a b = record { go = λ next next' h. a.go (l next) (l' next') (b.go next next' h) }
 
-  pub set_all_goes : (s : Scope) (rs : List ℕ) (row : List Value) (set : Set) → length rs ≡ length row → IfOk (typing.set_all s rs (map value_kind row) set) (λ set'. Goes tables W s.regs set set' (setting_all rs row) (set_all s.regs rs row))
+  pub set_all_goes : (s : Scope) (rs : List ℕ) (row : List Value) (set : Set) → length rs ≡ length row
+      → IfOk (typing.set_all s rs (map value_kind row) set) (λ set'. Goes tables W s.regs set set' (setting_all rs row) (set_all s.regs rs row))
   set_all_goes s [] [] set l = record { go = λ next next' h. h }
   set_all_goes s [] (v ∷ vs) set l = cc
   set_all_goes s (n ∷ ns) [] set l = cc
-  set_all_goes s (n ∷ ns) (v ∷ vs) set l = got_ok (typing.set_one s n (value_kind v) set) (typing.set_all s ns (map value_kind vs)) (Sets s.regs n (value_kind v) set) (λ set'. Goes tables W s.regs set set' (setting_all (n ∷ ns) (v ∷ vs)) (set_all s.regs (n ∷ ns) (v ∷ vs))) (sets_ok s n (value_kind v) set) (λ mid sets.
-      IfOk-weaker (typing.set_all s ns (map value_kind vs) mid) (λ set'. Goes tables W s.regs mid set' (setting_all ns vs) (set_all s.regs ns vs)) (λ set'. Goes tables W s.regs set set' (setting_all (n ∷ ns) (v ∷ vs)) (set_all s.regs (n ∷ ns) (v ∷ vs)))
+  set_all_goes s (n ∷ ns) (v ∷ vs) set l = got_ok (typing.set_one s n (value_kind v) set) (typing.set_all s ns (map value_kind vs))
+      (Sets s.regs n (value_kind v) set) (λ set'. Goes tables W s.regs set set' (setting_all (n ∷ ns) (v ∷ vs)) (set_all s.regs (n ∷ ns) (v ∷ vs)))
+      (sets_ok s n (value_kind v) set) (λ mid sets.
+      IfOk-weaker (typing.set_all s ns (map value_kind vs) mid) (λ set'. Goes tables W s.regs mid set' (setting_all ns vs) (set_all s.regs ns vs))
+      (λ set'. Goes tables W s.regs set set' (setting_all (n ∷ ns) (v ∷ vs)) (set_all s.regs (n ∷ ns) (v ∷ vs)))
       (λ set' rest. goes_then (set_one_goes sets v refl) rest) (set_all_goes s ns vs mid (cc)))
 
-  blank_one_goes : {kinds : List Kind} {n : ℕ} {k : Kind} {set set' : Set} → Sets kinds n k set set' → Goes tables W kinds set set' (λ next f. next (plain.set_to f (plain.blank_one n f.regs))) (λ next s. with (there (slice_get kinds n)) (λ kind. set_one kinds n (blank kind) next s))
+  blank_one_goes : {kinds : List Kind} {n : ℕ} {k : Kind} {set set' : Set} → Sets kinds n k set set'
+      → Goes tables W kinds set set' (λ next f. next (plain.set_to f (plain.blank_one n f.regs)))
+      (λ next s. with (there (slice_get kinds n)) (λ kind. set_one kinds n (blank kind) next s))
   blank_one_goes {kinds} {n} {k} sets = record {
     go = λ next next' h. record {
       like = λ i.
           let at = kind_at i.frame.regs n k (ap (λ ks. slice_get ks n) i.regs.kinds_are ∙ sets.there_is) in
-          subst (λ (o : Option Kind). Like tables (next (plain.set_to i.frame (plain.blank_one n i.frame.regs))) (with (there o) (λ kind. set_one kinds n (blank kind) next' i.state))) (sym sets.there_is)
-          (rw (ap value_kind (get_or_from_slice_get i.frame.regs n at.0 (value.Int (pos 0)) at.1) ∙ at.2) (((set_one_goes sets (blank k) (blank_kind k)).go next next' h).like i));
+          subst (λ (o : Option Kind). Like tables (next (plain.set_to i.frame (plain.blank_one n i.frame.regs)))
+          (with (there o) (λ kind. set_one kinds n (blank kind) next' i.state))) (sym sets.there_is)
+          (rw (ap value_kind (get_or_from_slice_get i.frame.regs n at.0 (value.Int (pos 0)) at.1) ∙ at.2)
+          (((set_one_goes sets (blank k) (blank_kind k)).go next next' h).like i));
     };
   }
 
-  pub blank_all_goes : (s : Scope) (rs : List ℕ) (cols : List Kind) (set : Set) → length rs ≡ length cols → IfOk (typing.set_all s rs cols set) (λ set'. Goes tables W s.regs set set' (blanking_all rs) (blank_all s.regs rs))
+  pub blank_all_goes : (s : Scope) (rs : List ℕ) (cols : List Kind) (set : Set) → length rs ≡ length cols
+      → IfOk (typing.set_all s rs cols set) (λ set'. Goes tables W s.regs set set' (blanking_all rs) (blank_all s.regs rs))
   blank_all_goes s [] [] set l = record { go = λ next next' h. h }
   blank_all_goes s [] (k ∷ ks) set l = cc
   blank_all_goes s (n ∷ ns) [] set l = cc
-  blank_all_goes s (n ∷ ns) (k ∷ ks) set l = got_ok (typing.set_one s n k set) (typing.set_all s ns ks) (Sets s.regs n k set) (λ set'. Goes tables W s.regs set set' (blanking_all (n ∷ ns)) (blank_all s.regs (n ∷ ns))) (sets_ok s n k set) (λ mid sets.
-      IfOk-weaker (typing.set_all s ns ks mid) (λ set'. Goes tables W s.regs mid set' (blanking_all ns) (blank_all s.regs ns)) (λ set'. Goes tables W s.regs set set' (blanking_all (n ∷ ns)) (blank_all s.regs (n ∷ ns)))
+  blank_all_goes s (n ∷ ns) (k ∷ ks) set l = got_ok (typing.set_one s n k set) (typing.set_all s ns ks) (Sets s.regs n k set)
+      (λ set'. Goes tables W s.regs set set' (blanking_all (n ∷ ns)) (blank_all s.regs (n ∷ ns))) (sets_ok s n k set) (λ mid sets.
+      IfOk-weaker (typing.set_all s ns ks mid) (λ set'. Goes tables W s.regs mid set' (blanking_all ns) (blank_all s.regs ns))
+      (λ set'. Goes tables W s.regs set set' (blanking_all (n ∷ ns)) (blank_all s.regs (n ∷ ns)))
       (λ set' rest. goes_then (blank_one_goes sets) rest) (blank_all_goes s ns ks mid (cc)))

@@ -6,7 +6,8 @@ use Rattle.proc_sound.specs.Careful.{Sure, and_then, pair}
 
 -- ---- what typing finds
 
-pub got_ok : {A B E : Type 0} (x : Result A E) (go : A → Result B E) (P : A → Type 0) (Q : B → Type 0) → IfOk x P → ((a : A) → P a → IfOk (go a) Q) → IfOk (got x go) Q
+pub got_ok : {A B E : Type 0} (x : Result A E) (go : A → Result B E) (P : A → Type 0) (Q : B → Type 0) → IfOk x P → ((a : A) → P a → IfOk (go a) Q)
+    → IfOk (got x go) Q
 got_ok (Ok a) go P Q p h = h a p
 got_ok (Err e) go P Q p h = tt
 
@@ -38,11 +39,13 @@ pub record IsSure {A : Type 0} (P : A → Type 0) (careful : Sure A) (plain : Go
   pub same : careful ≡ Some plain
   pub value : IfOk plain P
 
-pub then_sure : {A B : Type 0} (P : A → Type 0) (Q : B → Type 0) {c : Sure A} (v : Got A) (go' : A → Sure B) (go : A → Got B) → IsSure P c v → ((x : A) → P x → IsSure Q (go' x) (go x)) → IsSure Q (and_then c go') (got v go)
+pub then_sure : {A B : Type 0} (P : A → Type 0) (Q : B → Type 0) {c : Sure A} (v : Got A) (go' : A → Sure B) (go : A → Got B) → IsSure P c v
+    → ((x : A) → P x → IsSure Q (go' x) (go x)) → IsSure Q (and_then c go') (got v go)
 then_sure P Q (Ok x) go' go s h = rw s.same (h x s.value)
 then_sure P Q (Err e) go' go s h = rw s.same (record { same = refl; value = tt })
 
-pub pair_sure : {A B : Type 0} (P : A → Type 0) (Q : B → Type 0) {c : Sure A} {d : Sure B} (v : Got A) (w : Got B) → IsSure P c v → IsSure Q d w → IsSure (λ p. P p.0 × Q p.1) (pair c d) (both v w)
+pub pair_sure : {A B : Type 0} (P : A → Type 0) (Q : B → Type 0) {c : Sure A} {d : Sure B} (v : Got A) (w : Got B) → IsSure P c v → IsSure Q d w
+    → IsSure (λ p. P p.0 × Q p.1) (pair c d) (both v w)
 pair_sure P Q (Ok x) (Ok y) s t = rw (s.same, t.same) (record { same = refl; value = (s.value, t.value) })
 pair_sure P Q (Ok x) (Err e) s t = rw (s.same, t.same) (record { same = refl; value = tt })
 pair_sure P Q (Err e) w s t = rw s.same (record { same = refl; value = tt })

@@ -53,18 +53,24 @@ start kinds = record {
   made = refl;
 }
 
-alike : (tables : List Table) (p : Proc) (request : Request) → Suits tables p request → Like tables (script p.body p.regs request) (careful_script tables p request)
+alike : (tables : List Table) (p : Proc) (request : Request) → Suits tables p request
+    → Like tables (script p.body p.regs request) (careful_script tables p request)
 alike tables p request s =
     let W = λ (n : ℕ). ⊥ in
     let c : Context (scope_of tables p) request [] = record { shapes = s.shapes; args = s.args; tuple = tt } in
-    let goes = at_ok (typed_proc tables p) (λ last. Goes tables W p.regs (at_start p).set last.set (steps_run request p.body []) (careful_steps tables p.regs request p.body [])) s.typed (steps_goes request W (scope_of tables p) [] (at_start p) c p.body) in
+    let goes = at_ok (typed_proc tables p) (λ last. Goes tables W p.regs (at_start p).set last.set (steps_run request p.body [])
+    (careful_steps tables p.regs request p.body [])) s.typed (steps_goes request W (scope_of tables p) [] (at_start p) c p.body) in
     (goes.1.go plain.done done (record { like = λ i. ap (λ given. Some (end.Done given)) i.given })).like (start p.regs)
 
-pub never_stuck_is : (tables : List Table) (p : Proc) (request : Request) (db : Database) → Suits tables p request → IsConsistent tables db → IsNeverStuck (careful_script tables p request) (script p.body p.regs request) db
-never_stuck_is tables p request db s c = never_stuck_from tables (script p.body p.regs request) (careful_script tables p request) db (alike tables p request s) c
+pub never_stuck_is : (tables : List Table) (p : Proc) (request : Request) (db : Database) → Suits tables p request → IsConsistent tables db
+    → IsNeverStuck (careful_script tables p request) (script p.body p.regs request) db
+never_stuck_is tables p request db s c = never_stuck_from tables (script p.body p.regs request) (careful_script tables p request) db
+    (alike tables p request s) c
 
-pub stays_consistent_is : (tables : List Table) (p : Proc) (request : Request) (db : Database) → Suits tables p request → IsConsistent tables db → StaysConsistent tables (script p.body p.regs request) db
-stays_consistent_is tables p request db s c = consistent_from tables (script p.body p.regs request) (careful_script tables p request) db (alike tables p request s) c
+pub stays_consistent_is : (tables : List Table) (p : Proc) (request : Request) (db : Database) → Suits tables p request → IsConsistent tables db
+    → StaysConsistent tables (script p.body p.regs request) db
+stays_consistent_is tables p request db s c = consistent_from tables (script p.body p.regs request) (careful_script tables p request) db
+    (alike tables p request s) c
 
 -- ---- a catalogue
 
@@ -74,29 +80,35 @@ shapes_fit (t ∷ tables) e =
     let all = and_parts (table_fits t) (list_all table_fits tables) e in
     let cols = and_parts (is_word t.name && is_between FEWEST_PARTS MOST_PARTS (length t.key)) (nat_le (length t.cols) MOST_COLUMNS) all.0 in
     let key = and_parts (is_word t.name) (is_between FEWEST_PARTS MOST_PARTS (length t.key)) cols.0 in
-    and_from (shape_fits t) (list_all shape_fits tables) (and_from (is_between FEWEST_PARTS MOST_PARTS (length t.key)) (nat_le (length t.cols) MOST_COLUMNS) key.1 cols.1) (shapes_fit tables all.1)
+    and_from (shape_fits t) (list_all shape_fits tables) (and_from (is_between FEWEST_PARTS MOST_PARTS (length t.key))
+    (nat_le (length t.cols) MOST_COLUMNS) key.1 cols.1) (shapes_fit tables all.1)
 
 -- a request that the catalogue takes suits its procedure
-called : (plan : Plan) (request : Request) → IsCatalog plan → takes plan request.call ≡ true → (p : Proc) × (slice_get plan.procs request.call.proc ≡ Some p) × Suits plan.tables p request
-called plan request c = elim (slice_get plan.procs request.call.proc) as (λ o. slice_get plan.procs request.call.proc ≡ o → fits_proc request.call.args o ≡ true → (p : Proc) × (o ≡ Some p) × Suits plan.tables p request) [
-  | None ↦ λ e fits. cc
-  | Some p ↦ λ e fits. (
-    p,
-    refl,
-    record {
-      shapes = shapes_fit plan.tables c.tables_fit;
-      typed = rw (get_or_from_slice_get plan.procs request.call.proc p p e) at (All-get_or (IsWellTyped plan.tables) plan.procs request.call.proc p (slice_get_within plan.procs request.call.proc p e) c.typed);
-      args = fits;
-    },
-  )
-] refl
+called : (plan : Plan) (request : Request) → IsCatalog plan → takes plan request.call ≡ true → (p : Proc) × (slice_get plan.procs request.call.proc ≡ Some p)
+    × Suits plan.tables p request
+called plan request c = elim (slice_get plan.procs request.call.proc) as (λ o. slice_get plan.procs request.call.proc ≡ o
+    → fits_proc request.call.args o ≡ true → (p : Proc) × (o ≡ Some p) × Suits plan.tables p request) [
+      | None ↦ λ e fits. cc
+      | Some p ↦ λ e fits. (
+        p,
+        refl,
+        record {
+          shapes = shapes_fit plan.tables c.tables_fit;
+          typed = rw (get_or_from_slice_get plan.procs request.call.proc p p e) at (All-get_or (IsWellTyped plan.tables) plan.procs request.call.proc p
+              (slice_get_within plan.procs request.call.proc p e) c.typed);
+          args = fits;
+        },
+      )
+    ] refl
 
-pub catalog_never_stuck_is : (plan : Plan) (request : Request) (db : Database) → IsCatalog plan → takes plan request.call ≡ true → IsConsistent plan.tables db → IsNeverStuck (careful_run plan request) (run_of plan request) db
+pub catalog_never_stuck_is : (plan : Plan) (request : Request) (db : Database) → IsCatalog plan → takes plan request.call ≡ true → IsConsistent plan.tables db
+    → IsNeverStuck (careful_run plan request) (run_of plan request) db
 catalog_never_stuck_is plan request db c fits consistent =
     let p = called plan request c fits in
     rw (ap (λ o. careful_by plan o request) p.1, ap (λ o. run_by o request) p.1) (never_stuck_is plan.tables p.0 request db p.2 consistent)
 
-pub catalog_stays_consistent_is : (plan : Plan) (request : Request) (db : Database) → IsCatalog plan → takes plan request.call ≡ true → IsConsistent plan.tables db → StaysConsistent plan.tables (run_of plan request) db
+pub catalog_stays_consistent_is : (plan : Plan) (request : Request) (db : Database) → IsCatalog plan → takes plan request.call ≡ true
+    → IsConsistent plan.tables db → StaysConsistent plan.tables (run_of plan request) db
 catalog_stays_consistent_is plan request db c fits consistent =
     let p = called plan request c fits in
     rw (ap (λ o. run_by o request) p.1) (stays_consistent_is plan.tables p.0 request db p.2 consistent)
@@ -104,12 +116,15 @@ catalog_stays_consistent_is plan request db c fits consistent =
 -- ---- the test of a row is the definition
 
 pub has_place_is : (tables : List Table) (key : Key) (row : Cells) → (has_place tables key (Some row) ≡ true) ↔ Fits tables key row
-has_place_is tables key row = elim (slice_get tables key.table) as (λ o. (holds_of o (λ table. same_kinds (map part_kind key.parts) table.key && same_kinds (map value_kind row) table.cols) ≡ true)
+has_place_is tables key row =
+    elim (slice_get tables key.table) as (λ o.
+    (holds_of o (λ table. same_kinds (map part_kind key.parts) table.key && same_kinds (map value_kind row) table.cols) ≡ true)
     ↔ IsSomeAnd o (λ table. (map part_kind key.parts ≡ table.key) × (map value_kind row ≡ table.cols))) [
       | None ↦ (λ e. cc, λ fits. absurd fits)
       | Some table ↦ (
         λ e. let are = and_parts (same_kinds (map part_kind key.parts) table.key) (same_kinds (map value_kind row) table.cols) e in
             ((same_kinds-decides (map part_kind key.parts) table.key).0 are.0, (same_kinds-decides (map value_kind row) table.cols).0 are.1),
-        λ fits. and_from _ _ ((same_kinds-decides (map part_kind key.parts) table.key).1 fits.0) ((same_kinds-decides (map value_kind row) table.cols).1 fits.1),
+        λ fits. and_from _ _ ((same_kinds-decides (map part_kind key.parts) table.key).1 fits.0)
+            ((same_kinds-decides (map value_kind row) table.cols).1 fits.1),
       )
     ]

@@ -28,13 +28,16 @@ Like tables t t' = ⊥
 may_stand : (tables : List Table) (db : Database) (k : Key) → IsConsistent tables db → MayStand tables k (fin.get db k)
 may_stand tables db k c = elim (fin.get db k) as (λ row. fin.get db k ≡ row → MayStand tables k row) [ None ↦ λ e. tt | Some row ↦ λ e. c k row e ] refl
 
-set_consistent : (tables : List Table) (db : Database) (k : Key) (row : Option Cells) → IsConsistent tables db → MayStand tables k row → IsConsistent tables (set_at db k row)
-set_consistent tables db k row c m q cells e = elim (eq_by_cmp key_cmp q k) as (λ b. eq_by_cmp key_cmp q k ≡ b → cond b row (fin.get db q) ≡ Some cells → Fits tables q cells) [
-  | true ↦ λ same e. subst (λ k. Fits tables k cells) (sym (same_key key_cmp-IsAntisymmetric q k same)) (subst (MayStand tables k) e m)
-  | false ↦ λ other e. c q cells e
-] refl (sym (get-set_at key_cmp_total db k row q) ∙ e)
+set_consistent : (tables : List Table) (db : Database) (k : Key) (row : Option Cells) → IsConsistent tables db → MayStand tables k row
+    → IsConsistent tables (set_at db k row)
+set_consistent tables db k row c m q cells e = elim (eq_by_cmp key_cmp q k) as (λ b. eq_by_cmp key_cmp q k ≡ b → cond b row (fin.get db q) ≡ Some cells
+    → Fits tables q cells) [
+      | true ↦ λ same e. subst (λ k. Fits tables k cells) (sym (same_key key_cmp-IsAntisymmetric q k same)) (subst (MayStand tables k) e m)
+      | false ↦ λ other e. c q cells e
+    ] refl (sym (get-set_at key_cmp_total db k row q) ∙ e)
 
-goes_alike : (tables : List Table) (t : Run) (t' : Careful) (db : Database) → Like tables t t' → IsConsistent tables db → IsNeverStuck t' t db × IsConsistent tables (left_by t db)
+goes_alike : (tables : List Table) (t : Run) (t' : Careful) (db : Database) → Like tables t t' → IsConsistent tables db
+    → IsNeverStuck t' t db × IsConsistent tables (left_by t db)
 goes_alike tables (Ends e) (Ends o) db like c = (record { trace = refl; end = like }, c)
 goes_alike tables (Reads k next) (Reads k' next') db like c =
     let rest = goes_alike tables (next (fin.get db k)) (next' (fin.get db k)) db (like.1 (fin.get db k) (may_stand tables db k c)) c in
@@ -50,5 +53,9 @@ never_stuck_from tables t t' db like c = (goes_alike tables t t' db like c).0
 pub consistent_from : (tables : List Table) (t : Run) (t' : Careful) (db : Database) → Like tables t t' → IsConsistent tables db → StaysConsistent tables t db
 consistent_from tables t t' db like c = record {
   left = (goes_alike tables t t' db like c).1;
-  after = elim (is_done (end_of t db)) as (λ b. IsConsistent tables (if b then left_by t db else db)) [ true ↦ (goes_alike tables t t' db like c).1 | false ↦ c ];
+  after = elim (is_done (end_of t db)) as (λ b. IsConsistent tables (if b then left_by t db else db)) [
+    | true ↦ (goes_alike tables t t' db like c).1
+    | false ↦
+        c
+  ];
 }

@@ -49,7 +49,8 @@ module _ {X Y : Type 0} (make : ℕ → X → Y) (number : Y → ℕ) (shows : Y
       rw (same (length before + 1) x) (kept (λ y. at (number y)) Some (holds x) (make (length before + 1) x) x _ _ here tail)
 
 -- the pairs of a list of verdicts that are read off items
-enumerate_from-map : {X : Type 0} (verdict_of : X → Verdict) (n : ℕ) (xs : List X) → enumerate_from n (map verdict_of xs) ≡ made_from (λ n x. (n, verdict_of x)) n xs
+enumerate_from-map : {X : Type 0} (verdict_of : X → Verdict) (n : ℕ) (xs : List X)
+    → enumerate_from n (map verdict_of xs) ≡ made_from (λ n x. (n, verdict_of x)) n xs
 unfolding made_from
 enumerate_from-map verdict_of n [] = refl
 enumerate_from-map verdict_of n (x ∷ xs) = ap (λ l. (n, verdict_of x) ∷ l) (enumerate_from-map verdict_of (n + 1) xs)
@@ -84,15 +85,19 @@ ordered_names {K} {Q} {A} entries =
     let verdict_of : Entry K Q A → Verdict = λ e. e.judged.verdict in
     let ended_of : Entry K Q A → Bool = λ e. has_ended e.fate in
     let bares = bare_from 1 (map verdict_of entries) (map ended_of entries) in
-    let part : (p : Verdict → Bool) → map (λ e. at e.judged.tid) (filter (λ e. p e.judged.verdict) bares) ≡ map Some (filter (λ e. p e.judged.verdict) entries) =
+    let part : (p : Verdict → Bool) → map (λ e. at e.judged.tid) (filter (λ e. p e.judged.verdict) bares) ≡ map Some
+    (filter (λ e. p e.judged.verdict) entries) =
     λ p. rw (bare_from-map verdict_of ended_of 1 entries)
-    (picked (λ n e. bare n (verdict_of e) (ended_of e)) (λ e. e.judged.tid) (λ e. p e.judged.verdict) (λ e. p e.judged.verdict) (λ n e. refl) (λ n e. refl) entries [] entries refl) in
+    (picked (λ n e. bare n (verdict_of e) (ended_of e)) (λ e. e.judged.tid) (λ e. p e.judged.verdict) (λ e. p e.judged.verdict) (λ n e. refl)
+    (λ n e. refl) entries [] entries refl) in
     let late : map (λ e. at e.judged.tid) (filter is_late bares) ≡ map Some (filter is_late entries) =
     rw (bare_from-map verdict_of ended_of 1 entries)
-    (picked (λ n e. bare n (verdict_of e) (ended_of e)) (λ e. e.judged.tid) is_late is_late (λ n e. refl) (λ n e. is_late-bare n e (ended_of e) refl) entries [] entries refl) in
+    (picked (λ n e. bare n (verdict_of e) (ended_of e)) (λ e. e.judged.tid) is_late is_late (λ n e. refl)
+    (λ n e. is_late-bare n e (ended_of e) refl) entries [] entries refl) in
     record {
       each = map-map at (λ e. e.judged.tid) (ordered bares) ∙ map-append (λ e. at e.judged.tid) (placed (λ e. e.judged.verdict) bares) (filter is_late bares)
-          ∙ (λ i. (map-placed (λ e. at e.judged.tid) (λ e. e.judged.verdict) bares ∙ (λ j. reverse (part goes_ahead j) ++ part keeps_turn j) ∙ sym (map-placed Some verdict_of entries)) i ++ late i)
+          ∙ (λ i. (map-placed (λ e. at e.judged.tid) (λ e. e.judged.verdict) bares ∙ (λ j. reverse (part goes_ahead j) ++ part keeps_turn j)
+          ∙ sym (map-placed Some verdict_of entries)) i ++ late i)
           ∙ sym (map-append Some (placed verdict_of entries) (filter is_late entries));
     }
 

@@ -26,19 +26,25 @@ IsMarkBy sheet tid m = IsMarkOf sheet m × (m.tid ≡ tid)
 
 marks_sound : (sheet : Sheet) (tid : ℕ) → IsTid sheet tid → All (IsMarkBy sheet tid) (marks_at sheet tid)
 marks_sound sheet tid is = All-append (IsMarkBy sheet tid) (marks_on tid false (reads_at sheet tid)) (marks_on tid true (writes_at sheet tid))
-    (All-map (IsMarkBy sheet tid) (λ key. record { tid = tid; key = key; writes = false }) (reads_at sheet tid) (λ k d lt. ((is, Contains-get_or (reads_at sheet tid) k d lt), refl)))
-    (All-map (IsMarkBy sheet tid) (λ key. record { tid = tid; key = key; writes = true }) (writes_at sheet tid) (λ k d lt. ((is, Contains-get_or (writes_at sheet tid) k d lt), refl)))
+    (All-map (IsMarkBy sheet tid) (λ key. record { tid = tid; key = key; writes = false }) (reads_at sheet tid)
+    (λ k d lt. ((is, Contains-get_or (reads_at sheet tid) k d lt), refl)))
+    (All-map (IsMarkBy sheet tid) (λ key. record { tid = tid; key = key; writes = true }) (writes_at sheet tid)
+    (λ k d lt. ((is, Contains-get_or (writes_at sheet tid) k d lt), refl)))
 
 marks_whole : (sheet : Sheet) (tid key : ℕ) (writes : Bool) → Contains (cond writes (writes_at sheet tid) (reads_at sheet tid)) key
     → Contains (marks_at sheet tid) (record { tid = tid; key = key; writes = writes })
-marks_whole sheet tid key true c = Contains-append_right (marks_on tid false (reads_at sheet tid)) (marks_on tid true (writes_at sheet tid)) _ (contains-map (λ key. record { tid = tid; key = key; writes = true }) (writes_at sheet tid) key c)
-marks_whole sheet tid key false c = Contains-append_left (marks_on tid false (reads_at sheet tid)) (marks_on tid true (writes_at sheet tid)) _ (contains-map (λ key. record { tid = tid; key = key; writes = false }) (reads_at sheet tid) key c)
+marks_whole sheet tid key true c = Contains-append_right (marks_on tid false (reads_at sheet tid)) (marks_on tid true (writes_at sheet tid)) _
+    (contains-map (λ key. record { tid = tid; key = key; writes = true }) (writes_at sheet tid) key c)
+marks_whole sheet tid key false c = Contains-append_left (marks_on tid false (reads_at sheet tid)) (marks_on tid true (writes_at sheet tid)) _
+    (contains-map (λ key. record { tid = tid; key = key; writes = false }) (reads_at sheet tid) key c)
 
 -- these are exactly the batch's marks of the requests at these places
 abbrev AreMarksAt : Sheet → List Mark → List ℕ → Type 0
-AreMarksAt sheet marks places = (m : Mark) → (Contains marks m → IsMarkOf sheet m × Contains places (m.tid - 1)) × (IsMarkOf sheet m × Contains places (m.tid - 1) → Contains marks m)
+AreMarksAt sheet marks places = (m : Mark) → (Contains marks m → IsMarkOf sheet m × Contains places (m.tid - 1))
+    × (IsMarkOf sheet m × Contains places (m.tid - 1) → Contains marks m)
 
-marks_more : (sheet : Sheet) (marks : List Mark) (places : List ℕ) (x : ℕ) → IsTid sheet (x + 1) → AreMarksAt sheet marks places → AreMarksAt sheet (marks ++ marks_at sheet (x + 1)) (places ++ x ∷ [])
+marks_more : (sheet : Sheet) (marks : List Mark) (places : List ℕ) (x : ℕ) → IsTid sheet (x + 1) → AreMarksAt sheet marks places
+    → AreMarksAt sheet (marks ++ marks_at sheet (x + 1)) (places ++ x ∷ [])
 marks_more sheet marks places x is are m = (
   (λ has. ⊎_elim
       (λ (old : Contains marks m). let was = (are m).0 old in (was.0, Contains-append_left places (x ∷ []) (m.tid - 1) was.1))
@@ -56,7 +62,8 @@ marks_more sheet marks places x is are m = (
       (Contains-push_cases places x (m.tid - 1) has.1)),
 )
 
-marks_both : (sheet : Sheet) (marks others : List Mark) (places more : List ℕ) → AreMarksAt sheet marks places → AreMarksAt sheet others more → AreMarksAt sheet (marks ++ others) (places ++ more)
+marks_both : (sheet : Sheet) (marks others : List Mark) (places more : List ℕ) → AreMarksAt sheet marks places → AreMarksAt sheet others more
+    → AreMarksAt sheet (marks ++ others) (places ++ more)
 marks_both sheet marks others places more are too m = (
   (λ has. ⊎_elim
       (λ (mine : Contains marks m). let was = (are m).0 mine in (was.0, Contains-append_left places more (m.tid - 1) was.1))
@@ -70,19 +77,23 @@ marks_both sheet marks others places more are too m = (
 
 -- ---- seats
 
-pub none_marked : (sheet : Sheet) (table : TableId) (seat : Marker) → seat ≡ record { table = table; share = all_shares; marks = [] } → HasMarked sheet table seat all_shares []
+pub none_marked : (sheet : Sheet) (table : TableId) (seat : Marker) → seat ≡ record { table = table; share = all_shares; marks = [] }
+    → HasMarked sheet table seat all_shares []
 none_marked sheet table seat is = record {
   same_table = ap (λ (s : Marker). s.table) is;
   same_share = ap (λ (s : Marker). s.share) is;
-  marked = subst (λ (s : Marker). AreMarksAt sheet s.marks []) (sym is) (λ m. ((λ has. absurd (let lt = has.1 in omega arith)), (λ has. absurd (let lt = has.1.1 in omega arith))));
+  marked = subst (λ (s : Marker). AreMarksAt sheet s.marks []) (sym is)
+      (λ m. ((λ has. absurd (let lt = has.1 in omega arith)), (λ has. absurd (let lt = has.1.1 in omega arith))));
 }
 
-pub marked_after : (sheet : Sheet) (table : TableId) (seat seat' : Marker) (x shares : ℕ) (places : List ℕ) → seat' ≡ with_marks seat (marks_at sheet (x + 1)) → x < length sheet.reads
+pub marked_after : (sheet : Sheet) (table : TableId) (seat seat' : Marker) (x shares : ℕ) (places : List ℕ) → seat' ≡ with_marks seat (marks_at sheet (x + 1))
+    → x < length sheet.reads
     → HasMarked sheet table seat shares places → HasMarked sheet table seat' shares (places ++ x ∷ [])
 marked_after sheet table seat seat' x shares places e lt has = record {
   same_table = ap (λ (s : Marker). s.table) e ∙ has.same_table;
   same_share = ap (λ (s : Marker). s.share) e ∙ has.same_share;
-  marked = subst (λ (s : Marker). AreMarksAt sheet s.marks (places ++ x ∷ [])) (sym e) (marks_more sheet seat.marks places x (omega arith, omega arith) has.marked);
+  marked = subst (λ (s : Marker). AreMarksAt sheet s.marks (places ++ x ∷ [])) (sym e)
+      (marks_more sheet seat.marks places x (omega arith, omega arith) has.marked);
 }
 
 -- with another share
@@ -104,7 +115,8 @@ marked_both sheet table seat other seat' shares more places others e mine theirs
     record {
       same_table = ap (λ (s : Marker). s.table) e ∙ mine.same_table;
       same_share = omega arith;
-      marked = subst (λ (s : Marker). AreMarksAt sheet s.marks (places ++ others)) (sym e) (marks_both sheet seat.marks other.marks places others mine.marked theirs.marked);
+      marked = subst (λ (s : Marker). AreMarksAt sheet s.marks (places ++ others)) (sym e)
+          (marks_both sheet seat.marks other.marks places others mine.marked theirs.marked);
     }
 
 -- the first seat, once all requests were marked
@@ -126,7 +138,8 @@ as_closed P laid seat (Ok closed) are is = subst (λ (c : ClosedWords). P c.tag 
 as_closed P laid seat (Err e) are is = tt
 
 -- what words that stand for marks tell is told by the closed words
-pub as_told : (Q : List ℕ → Type 0) (result : Result Closed Memory) → IfOk result (λ closed. (words : List ℕ) → StandFor closed.tag closed.keys closed.marks words → Q words)
+pub as_told : (Q : List ℕ → Type 0) (result : Result Closed Memory)
+    → IfOk result (λ closed. (words : List ℕ) → StandFor closed.tag closed.keys closed.marks words → Q words)
     → IfOk result (λ closed. (words : List ℕ) → Tells closed words → Q words)
 as_told Q (Ok closed) then = λ words tells. then words tells.stand
 as_told Q (Err e) then = tt

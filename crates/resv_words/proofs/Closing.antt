@@ -14,13 +14,17 @@ use Rattle.resv_words.specs.Rule.{Kept}
 use Rattle.resv_words.specs.Seats.{Laid, Marker, ClosedWords, closed_of, Tells}
 use Rattle.resv_words.proofs.Keeps.{closes}
 
-tells : (closed : ClosedWords) (words : List ℕ) → closed.tag < TAGS → AreAbove closed.tag closed.old → All HasTid closed.marks → AreWords closed.old closed.tag closed.keys closed.marks words → Tells closed words
+tells : (closed : ClosedWords) (words : List ℕ) → closed.tag < TAGS → AreAbove closed.tag closed.old → All HasTid closed.marks
+    → AreWords closed.old closed.tag closed.keys closed.marks words → Tells closed words
 tells closed words small above tids are =
     let stand = StandFor-AreWords closed.old closed.tag closed.keys closed.marks words small above tids are in
     record {
       words_are = are;
       stand = stand;
-      as_set = λ marks same. (AreWords-same closed.old closed.tag closed.keys closed.marks marks words same are, StandFor-same closed.tag closed.keys closed.marks marks words same stand);
+      as_set = λ marks same. (
+        AreWords-same closed.old closed.tag closed.keys closed.marks marks words same are,
+        StandFor-same closed.tag closed.keys closed.marks marks words same stand,
+      );
       later = AreAbove-words closed.old closed.tag closed.keys closed.marks words small above are;
     }
 
@@ -34,6 +38,8 @@ closing laid seat key_tag id v row slots words same_tag small above tids whole s
     let final' = subst (λ (tag : ℕ). Final (Seen (Kept laid.old tag) id v) row slots) same_tag final in
     let are : AreWords laid.old laid.tag laid.keys v.marks words = record {
       two_a_key = words_length;
-      each = λ place lt. sym (get_or-get_elem row place (get_or words place 0) (read place lt)) ∙ closes laid.old laid.tag id v row slots whole small above tids final' place (omega arith);
+      each = λ place lt. sym (get_or-get_elem row place (get_or words place 0) (read place lt))
+          ∙ closes laid.old laid.tag id v row slots whole small above tids final' place (omega arith);
     } in
-    subst (λ (marks : List Mark). Tells (closed_of laid record seat { marks = marks }) words) same_marks (tells (closed_of laid record seat { marks = v.marks }) words small above tids are)
+    subst (λ (marks : List Mark). Tells (closed_of laid record seat { marks = marks }) words) same_marks
+    (tells (closed_of laid record seat { marks = v.marks }) words small above tids are)

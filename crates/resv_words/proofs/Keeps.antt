@@ -28,9 +28,11 @@ module _ (old : List ℕ) (tag : ℕ) (views : List View) (id : ℕ) (v : View) 
   after = set views id with_mark
 
   mark_there : (place n : ℕ) → IsPut tag place views n → IsPut tag place after n
-  mark_there place = put_kept tag place views id v with_mark at (λ t marked. (id, with_mark, t, set_there views id with_mark v at, marked_left place v.marks (m ∷ []) t marked, refl))
+  mark_there place = put_kept tag place views id v with_mark at (λ t marked.
+      (id, with_mark, t, set_there views id with_mark v at, marked_left place v.marks (m ∷ []) t marked, refl))
 
-  last_put : (place n : ℕ) → (t : ℕ) × IsMarked place with_mark.marks t × (n ≡ number_under tag t) → IsPut tag place views n ⊎ ((place_of m ≡ place) × (n ≡ number_under tag m.tid))
+  last_put : (place n : ℕ) → (t : ℕ) × IsMarked place with_mark.marks t × (n ≡ number_under tag t)
+      → IsPut tag place views n ⊎ ((place_of m ≡ place) × (n ≡ number_under tag m.tid))
   last_put place n (t, marked, is) =
       ⊎_elim
       (λ before. inl (id, v, t, at, before, is))
@@ -42,12 +44,14 @@ module _ (old : List ℕ) (tag : ℕ) (views : List View) (id : ℕ) (v : View) 
 
   mark_here : (word : ℕ) → IsLeastPut old tag (place_of m) views word → IsLeastPut old tag (place_of m) after (min word (number_under tag m.tid))
   mark_here word is =
-      least_more tag (place_of m) old views after word (number_under tag m.tid) (mark_there (place_of m)) (λ n put. ⊎_elim (λ before. inl before) (λ last. inr last.1) (mark_back (place_of m) n put))
+      least_more tag (place_of m) old views after word (number_under tag m.tid) (mark_there (place_of m))
+      (λ n put. ⊎_elim (λ before. inl before) (λ last. inr last.1) (mark_back (place_of m) n put))
       (id, with_mark, m.tid, set_there views id with_mark v at, marked_last (place_of m) v.marks m refl, refl)
       is
 
   mark_else : (place word : ℕ) → place_of m ≢ place → IsLeastPut old tag place views word → IsLeastPut old tag place after word
-  mark_else place word else is = least_kept tag place old views after word (mark_there place) (λ n put. ⊎_elim (λ before. before) (λ here. absurd (else here.0)) (mark_back place n put)) is
+  mark_else place word else is = least_kept tag place old views after word (mark_there place)
+      (λ n put. ⊎_elim (λ before. before) (λ here. absurd (else here.0)) (mark_back place n put)) is
 
   -- all words after the step, which lowers the one at the mark's place
   mark_words : (words : List ℕ) → ((place : ℕ) → place < length words → IsLeastPut old tag place views (get_or words place 0))
@@ -62,7 +66,8 @@ module _ (old : List ℕ) (tag : ℕ) (views : List View) (id : ℕ) (v : View) 
       subst (λ (p : ℕ). IsLeastPut old tag p after (get_or (set words (place_of m) next) p 0)) here
       (subst (IsLeastPut old tag (place_of m) after) (sym (get_or-set_same words (place_of m) next 0 within')) (mark_here _ (are (place_of m) within'))))
       (λ else.
-      subst (IsLeastPut old tag place after) (sym (get_or-set_other words (place_of m) place next 0 (λ e. else (omega arith)))) (mark_else place _ else (are place within)))
+      subst (IsLeastPut old tag place after) (sym (get_or-set_other words (place_of m) place next 0 (λ e. else (omega arith))))
+      (mark_else place _ else (are place within)))
       (cases_eq (place_of m) place)
 
 -- A mark keeps the rule
@@ -85,15 +90,22 @@ key_again key true tid = omega arith
 key_again key false tid = omega arith
 
 -- from the word and the number of the step both the key and the TID are told
-pub marks_key : (old : List ℕ) (tag slots id : ℕ) (me : Me (Unit {0}) View) (tid key : ℕ) (writes : Bool) (word number : ℕ) → 0 < me.0.share → tid ≤ MOST_REQUESTS
+pub marks_key : (old : List ℕ) (tag slots id : ℕ) (me : Me (Unit {0}) View) (tid key : ℕ) (writes : Bool) (word number : ℕ) → 0 < me.0.share
+    → tid ≤ MOST_REQUESTS
     → word ≡ place_of (mark tid key writes) → number ≡ number_under tag tid
     → Allows (Kept old tag) slots id me word (λ n. min n number) (marked writes (step slots word number 0 none) me)
 marks_key old tag slots id me tid key writes word number has_share within word_is number_is =
     subst (λ (w : ℕ). Allows (Kept old tag) slots id me w (λ n. min n number) (marked writes (step slots w number 0 none) me)) (sym word_is)
     (subst (λ (k : ℕ). Allows (Kept old tag) slots id me (place_of m) (λ n. min n k) (marked writes (step slots (place_of m) k 0 none) me)) (sym number_is)
     (λ s kept homes at small.
-    let allowed = marks old tag slots id me m has_share s kept homes at small in
-    (allowed.0, allowed.1, allowed.2, allowed.3, allowed.4 ∙ (λ i. (view me.0.share (me.0.marks ++ mark (tid_again i) (key_again key writes tid i) writes ∷ []), me.1)))))
+    let allowed = marks old tag slots id me m has_share s kept homes at small in (
+      allowed.0,
+      allowed.1,
+      allowed.2,
+      allowed.3,
+      allowed.4
+          ∙ (λ i. (view me.0.share (me.0.marks ++ mark (tid_again i) (key_again key writes tid i) writes ∷ []), me.1)),
+    )))
   where
     m : Mark
     m = mark tid key writes
@@ -107,23 +119,27 @@ module _ (tag : ℕ) (views : List View) (id : ℕ) (v : View) (at : get_elem? v
   halved = set views id (one_less v)
 
   split_there : (place n : ℕ) → IsPut tag place views n → IsPut tag place (halved ++ one v ∷ []) n
-  split_there place n put = put_longer tag place halved (one v) n (put_kept tag place views id v (one_less v) at (λ t marked. (id, one_less v, t, set_there views id (one_less v) v at, marked, refl)) n put)
+  split_there place n put = put_longer tag place halved (one v) n
+      (put_kept tag place views id v (one_less v) at (λ t marked. (id, one_less v, t, set_there views id (one_less v) v at, marked, refl)) n put)
 
   own_put : (place n : ℕ) → (t : ℕ) × IsMarked place v.marks t × (n ≡ number_under tag t) → IsPut tag place views n
   own_put place n (t, marked, is) = (id, v, t, at, marked, is)
 
   split_back : (place n : ℕ) → IsPut tag place (halved ++ one v ∷ []) n → IsPut tag place views n
-  split_back place n put = ⊎_elim (λ before. ⊎_elim (λ first. first) (own_put place n) (put_back tag place views id (one_less v) n before)) (own_put place n) (put_longer_back tag place halved (one v) n put)
+  split_back place n put = ⊎_elim (λ before. ⊎_elim (λ first. first) (own_put place n) (put_back tag place views id (one_less v) n before)) (own_put place n)
+      (put_longer_back tag place halved (one v) n put)
 
 pub splits : (old : List ℕ) (tag id : ℕ) (v : View) → 2 ≤ v.share → Splits (Kept old tag) id v (one_less v) (one v)
 splits old tag id v shares s kept at = record {
   shares = let sum = sum_by-set_push share_of s.views id v (one_less v) (one v) at in let all = kept.shares in omega arith;
   words = λ place lt. least_kept tag place old s.views _ _ (split_there tag s.views id v at place) (split_back tag s.views id v at place) (kept.words place lt);
-  idle = each-push Idle (set s.views id (one_less v)) (one v) (λ none. absurd (omega arith)) (each-set Idle s.views id (one_less v) (λ none. absurd (omega arith)) kept.idle);
+  idle = each-push Idle (set s.views id (one_less v)) (one v) (λ none. absurd (omega arith))
+      (each-set Idle s.views id (one_less v) (λ none. absurd (omega arith)) kept.idle);
 }
 
 -- what is put, where a seat takes the marks of another
-module _ (tag : ℕ) (views : List View) (id : ℕ) (v : View) (other : ℕ) (w : View) (at : get_elem? views id ≡ some v) (apart : other ≢ id) (at' : get_elem? (set views id (sum_of v w)) other ≡ some w) where
+module _ (tag : ℕ) (views : List View) (id : ℕ) (v : View) (other : ℕ) (w : View) (at : get_elem? views id ≡ some v) (apart : other ≢ id)
+    (at' : get_elem? (set views id (sum_of v w)) other ≡ some w) where
   abbrev both : List View
   both = set views id (sum_of v w)
 
@@ -134,7 +150,8 @@ module _ (tag : ℕ) (views : List View) (id : ℕ) (v : View) (other : ℕ) (w 
   join_there place n put =
       let at_both : get_elem? joined id ≡ some (sum_of v w) = set_else both other id spent_view (λ e. apart (sym e)) ∙ set_there views id (sum_of v w) v at in
       put_kept tag place both other w spent_view at' (λ t marked. (id, sum_of v w, t, at_both, marked_right place v.marks w.marks t marked, refl)) n
-      (put_kept tag place views id v (sum_of v w) at (λ t marked. (id, sum_of v w, t, set_there views id (sum_of v w) v at, marked_left place v.marks w.marks t marked, refl)) n put)
+      (put_kept tag place views id v (sum_of v w) at (λ t marked.
+      (id, sum_of v w, t, set_there views id (sum_of v w) v at, marked_left place v.marks w.marks t marked, refl)) n put)
 
   either_put : (place n : ℕ) → (t : ℕ) × IsMarked place (v.marks ++ w.marks) t × (n ≡ number_under tag t) → IsPut tag place views n
   either_put place n (t, marked, is) =
@@ -145,22 +162,27 @@ module _ (tag : ℕ) (views : List View) (id : ℕ) (v : View) (other : ℕ) (w 
   spent_put place n (t, marked, is) = absurd (unmarked place t marked)
 
   join_back : (place n : ℕ) → IsPut tag place joined n → IsPut tag place views n
-  join_back place n put = ⊎_elim (λ first. ⊎_elim (λ before. before) (either_put place n) (put_back tag place views id (sum_of v w) n first)) (spent_put place n) (put_back tag place both other spent_view n put)
+  join_back place n put = ⊎_elim (λ first. ⊎_elim (λ before. before) (either_put place n) (put_back tag place views id (sum_of v w) n first))
+      (spent_put place n) (put_back tag place both other spent_view n put)
 
 -- a seat takes the marks and the shares of another, which has none afterwards
 pub joins : (old : List ℕ) (tag id : ℕ) (v : View) (other : ℕ) (w : View) → 0 < v.share → Joins (Kept old tag) id v other w (sum_of v w) spent_view
 joins old tag id v other w has_share s kept at apart at' = record {
   shares = let sum = sum_by-set_two share_of s.views id other v (sum_of v w) w spent_view at at' in let all = kept.shares in omega arith;
-  words = λ place lt. least_kept tag place old s.views _ _ (join_there tag s.views id v other w at apart at' place) (join_back tag s.views id v other w at apart at' place) (kept.words place lt);
-  idle = each-set Idle (set s.views id (sum_of v w)) other spent_view (λ _. refl) (each-set Idle s.views id (sum_of v w) (λ none. absurd (omega arith)) kept.idle);
+  words = λ place lt. least_kept tag place old s.views _ _ (join_there tag s.views id v other w at apart at' place)
+      (join_back tag s.views id v other w at apart at' place) (kept.words place lt);
+  idle = each-set Idle (set s.views id (sum_of v w)) other spent_view (λ _. refl)
+      (each-set Idle s.views id (sum_of v w) (λ none. absurd (omega arith)) kept.idle);
 }
 
 -- where one seat has all shares, each word is that of its marks
-pub closes : (old : List ℕ) (tag id : ℕ) (v : View) (words : List ℕ) (xs : List (Unit {0})) → v.share ≡ all_shares → tag < TAGS → AreAbove tag old → All HasTid v.marks
+pub closes : (old : List ℕ) (tag id : ℕ) (v : View) (words : List ℕ) (xs : List (Unit {0})) → v.share ≡ all_shares → tag < TAGS → AreAbove tag old
+    → All HasTid v.marks
     → Final (Seen (Kept old tag) id v) words xs → (place : ℕ) → place < length words → get_or words place 0 ≡ word_of old tag v.marks place
 closes old tag id v words xs whole small above tids (s, (kept, at), words_are, count, values) place lt =
     let lt' : place < length s.words = omega (arith, ap length words_are) in
-    let is : IsLeastPut old tag place s.views (get_or words place 0) = subst (λ ws. IsLeastPut old tag place s.views (get_or ws place 0)) words_are (kept.words place lt') in
+    let is : IsLeastPut old tag place s.views (get_or words place 0) =
+    subst (λ ws. IsLeastPut old tag place s.views (get_or ws place 0)) words_are (kept.words place lt') in
     word_of-least old tag place v.marks (get_or words place 0) small above tids
     (λ t marked. is.least (number_under tag t) (id, v, t, at, marked, refl))
     (⊎_elim (λ start. inl start) (λ put. inr (put_alone tag place s.views id v at (kept.shares ∙ sym whole) kept.idle _ put)) is.made)

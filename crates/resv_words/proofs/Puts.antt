@@ -47,7 +47,8 @@ module _ (place : ℕ) where
 
 module _ (tag place : ℕ) where
   -- what the views put is put after one has changed, if what that one put is
-  pub put_kept : (views : List View) (seat : ℕ) (v w : View) → get_elem? views seat ≡ some v → ((t : ℕ) → IsMarked place v.marks t → IsPut tag place (set views seat w) (number_under tag t))
+  pub put_kept : (views : List View) (seat : ℕ) (v w : View) → get_elem? views seat ≡ some v
+      → ((t : ℕ) → IsMarked place v.marks t → IsPut tag place (set views seat w) (number_under tag t))
       → (n : ℕ) → IsPut tag place views n → IsPut tag place (set views seat w) n
   put_kept views seat v w at kept n (j, u, t, there, marked, is) =
       ⊎_elim
@@ -57,7 +58,8 @@ module _ (tag place : ℕ) where
       (λ else. (j, u, t, set_else views seat j w else ∙ there, marked, is))
       (cases_eq j seat)
 
-  pub put_back : (views : List View) (seat : ℕ) (w : View) (n : ℕ) → IsPut tag place (set views seat w) n → IsPut tag place views n ⊎ ((t : ℕ) × IsMarked place w.marks t × (n ≡ number_under tag t))
+  pub put_back : (views : List View) (seat : ℕ) (w : View) (n : ℕ) → IsPut tag place (set views seat w) n
+      → IsPut tag place views n ⊎ ((t : ℕ) × IsMarked place w.marks t × (n ≡ number_under tag t))
   put_back views seat w n (j, u, t, there, marked, is) =
       ⊎_elim
       (λ here. inr (t, subst (λ (x : View). IsMarked place x.marks t) (sym here.1) marked, is))
@@ -67,7 +69,8 @@ module _ (tag place : ℕ) where
   pub put_longer : (views : List View) (w : View) (n : ℕ) → IsPut tag place views n → IsPut tag place (views ++ w ∷ []) n
   put_longer views w n (j, u, t, there, marked, is) = (j, u, t, at_longer views (w ∷ []) j u there, marked, is)
 
-  pub put_longer_back : (views : List View) (w : View) (n : ℕ) → IsPut tag place (views ++ w ∷ []) n → IsPut tag place views n ⊎ ((t : ℕ) × IsMarked place w.marks t × (n ≡ number_under tag t))
+  pub put_longer_back : (views : List View) (w : View) (n : ℕ) → IsPut tag place (views ++ w ∷ []) n
+      → IsPut tag place views n ⊎ ((t : ℕ) × IsMarked place w.marks t × (n ≡ number_under tag t))
   put_longer_back views w n (j, u, t, there, marked, is) =
       ⊎_elim
       (λ before. inl (j, u, t, before, marked, is))
@@ -91,7 +94,8 @@ module _ (tag place : ℕ) where
   -- ---- the least of what is put
 
   module _ (old : List ℕ) where
-    pub least_kept : (before after : List View) (word : ℕ) → ((n : ℕ) → IsPut tag place before n → IsPut tag place after n) → ((n : ℕ) → IsPut tag place after n → IsPut tag place before n)
+    pub least_kept : (before after : List View) (word : ℕ) → ((n : ℕ) → IsPut tag place before n → IsPut tag place after n)
+        → ((n : ℕ) → IsPut tag place after n → IsPut tag place before n)
         → IsLeastPut old tag place before word → IsLeastPut old tag place after word
     least_kept before after word there back is = record {
       start = is.start;
@@ -108,7 +112,8 @@ module _ (tag place : ℕ) where
           start = omega arith;
           least = λ n put. ⊎_elim (λ before. let le = is.least n before in omega arith) (λ same. omega arith) (back n put);
           made = ⊎_elim
-              (λ lt. let e : min word number ≡ word = omega arith in ⊎_elim (λ start. inl (e ∙ start)) (λ put. inr (subst (IsPut tag place after) (sym e) (there word put))) is.made)
+              (λ lt. let e : min word number ≡ word = omega arith in
+              ⊎_elim (λ start. inl (e ∙ start)) (λ put. inr (subst (IsPut tag place after) (sym e) (there word put))) is.made)
               (λ ge. let e : min word number ≡ number = omega arith in inr (subst (IsPut tag place after) (sym e) new))
               (cases_lt word number);
         }

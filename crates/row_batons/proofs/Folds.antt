@@ -128,7 +128,8 @@ module _ {K V W A : Type 0} {R : K → K → Ordering} (o : IsTotalOrder R) (ant
     left_is ps same rows = same_map o anti _ _ (λ q. get-overwritten o db ps q
         ∙ elim (is_among R (keys_of ps) q) as (λ b. is_among R (keys_of ps) q ≡ b
         → unwrap_or (find R q ps) (fin.get db q) ≡ fin.get (late_left is_done declared_of tree db ws) q) [
-          | true ↦ λ among. ap (λ (f : Option (Option V)). unwrap_or f (fin.get db q)) (found_row anti (late_left is_done declared_of tree db ws) ps q rows among)
+          | true ↦ λ among. ap (λ (f : Option (Option V)). unwrap_or f (fin.get db q))
+              (found_row anti (late_left is_done declared_of tree db ws) ps q rows among)
           | false ↦ λ apart.
               ap (λ (f : Option (Option V)). unwrap_or f (fin.get db q)) (not_found R ps q apart)
               ∙ sym (ap (λ l. fin.get (late_left is_done declared_of tree db l) q) (sym (take-length ws))

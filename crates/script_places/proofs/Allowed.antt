@@ -151,9 +151,11 @@ unnamed (head.Text text) next a e = tt
 unnamed (head.Ready plan) next true e = absurd cc
 unnamed (head.Ready plan) next false e = absurd cc
 
-found_follows : (p : Place) (counts : Counts) (plan : Option Plan) (r : Place × Deed) → ((next : Head) → HeadStays p.head next) → found p plan ≡ Ok r → Says p counts r
+found_follows : (p : Place) (counts : Counts) (plan : Option Plan) (r : Place × Deed) → ((next : Head) → HeadStays p.head next) → found p plan ≡ Ok r
+    → Says p counts r
 found_follows p counts None r first e = absurd cc
-found_follows p counts (Some plan) r first e = is_this p counts (record p { head = head.Ready plan }, deed.Nothing) r e (comes p counts (head.Ready plan) (first (head.Ready plan)))
+found_follows p counts (Some plan) r first e = is_this p counts (record p { head = head.Ready plan }, deed.Nothing) r e
+    (comes p counts (head.Ready plan) (first (head.Ready plan)))
 
 catalog_follows : (p : Place) (counts : Counts) (name : List ℕ) (r : Place × Deed) → at_catalog p name ≡ Ok r → Says p counts r
 catalog_follows p counts name r e =
@@ -166,14 +168,17 @@ catalog_follows p counts name r e =
           (cond (bytes_eq name (codes "text")) (Ok (record p { head = head.Text [] }, deed.Nothing)) (found p (builtin_named name))) (Ok r) is) [
             | on_yes off such ↦ absurd cc
             | on_no named such ↦
-                elim (branch Asked (bytes_eq name (codes "text")) (Ok (record p { head = head.Text [] }, deed.Nothing)) (found p (builtin_named name)) (Ok r) such) [
-                  | on_yes text last ↦ is_this p counts (record p { head = head.Text [] }, deed.Nothing) r last (comes p counts (head.Text []) (first (head.Text [])))
+                elim (branch Asked (bytes_eq name (codes "text")) (Ok (record p { head = head.Text [] }, deed.Nothing)) (found p (builtin_named name))
+                (Ok r) such) [
+                  | on_yes text last ↦ is_this p counts (record p { head = head.Text [] }, deed.Nothing) r last
+                      (comes p counts (head.Text []) (first (head.Text [])))
                   | on_no other last ↦ found_follows p counts (builtin_named name) r first last
                 ]
           ]
     ]
 
-row_follows : (p : Place) (counts : Counts) (table : List ℕ) (parts : List Part) (row : Cells) (r : Place × Deed) → at_row p table parts row ≡ Ok r → Says p counts r
+row_follows : (p : Place) (counts : Counts) (table : List ℕ) (parts : List Part) (row : Cells) (r : Place × Deed) → at_row p table parts row ≡ Ok r
+    → Says p counts r
 row_follows p counts table parts row r e =
     elim (stands p.head (λ plan. cond p.rows_ended (Err Site) (and_then (puts p) (placed_row plan table parts row))) r e) [
       | there plan is may ↦ elim (branch Asked p.rows_ended (Err Site) (and_then (puts p) (placed_row plan table parts row)) (Ok r) may) [
@@ -220,17 +225,18 @@ call_follows p counts proc args r e =
 settings_follow : (p : Place) (counts : Counts) (name : List ℕ) (percent : ℤ) (r : Place × Deed) → at_settings p name percent ≡ Ok r → Says p counts r
 settings_follow p counts name percent r e =
     elim (stands p.head (λ plan. cond (has_batches p.mode && p.open_calls == 0) (and_then (sets p) (placed_settings name percent)) (Err Site)) r e) [
-      | there plan is may ↦ elim (branch Asked (has_batches p.mode && p.open_calls == 0) (and_then (sets p) (placed_settings name percent)) (Err Site) (Ok r) may) [
-        | on_no off such ↦ absurd cc
-        | on_yes has such ↦ elim (step (ℕ × ℕ) (Place × Deed) (sets p) (placed_settings name percent) r such) [
-          | stepped pair fits last ↦
-              is_this p counts (record p { rows_ended = true }, deed.Set (rule_of pair.0) pair.1) r last (record {
-                mode_stays = refl;
-                head_stays = stays p.head;
-                allows = record { within = settings_in (rule_named name) percent pair fits; calls = refl; rows = refl };
-              })
-        ]
-      ]
+      | there plan is may ↦ elim (branch Asked (has_batches p.mode && p.open_calls == 0) (and_then (sets p) (placed_settings name percent)) (Err Site)
+          (Ok r) may) [
+            | on_no off such ↦ absurd cc
+            | on_yes has such ↦ elim (step (ℕ × ℕ) (Place × Deed) (sets p) (placed_settings name percent) r such) [
+              | stepped pair fits last ↦
+                  is_this p counts (record p { rows_ended = true }, deed.Set (rule_of pair.0) pair.1) r last (record {
+                    mode_stays = refl;
+                    head_stays = stays p.head;
+                    allows = record { within = settings_in (rule_named name) percent pair fits; calls = refl; rows = refl };
+                  })
+            ]
+          ]
     ]
 
 not_below : (a b : ℕ) → nat_lt a b ≡ false → b ≤ a
@@ -244,13 +250,15 @@ neither : (a b : Bool) → (a || b) ≡ false → (a ≡ false) × (b ≡ false)
 neither true b e = absurd cc
 neither false b e = (refl, e)
 
-runs_follow : (p : Place) (counts : Counts) (n : ℕ) (plan : Plan) (r : Place × Deed) → p.head ≡ head.Ready plan → counts.batches < n → runs p counts n ≡ Ok r → Says p counts r
+runs_follow : (p : Place) (counts : Counts) (n : ℕ) (plan : Plan) (r : Place × Deed) → p.head ≡ head.Ready plan → counts.batches < n → runs p counts n ≡ Ok r
+    → Says p counts r
 runs_follow p counts n plan r is above e =
     elim (branch Asked (not (is_check p.mode) && nat_lt MOST_REQUESTS (counts.waiting + p.open_calls)) (Err Batch)
     (cond (nat_lt GREATEST_NUMBER n || nat_lt GREATEST_NUMBER (counts.requests + p.open_calls)) (Err Numbers) (Ok (closed p, deed.Run))) (Ok r) e) [
       | on_yes full such ↦ absurd cc
       | on_no room such ↦
-          elim (branch Asked (nat_lt GREATEST_NUMBER n || nat_lt GREATEST_NUMBER (counts.requests + p.open_calls)) (Err Numbers) (Ok (closed p, deed.Run)) (Ok r) such) [
+          elim (branch Asked (nat_lt GREATEST_NUMBER n || nat_lt GREATEST_NUMBER (counts.requests + p.open_calls)) (Err Numbers) (Ok (closed p, deed.Run))
+          (Ok r) such) [
             | on_yes past last ↦ absurd cc
             | on_no within last ↦
                 let two = neither (nat_lt GREATEST_NUMBER n) (nat_lt GREATEST_NUMBER (counts.requests + p.open_calls)) within in
@@ -262,7 +270,8 @@ runs_follow p counts n plan r is above e =
                     ready = ready_with p.head plan (λ q. Unit {0}) is tt;
                     calls = refl;
                     rows = refl;
-                    room = λ other. not_below MOST_REQUESTS (counts.waiting + p.open_calls) (batch_room (is_check p.mode) (nat_lt MOST_REQUESTS (counts.waiting + p.open_calls)) room other);
+                    room = λ other. not_below MOST_REQUESTS (counts.waiting + p.open_calls)
+                        (batch_room (is_check p.mode) (nat_lt MOST_REQUESTS (counts.waiting + p.open_calls)) room other);
                     batches = omega (arith, low, above);
                     requests = not_below GREATEST_NUMBER (counts.requests + p.open_calls) two.1;
                   };
@@ -272,7 +281,8 @@ runs_follow p counts n plan r is above e =
 
 ends_follow : (p : Place) (counts : Counts) (n : ℕ) (plan : Plan) (r : Place × Deed) → p.head ≡ head.Ready plan → ends p counts n ≡ Ok r → Says p counts r
 ends_follow p counts n plan r is e =
-    elim (branch Asked (nat_lt (counts.batches + 1) n) (Err (Gap n (counts.batches + 1))) (cond (nat_le n counts.batches) (Ok (closed p, deed.Keep n)) (runs p counts n)) (Ok r) e) [
+    elim (branch Asked (nat_lt (counts.batches + 1) n) (Err (Gap n (counts.batches + 1)))
+    (cond (nat_le n counts.batches) (Ok (closed p, deed.Keep n)) (runs p counts n)) (Ok r) e) [
       | on_yes gap such ↦ absurd cc
       | on_no next such ↦ elim (branch Asked (nat_le n counts.batches) (Ok (closed p, deed.Keep n)) (runs p counts n) (Ok r) such) [
         | on_yes was last ↦ is_this p counts (closed p, deed.Keep n) r last (record {
@@ -350,14 +360,16 @@ module _ (p : Place) (counts : Counts) (text : List ℕ) (is_text : p.head ≡ h
 
   piece_follows : (piece : List ℕ) (r : Place × Deed) → at_piece (without_head p) text piece ≡ Ok r → Says p counts r
   piece_follows piece r e =
-      elim (branch Asked (nat_lt MOST_CATALOG (length text + length piece)) (Err (Catalog Long)) (Ok (record (without_head p) { head = head.Text (text ++ piece) }, deed.Nothing)) (Ok r) e) [
+      elim (branch Asked (nat_lt MOST_CATALOG (length text + length piece)) (Err (Catalog Long))
+      (Ok (record (without_head p) { head = head.Text (text ++ piece) }, deed.Nothing)) (Ok r) e) [
         | on_yes past such ↦ absurd cc
         | on_no within such ↦ is_this p counts (record p { head = head.Text (text ++ piece) }, deed.Nothing) r such
             (comes p counts (head.Text (text ++ piece)) (was_text p.head (head.Text (text ++ piece)) text is_text))
       ]
 
   skip_follows : (r : Place × Deed) → skipped_as p text ≡ Ok r → Says p counts r
-  skip_follows r e = is_this p counts (record p { head = head.Text text }, deed.Nothing) r e (comes p counts (head.Text text) (was_text p.head (head.Text text) text is_text))
+  skip_follows r e = is_this p counts (record p { head = head.Text text }, deed.Nothing) r e
+      (comes p counts (head.Text text) (was_text p.head (head.Text text) text is_text))
 
   item_in_follows : (i : Item) (r : Place × Deed) → item_in_text (without_head p) counts text i ≡ Ok r → Says p counts r
   item_in_follows item.Skip r e = skip_follows r e
@@ -379,9 +391,16 @@ module _ (p : Place) (counts : Counts) (text : List ℕ) (is_text : p.head ≡ h
   in_text_follows (Ok i) r e = item_in_follows i r e
   in_text_follows (Err why) r e = refused_follows why r e
 
-line_follows : (p : Place) (counts : Counts) (h : Head) (line : Result Item RefusalKind) (r : Place × Deed) → p.head ≡ h → by_head p counts h line ≡ Ok r → Says p counts r
-line_follows p counts head.Unnamed line r is e = elim (step Item (Place × Deed) (at_item p counts) line r e) [ stepped i said last ↦ item_follows p counts i r last ]
-line_follows p counts (head.Ready plan) line r is e = elim (step Item (Place × Deed) (at_item p counts) line r e) [ stepped i said last ↦ item_follows p counts i r last ]
+line_follows : (p : Place) (counts : Counts) (h : Head) (line : Result Item RefusalKind) (r : Place × Deed) → p.head ≡ h → by_head p counts h line ≡ Ok r
+    → Says p counts r
+line_follows p counts head.Unnamed line r is e = elim (step Item (Place × Deed) (at_item p counts) line r e) [
+  | stepped i said last ↦
+      item_follows p counts i r last
+]
+line_follows p counts (head.Ready plan) line r is e = elim (step Item (Place × Deed) (at_item p counts) line r e) [
+  | stepped i said last ↦
+      item_follows p counts i r last
+]
 line_follows p counts (head.Text text) line r is e = in_text_follows p counts text is line r e
 
 -- one line more changes nothing of what is allowed
@@ -402,7 +421,8 @@ follows p counts line after asks e =
     let q : Place = next_line p in
     let r : Place × Deed = (after, asks) in
     next_follows p counts r (elim (branch Asked q.reports (Ok (q, deed.Tell)) (by_head q counts q.head (said line)) (Ok r) e) [
-      | on_yes told such ↦ is_this q counts (q, deed.Tell) r such (record { mode_stays = refl; head_stays = stays q.head; allows = record { calls = refl; rows = λ e. e } })
+      | on_yes told such ↦ is_this q counts (q, deed.Tell) r such
+          (record { mode_stays = refl; head_stays = stays q.head; allows = record { calls = refl; rows = λ e. e } })
       | on_no script such ↦ line_follows q counts q.head (said line) r refl such
     ])
 

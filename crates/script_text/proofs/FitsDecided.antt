@@ -40,15 +40,18 @@ kinds_themselves (k ∷ ks) = and_from (is_kind k k) (are_kinds ks ks) (kind_its
 kinds_same : (given wanted : List Kind) → given ≡ wanted → are_kinds given wanted ≡ true
 kinds_same given wanted e = rw e (kinds_themselves wanted)
 
-pub fits_there : (key : Key) (row : Cells) (table : Option Table) → fits_table key row table ≡ true → IsSomeAnd table (λ t. (map part_kind key.parts ≡ t.key) × (map value_kind row ≡ t.cols))
+pub fits_there : (key : Key) (row : Cells) (table : Option Table) → fits_table key row table ≡ true
+    → IsSomeAnd table (λ t. (map part_kind key.parts ≡ t.key) × (map value_kind row ≡ t.cols))
 fits_there key row None h = cc
 fits_there key row (Some t) h =
     let parts = and_parts (are_kinds (map part_kind key.parts) t.key) (are_kinds (map value_kind row) t.cols) h in
     (kinds_are (map part_kind key.parts) t.key parts.0, kinds_are (map value_kind row) t.cols parts.1)
 
-there_fits : (key : Key) (row : Cells) (table : Option Table) → IsSomeAnd table (λ t. (map part_kind key.parts ≡ t.key) × (map value_kind row ≡ t.cols)) → fits_table key row table ≡ true
+there_fits : (key : Key) (row : Cells) (table : Option Table) → IsSomeAnd table (λ t. (map part_kind key.parts ≡ t.key) × (map value_kind row ≡ t.cols))
+    → fits_table key row table ≡ true
 there_fits key row None h = absurd h
-there_fits key row (Some t) h = and_from (are_kinds (map part_kind key.parts) t.key) (are_kinds (map value_kind row) t.cols) (kinds_same (map part_kind key.parts) t.key h.0) (kinds_same (map value_kind row) t.cols h.1)
+there_fits key row (Some t) h = and_from (are_kinds (map part_kind key.parts) t.key) (are_kinds (map value_kind row) t.cols)
+    (kinds_same (map part_kind key.parts) t.key h.0) (kinds_same (map value_kind row) t.cols h.1)
 
 pub fits_again : (tables : List Table) (key : Key) (row : Cells) → Fits tables key row → row_fits tables key row ≡ true
 fits_again tables key row h = there_fits key row (slice_get tables key.table) h

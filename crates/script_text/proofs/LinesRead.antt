@@ -45,19 +45,23 @@ spaced_map f (x ∷ xs) = ap (λ (l : List ℕ). 32 ∷ f x ++ l) (spaced_map f 
 line_again : (kind : List ℕ) (ts : List (List ℕ)) (line : List ℕ) (found : Item) → IsToken kind → All IsToken ts → line ≡ kind ++ spaced (λ t. t) ts
     → line_item line ≡ item_of (tokens line) → item_of (kind ∷ ts) ≡ Some found → said line ≡ Ok found
 line_again kind ts line found k all e opens says =
-    let printed : is_printed line ≡ true = ap is_printed e ∙ all_joined (λ b. nat_le 32 b && nat_le b 126) kind (spaced (λ t. t) ts) k.printed (printed_again ts all) in
+    let printed : is_printed line ≡ true = ap is_printed e ∙ all_joined (λ b. nat_le 32 b && nat_le b 126) kind (spaced (λ t. t) ts) k.printed
+    (printed_again ts all) in
     let cut : tokens line ≡ kind ∷ ts = ap tokens e ∙ tokens_again kind ts k all in
     ap (λ (b : Bool). cond b (ok_or (line_item line) Word) (Err Byte)) printed ∙ ap (λ (o : Option Item). ok_or o Word) (opens ∙ ap item_of cut ∙ says)
 
-row_after_again : (table : List ℕ) (vs : List (List ℕ)) (done parts : List Part) → All IsPart parts → row_after table done (map part_token parts ++ codes "=" ∷ vs) ≡ with_row table (done ++ parts) (all_of value_of vs)
+row_after_again : (table : List ℕ) (vs : List (List ℕ)) (done parts : List Part) → All IsPart parts
+    → row_after table done (map part_token parts ++ codes "=" ∷ vs) ≡ with_row table (done ++ parts) (all_of value_of vs)
 row_after_again table vs done [] p = ap (λ (ps : List Part). with_row table ps (all_of value_of vs)) (sym (append-nil done))
 row_after_again table vs done (x ∷ parts) p =
     let is = All-head IsPart x parts p in
     let other = part_no_sign x is in
     let e = part_again x is in
-    rw (other, e) (row_after_again table vs (done ++ x ∷ []) parts (All-tail IsPart x parts p) ∙ ap (λ (ps : List Part). with_row table ps (all_of value_of vs)) (append_assoc done (x ∷ []) parts))
+    rw (other, e) (row_after_again table vs (done ++ x ∷ []) parts (All-tail IsPart x parts p)
+    ∙ ap (λ (ps : List Part). with_row table ps (all_of value_of vs)) (append_assoc done (x ∷ []) parts))
 
-module _ (table : List ℕ) (parts : List Part) (values : List Value) (w : is_word table ≡ true) (low : 1 ≤ length parts) (high : length parts ≤ 5) (few : length values ≤ 16) (p : All IsPart parts) (v : All IsValue values) where
+module _ (table : List ℕ) (parts : List Part) (values : List Value) (w : is_word table ≡ true) (low : 1 ≤ length parts) (high : length parts ≤ 5)
+    (few : length values ≤ 16) (p : All IsPart parts) (v : All IsValue values) where
   pub row_said_again : said (codes "row " ++ (table ++ spaced part_token parts) ++ codes " =" ++ spaced value_token values) ≡ Ok (item.Row table parts values)
   row_said_again =
       let ps = map part_token parts in
@@ -70,7 +74,8 @@ module _ (table : List ℕ) (parts : List Part) (values : List Value) (w : is_wo
       let says : item_of (codes "row" ∷ table ∷ (ps ++ codes "=" ∷ vs)) ≡ Some (item.Row table parts values) = rw (w, after, ev, l, h, f) in
       let joins : spaced part_token parts ++ 32 ∷ 61 ∷ spaced value_token values ≡ spaced (λ t. t) (ps ++ codes "=" ∷ vs) =
       rw (spaced_map part_token parts, spaced_map value_token values) (sym (flat_map-append (λ x. 32 ∷ x) ps (codes "=" ∷ vs))) in
-      line_again (codes "row") (table ∷ (ps ++ codes "=" ∷ vs)) (codes "row " ++ (table ++ spaced part_token parts) ++ codes " =" ++ spaced value_token values) (item.Row table parts values) (word_token (codes "row") refl)
+      line_again (codes "row") (table ∷ (ps ++ codes "=" ∷ vs)) (codes "row " ++ (table ++ spaced part_token parts) ++ codes " =" ++ spaced value_token values)
+      (item.Row table parts values) (word_token (codes "row") refl)
       (all_more IsToken table (ps ++ codes "=" ∷ vs) (word_token table w)
       (All-append IsToken ps (codes "=" ∷ vs) (all_mapped IsPart IsToken part_token part_is_token parts p)
       (all_more IsToken (codes "=") vs (plain_token (codes "=") (omega arith) refl) (all_mapped IsValue IsToken value_token value_is_token values v))))

@@ -14,7 +14,8 @@ same_bytes (b ∷ bs) = let rest = same_bytes bs in grind (arith, common_steps, 
 some_same : {A : Type 0} (x y : A) → Some x ≡ Some y → x ≡ y
 some_same x y e = cc
 
-not_any : {A : Type 0} (p : List ℕ → Bool) (name : A → List ℕ) (xs : List A) (n : ℕ) (x : A) → list_any p (map name xs) ≡ false → slice_get xs n ≡ Some x → p (name x) ≡ false
+not_any : {A : Type 0} (p : List ℕ → Bool) (name : A → List ℕ) (xs : List A) (n : ℕ) (x : A) → list_any p (map name xs) ≡ false → slice_get xs n ≡ Some x
+    → p (name x) ≡ false
 not_any p name [] n x h e = cc
 not_any p name (y ∷ xs) zero x h e =
     let same = some_same y x e in
@@ -24,7 +25,8 @@ not_any p name (y ∷ xs) (suc n) x h e =
     let rest : list_any p (map name xs) ≡ false = grind (arith, common_steps, h) in
     not_any p name xs n x rest e
 
-found_from : {A : Type 0} (name : A → List ℕ) (xs : List A) (n i : ℕ) (x : A) → distinct (map name xs) ≡ true → slice_get xs n ≡ Some x → position_from (λ y. bytes_eq (name y) (name x)) i xs ≡ Some (i + n)
+found_from : {A : Type 0} (name : A → List ℕ) (xs : List A) (n i : ℕ) (x : A) → distinct (map name xs) ≡ true → slice_get xs n ≡ Some x
+    → position_from (λ y. bytes_eq (name y) (name x)) i xs ≡ Some (i + n)
 found_from name [] n i x h e = cc
 found_from name (y ∷ xs) zero i x h e =
     let same = some_same y x e in
@@ -38,7 +40,8 @@ found_from name (y ∷ xs) (suc n) i x h e =
     let k : i + 1 + n ≡ i + suc n = omega arith in
     rw other (found_from name xs n (i + 1) x parts.1 e ∙ ap Some k)
 
-pub found : {A : Type 0} (name : A → List ℕ) (xs : List A) (n : ℕ) (x : A) → distinct (map name xs) ≡ true → slice_get xs n ≡ Some x → position (λ y. bytes_eq (name y) (name x)) xs ≡ Some n
+pub found : {A : Type 0} (name : A → List ℕ) (xs : List A) (n : ℕ) (x : A) → distinct (map name xs) ≡ true → slice_get xs n ≡ Some x
+    → position (λ y. bytes_eq (name y) (name x)) xs ≡ Some n
 found name xs n x h e =
     let k : 0 + n ≡ n = omega arith in
     position_from-zero (λ y. bytes_eq (name y) (name x)) xs ∙ found_from name xs n 0 x h e ∙ ap Some k

@@ -40,7 +40,8 @@ natural_again zero h = rw (decimal_digit 0 (omega arith))
 natural_again (suc n) h =
     let many : suc n < 2 ^ 64 = omega arith in
     let value : read_on 0 (decimal (suc n)) ≡ suc n = digits_value-decimal own (suc n) many in
-    short (decimal (suc n)) (decimal_nonempty (suc n) many) (length-decimal-le 19 (suc n) (omega arith) (omega arith) many) (first_decimal (suc n) (omega arith) many)
+    short (decimal (suc n)) (decimal_nonempty (suc n) many) (length-decimal-le 19 (suc n) (omega arith) (omega arith) many)
+    (first_decimal (suc n) (omega arith) many)
     ∙ digits_again 0 (decimal (suc n)) (are_digits (suc n) many) ∙ ap Some value
 
 unsigned : (ds : List ℕ) → 0 < length ds → AreDigits ds → number_of ds ≡ option_and_then not_below_zero (natural_of ds)
@@ -53,7 +54,9 @@ unsigned (d ∷ ds) some h =
 pub number_again : (z : ℤ) → is_i64 z ≡ true → number_of (signed_decimal z) ≡ Some z
 number_again (pos n) h =
     let few : n < 2 ^ 63 = grind (arith, common_steps, ints, h) in
-    unsigned (decimal n) (decimal_nonempty n (omega arith)) (are_digits n (omega arith)) ∙ ap (option_and_then not_below_zero) (natural_again n (omega arith)) ∙ ap (λ (b : Bool). cond b (Some (pos n)) None) h
+    unsigned (decimal n) (decimal_nonempty n (omega arith)) (are_digits n (omega arith)) ∙ ap (option_and_then not_below_zero) (natural_again n (omega arith))
+    ∙ ap (λ (b : Bool). cond b (Some (pos n)) None) h
 number_again (negsuc n) h =
     let few : n < 2 ^ 63 = grind (arith, common_steps, ints, h) in
-    ap (option_and_then below_zero) (natural_again (suc n) (omega arith)) ∙ ap (λ (b : Bool). cond b None (fitted (negsuc n))) (ne_eqb (suc n) 0 (omega arith)) ∙ ap (λ (b : Bool). cond b (Some (negsuc n)) None) h
+    ap (option_and_then below_zero) (natural_again (suc n) (omega arith)) ∙ ap (λ (b : Bool). cond b None (fitted (negsuc n))) (ne_eqb (suc n) 0 (omega arith))
+    ∙ ap (λ (b : Bool). cond b (Some (negsuc n)) None) h

@@ -16,11 +16,13 @@ abbrev pub taken_by : Feed → List ℕ → Feed
 taken_by feed run = record feed { taken = feed.taken + length run; begun = feed.begun ++ run }
 
 -- a byte that is no line feed and past no bound
-one : (done : List (List ℕ)) (feed : Feed) (b : ℕ) (bs : List ℕ) → (b == 10) ≡ false → nat_le feed.longest (length feed.begun) ≡ false → nat_le feed.limit feed.taken ≡ false
+one : (done : List (List ℕ)) (feed : Feed) (b : ℕ) (bs : List ℕ) → (b == 10) ≡ false → nat_le feed.longest (length feed.begun) ≡ false
+    → nat_le feed.limit feed.taken ≡ false
     → scan_after done feed (b ∷ bs) ≡ scan_after done (with_byte feed b) bs
 one done feed b bs other line limit = rw (other, line, limit)
 
-pub run_taken : (done : List (List ℕ)) (feed : Feed) (run more : List ℕ) → Lacks 10 run → length feed.begun + length run ≤ feed.longest → feed.taken + length run ≤ feed.limit
+pub run_taken : (done : List (List ℕ)) (feed : Feed) (run more : List ℕ) → Lacks 10 run → length feed.begun + length run ≤ feed.longest
+    → feed.taken + length run ≤ feed.limit
     → scan_after done feed (run ++ more) ≡ scan_after done (taken_by feed run) more
 run_taken done feed [] more lacks line limit =
     let n = add-zero feed.taken in
@@ -37,7 +39,8 @@ run_taken done feed (b ∷ run) more lacks line limit =
     ∙ rw (n, append_assoc feed.begun (b ∷ []) run) refl
 
 -- a line with its line feed
-pub line_taken : (done : List (List ℕ)) (feed : Feed) (rest run behind line : List ℕ) (next : ℕ) (whole : Scan) → IsCutAt 10 rest (Some (run, behind)) → scan_after done feed rest ≡ whole
+pub line_taken : (done : List (List ℕ)) (feed : Feed) (rest run behind line : List ℕ) (next : ℕ) (whole : Scan) → IsCutAt 10 rest (Some (run, behind))
+    → scan_after done feed rest ≡ whole
     → line ≡ unreturned (feed.begun ++ run) → length feed.begun + length run ≤ feed.longest → next ≡ feed.taken + (length run + 1) → next ≤ feed.limit
     → scan_after (done ++ line ∷ []) (record feed { taken = next; count = feed.count + 1; begun = [] }) behind ≡ whole
 line_taken done feed rest run behind line next whole cut e is short taken limit =
@@ -79,7 +82,8 @@ abbrev pub tail : Bool → List ℕ → List ℕ
 tail true rest = 10 ∷ rest
 tail false rest = []
 
-pub refused : (feeds : Bool) (rest : List ℕ) (done : List (List ℕ)) (feed : Feed) (run : List ℕ) (kind : RefusalKind) → Lacks 10 run → length feed.begun ≤ feed.longest → feed.taken ≤ feed.limit
+pub refused : (feeds : Bool) (rest : List ℕ) (done : List (List ℕ)) (feed : Feed) (run : List ℕ) (kind : RefusalKind) → Lacks 10 run
+    → length feed.begun ≤ feed.longest → feed.taken ≤ feed.limit
     → first_past (feed.longest - length feed.begun) (feed.limit - feed.taken) (length run) (length run + counted feeds) ≡ Some kind
     → IsStopped (scan_after done feed (run ++ tail feeds rest)) done feed.count kind
 refused true rest done feed [] kind lacks line limit e = by (nat_le feed.limit feed.taken) refl
@@ -95,7 +99,8 @@ refused true rest done feed [] kind lacks line limit e = by (nat_le feed.limit f
         let none : Some kind ≡ None = sym e ∙ past_none (feed.longest - length feed.begun) (feed.limit - feed.taken) some in
         absurd cc
 refused false rest done feed [] kind lacks line limit e = let none : None ≡ Some kind = grind (arith, nat_tests, e) in absurd cc
-refused feeds rest done feed (b ∷ run) kind lacks line limit e = by (refused feeds rest done (with_byte feed b) run kind parts.1) (nat_le feed.longest (length feed.begun)) refl (nat_le feed.limit feed.taken) refl
+refused feeds rest done feed (b ∷ run) kind lacks line limit e =
+    by (refused feeds rest done (with_byte feed b) run kind parts.1) (nat_le feed.longest (length feed.begun)) refl (nat_le feed.limit feed.taken) refl
   where
     parts : (not (b == 10) ≡ true) × (list_all (λ c. not (c == 10)) run ≡ true)
     parts = and_parts (not (b == 10)) (list_all (λ c. not (c == 10)) run) lacks
@@ -106,16 +111,19 @@ refused feeds rest done feed (b ∷ run) kind lacks line limit e = by (refused f
     by : (length (with_byte feed b).begun ≤ feed.longest → feed.taken + 1 ≤ feed.limit
         → first_past (feed.longest - length (with_byte feed b).begun) (feed.limit - (feed.taken + 1)) (length run) (length run + counted feeds) ≡ Some kind
         → IsStopped (scan_after done (with_byte feed b) (run ++ tail feeds rest)) done feed.count kind)
-        → (p : Bool) → nat_le feed.longest (length feed.begun) ≡ p → (q : Bool) → nat_le feed.limit feed.taken ≡ q → IsStopped (scan_after done feed (b ∷ run ++ tail feeds rest)) done feed.count kind
+        → (p : Bool) → nat_le feed.longest (length feed.begun) ≡ p → (q : Bool) → nat_le feed.limit feed.taken ≡ q
+        → IsStopped (scan_after done feed (b ∷ run ++ tail feeds rest)) done feed.count kind
     by rec true h q k =
         let none : feed.longest - length feed.begun ≡ 0 = omega (arith, leb-true feed.longest (length feed.begun) h) in
-        let first = past_long (feed.longest - length feed.begun) (feed.limit - feed.taken) (length (b ∷ run)) (length (b ∷ run) + counted feeds) (omega arith) (omega arith) in
+        let first = past_long (feed.longest - length feed.begun) (feed.limit - feed.taken) (length (b ∷ run)) (length (b ∷ run) + counted feeds) (omega arith)
+        (omega arith) in
         let same : Long ≡ kind = some_same Long kind (sym first ∙ e) in
         rw (other, h) (record { lines = refl; fault = ap (λ k. Some (refused_at feed.count k)) same })
     by rec false h true k =
         let room : 0 < feed.longest - length feed.begun = omega (arith, leb-false feed.longest (length feed.begun) h) in
         let none : feed.limit - feed.taken ≡ 0 = omega (arith, leb-true feed.limit feed.taken k) in
-        let first = past_size (feed.longest - length feed.begun) (feed.limit - feed.taken) (length (b ∷ run)) (length (b ∷ run) + counted feeds) (omega arith) (omega arith) in
+        let first = past_size (feed.longest - length feed.begun) (feed.limit - feed.taken) (length (b ∷ run)) (length (b ∷ run) + counted feeds) (omega arith)
+        (omega arith) in
         let same : Size ≡ kind = some_same Size kind (sym first ∙ e) in
         rw (other, h, k) (record { lines = refl; fault = ap (λ k. Some (refused_at feed.count k)) same })
     by rec false h false k =
@@ -125,18 +133,26 @@ refused feeds rest done feed (b ∷ run) kind lacks line limit e = by (refused f
         let r : feed.longest - length feed.begun ≡ suc (feed.longest - length (feed.begun ++ b ∷ [])) = omega (arith, n) in
         let l : feed.limit - feed.taken ≡ suc (feed.limit - (feed.taken + 1)) = omega arith in
         let w : length (b ∷ run) + counted feeds ≡ suc (length run + counted feeds) = omega arith in
-        let less = past_less (feed.longest - length feed.begun) (feed.limit - feed.taken) (length run) (length run + counted feeds) (feed.longest - length (feed.begun ++ b ∷ [])) (feed.limit - (feed.taken + 1)) r l in
+        let less = past_less (feed.longest - length feed.begun) (feed.limit - feed.taken) (length run) (length run + counted feeds)
+        (feed.longest - length (feed.begun ++ b ∷ [])) (feed.limit - (feed.taken + 1)) r l in
         let again = rec (omega (arith, n)) (omega arith)
         (sym less ∙ ap (first_past (feed.longest - length feed.begun) (feed.limit - feed.taken) (suc (length run))) (sym w) ∙ e) in
         rw (other, h, k) again
 
 -- a refused line with its line feed, and one without
-pub line_refused : (done : List (List ℕ)) (feed : Feed) (rest run behind : List ℕ) (kind : RefusalKind) (whole : Scan) → IsCutAt 10 rest (Some (run, behind)) → scan_after done feed rest ≡ whole
-    → length feed.begun ≤ feed.longest → feed.taken ≤ feed.limit → Some kind ≡ first_past (feed.longest - length feed.begun) (feed.limit - feed.taken) (length run) (length run + 1) → IsStopped whole done feed.count kind
+pub line_refused : (done : List (List ℕ)) (feed : Feed) (rest run behind : List ℕ) (kind : RefusalKind) (whole : Scan) → IsCutAt 10 rest (Some (run, behind))
+    → scan_after done feed rest ≡ whole
+    → length feed.begun ≤ feed.longest → feed.taken ≤ feed.limit
+    → Some kind ≡ first_past (feed.longest - length feed.begun) (feed.limit - feed.taken) (length run) (length run + 1)
+    → IsStopped whole done feed.count kind
 line_refused done feed rest run behind kind whole cut e line limit h =
-    subst (λ (s : Scan). IsStopped s done feed.count kind) (sym (ap (scan_after done feed) cut.1) ∙ e) (refused true behind done feed run kind cut.0 line limit (sym h))
+    subst (λ (s : Scan). IsStopped s done feed.count kind) (sym (ap (scan_after done feed) cut.1) ∙ e)
+    (refused true behind done feed run kind cut.0 line limit (sym h))
 
 pub rest_refused : (done : List (List ℕ)) (feed : Feed) (rest : List ℕ) (kind : RefusalKind) (whole : Scan) → Lacks 10 rest → scan_after done feed rest ≡ whole
-    → length feed.begun ≤ feed.longest → feed.taken ≤ feed.limit → Some kind ≡ first_past (feed.longest - length feed.begun) (feed.limit - feed.taken) (length rest) (length rest + 0) → IsStopped whole done feed.count kind
+    → length feed.begun ≤ feed.longest → feed.taken ≤ feed.limit
+    → Some kind ≡ first_past (feed.longest - length feed.begun) (feed.limit - feed.taken) (length rest) (length rest + 0)
+    → IsStopped whole done feed.count kind
 rest_refused done feed rest kind whole lacks e line limit h =
-    subst (λ (s : Scan). IsStopped s done feed.count kind) (ap (scan_after done feed) (append-nil rest) ∙ e) (refused false [] done feed rest kind lacks line limit (sym h))
+    subst (λ (s : Scan). IsStopped s done feed.count kind) (ap (scan_after done feed) (append-nil rest) ∙ e)
+    (refused false [] done feed rest kind lacks line limit (sym h))

@@ -20,7 +20,8 @@ step : (done : List (List ℕ)) (feed : Feed) (long size feeds : Bool) (next oth
     → (next.fault ≡ None → next' ≡ scan_after next.lines next.feed b) → (other.fault ≡ None → other' ≡ scan_after other.lines other.feed b)
     → (cond long (stopped done feed Long) (cond size (stopped done feed Size) (cond feeds next other))).fault ≡ None
     → cond long (stopped done feed Long) (cond size (stopped done feed Size) (cond feeds next' other'))
-    ≡ scan_after (cond long (stopped done feed Long) (cond size (stopped done feed Size) (cond feeds next other))).lines (cond long (stopped done feed Long) (cond size (stopped done feed Size) (cond feeds next other))).feed b
+    ≡ scan_after (cond long (stopped done feed Long) (cond size (stopped done feed Size) (cond feeds next other))).lines
+    (cond long (stopped done feed Long) (cond size (stopped done feed Size) (cond feeds next other))).feed b
 step done feed true size feeds next other next' other' b h k e = none_some _ e
 step done feed false true feeds next other next' other' b h k e = none_some _ e
 step done feed false false true next other next' other' b h k e = h e
@@ -37,13 +38,15 @@ scan-append done feed (x ∷ a) b e =
 
 -- where a byte was past a bound, what follows on it is not looked at
 stays : (long size feeds : Bool) (s t next other next' other' : Scan) → ((next.fault ≡ None → ⊥) → next' ≡ next) → ((other.fault ≡ None → ⊥) → other' ≡ other)
-    → ((cond long s (cond size t (cond feeds next other))).fault ≡ None → ⊥) → cond long s (cond size t (cond feeds next' other')) ≡ cond long s (cond size t (cond feeds next other))
+    → ((cond long s (cond size t (cond feeds next other))).fault ≡ None → ⊥)
+    → cond long s (cond size t (cond feeds next' other')) ≡ cond long s (cond size t (cond feeds next other))
 stays true size feeds s t next other next' other' h k e = refl
 stays false true feeds s t next other next' other' h k e = refl
 stays false false true s t next other next' other' h k e = h e
 stays false false false s t next other next' other' h k e = k e
 
-pub scan-faulted : (done : List (List ℕ)) (feed : Feed) (a b : List ℕ) → ((scan_after done feed a).fault ≡ None → ⊥) → scan_after done feed (a ++ b) ≡ scan_after done feed a
+pub scan-faulted : (done : List (List ℕ)) (feed : Feed) (a b : List ℕ) → ((scan_after done feed a).fault ≡ None → ⊥)
+    → scan_after done feed (a ++ b) ≡ scan_after done feed a
 scan-faulted done feed [] b e = absurd (e refl)
 scan-faulted done feed (x ∷ a) b e =
     stays (is_past_line feed x) (is_past_limit feed) (x == 10) (stopped done feed Long) (stopped done feed Size)
@@ -52,7 +55,8 @@ scan-faulted done feed (x ∷ a) b e =
     (scan-faulted (done ++ unreturned feed.begun ∷ []) (with_feed feed) a b) (scan-faulted done (with_byte feed x) a b) e
 
 -- lines that were there before stand in front
-leads : (front done : List (List ℕ)) (feed : Feed) (long size feeds : Bool) (next other next' other' : Scan) → next' ≡ lead front next → other' ≡ lead front other
+leads : (front done : List (List ℕ)) (feed : Feed) (long size feeds : Bool) (next other next' other' : Scan) → next' ≡ lead front next
+    → other' ≡ lead front other
     → cond long (stopped (front ++ done) feed Long) (cond size (stopped (front ++ done) feed Size) (cond feeds next' other'))
     ≡ lead front (cond long (stopped done feed Long) (cond size (stopped done feed Size) (cond feeds next other)))
 leads front done feed true size feeds next other next' other' h k = refl
@@ -67,7 +71,8 @@ scan-lead front done feed (x ∷ bs) =
     leads front done feed (is_past_line feed x) (is_past_limit feed) (x == 10)
     (scan_after (done ++ line ∷ []) (with_feed feed) bs) (scan_after done (with_byte feed x) bs)
     (scan_after ((front ++ done) ++ line ∷ []) (with_feed feed) bs) (scan_after (front ++ done) (with_byte feed x) bs)
-    (ap (λ (l : List (List ℕ)). scan_after l (with_feed feed) bs) (append_assoc front done (line ∷ [])) ∙ scan-lead front (done ++ line ∷ []) (with_feed feed) bs)
+    (ap (λ (l : List (List ℕ)). scan_after l (with_feed feed) bs) (append_assoc front done (line ∷ []))
+    ∙ scan-lead front (done ++ line ∷ []) (with_feed feed) bs)
     (scan-lead front done (with_byte feed x) bs)
 
 pub cut : (feed : Feed) (a b : List ℕ) → (scan feed a).fault ≡ None → scan feed (a ++ b) ≡ lead (scan feed a).lines (scan (scan feed a).feed b)
@@ -87,7 +92,8 @@ some_parts bs = omega (arith, length-slice_split (λ b. b == 10) bs)
 
 -- what is there at the end of a text, whatever was begun
 ended : (feed : Feed) → Lacks 10 feed.begun → option_to_list (last_line feed) ≡ map unreturned (filled (slice_split (λ b. b == 10) feed.begun))
-ended feed lacks = by (length feed.begun == 0) refl ∙ sym (ap (λ (parts : List (List ℕ)). map unreturned (filled parts)) (slice_split_none (λ b. b == 10) feed.begun (lacks_all 10 feed.begun lacks)))
+ended feed lacks = by (length feed.begun == 0) refl
+    ∙ sym (ap (λ (parts : List (List ℕ)). map unreturned (filled parts)) (slice_split_none (λ b. b == 10) feed.begun (lacks_all 10 feed.begun lacks)))
   where
     by : (none : Bool) → (length feed.begun == 0) ≡ none → option_to_list (last_line feed) ≡ map unreturned (filled (feed.begun ∷ []))
     by true h = rw h refl
@@ -115,8 +121,10 @@ by_feeds done feed (x ∷ bs) lacks none =
     (λ e at. by_feeds (done ++ unreturned feed.begun ∷ []) (with_feed feed) bs refl e
     ∙ append_assoc done (unreturned feed.begun ∷ []) (map unreturned (filled (slice_split (λ b. b == 10) bs)))
     ∙ ap (λ (parts : List (List ℕ)). done ++ map unreturned parts) (sym (filled_more feed.begun (slice_split (λ b. b == 10) bs) (some_parts bs)))
-    ∙ ap (λ (parts : List (List ℕ)). done ++ map unreturned (filled parts)) (sym (slice_split_at (λ b. b == 10) feed.begun x bs (lacks_all 10 feed.begun lacks) at)))
-    (λ e other. by_feeds done (with_byte feed x) bs (all_joined (λ b. not (b == 10)) feed.begun (x ∷ []) lacks (and_from (not (x == 10)) true (rw other refl) refl)) e
+    ∙ ap (λ (parts : List (List ℕ)). done ++ map unreturned (filled parts))
+    (sym (slice_split_at (λ b. b == 10) feed.begun x bs (lacks_all 10 feed.begun lacks) at)))
+    (λ e other. by_feeds done (with_byte feed x) bs (all_joined (λ b. not (b == 10)) feed.begun (x ∷ []) lacks
+    (and_from (not (x == 10)) true (rw other refl) refl)) e
     ∙ ap (λ (l : List ℕ). done ++ map unreturned (filled (slice_split (λ b. b == 10) l))) (append_assoc feed.begun (x ∷ []) bs)) none
 
 pub whole : (limit longest : ℕ) (text : List ℕ) → (scan (blank limit longest) text).fault ≡ None → all_lines (scan (blank limit longest) text) ≡ lines_of text

@@ -12,7 +12,9 @@ use Rattle.aria_base.specs.declared.limits.TheConstants.{LONGEST_TEXT}
 use Rattle.script_text.specs.Tokens.{fit_text}
 
 pub is_text : (bytes : List ℕ) → IsText bytes → fit_text bytes ≡ Some bytes
-is_text bytes h = ap (λ (b : Bool). cond b (Some bytes) None) (and_from (nat_le (length bytes) LONGEST_TEXT) (list_all may_hold bytes) (le-leb (length bytes) LONGEST_TEXT h.0) (list_all-from_AllPass may_hold bytes h.1))
+is_text bytes h = ap (λ (b : Bool). cond b (Some bytes) None)
+    (and_from (nat_le (length bytes) LONGEST_TEXT) (list_all may_hold bytes) (le-leb (length bytes) LONGEST_TEXT h.0)
+    (list_all-from_AllPass may_hold bytes h.1))
 
 pub too_long : (bytes : List ℕ) → LONGEST_TEXT < length bytes → fit_text bytes ≡ None
 too_long bytes h = let e = lt-leb (length bytes) LONGEST_TEXT h in rw e

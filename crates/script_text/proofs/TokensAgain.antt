@@ -31,7 +31,12 @@ plain_whole begun (b ∷ t) rest h =
     e ∙ plain_whole (begun ++ b ∷ []) t rest parts.1 ∙ ap (λ f. tokens_from f false rest) (append_assoc begun (b ∷ []) t)
 
 pub plain_token : (t : List ℕ) → 0 < length t → list_all is_plain t ≡ true → IsToken t
-plain_token t some h = record { some = some; whole = λ rest. plain_whole [] t rest h; printed = all_weaker is_plain (λ b. nat_le 32 b && nat_le b 126) (λ b k. grind (arith, common_steps, k)) t h }
+plain_token t some h = record {
+  some = some;
+  whole = λ rest. plain_whole [] t rest h;
+  printed =
+      all_weaker is_plain (λ b. nat_le 32 b && nat_le b 126) (λ b k. grind (arith, common_steps, k)) t h;
+}
 
 text_whole : (begun t rest : List ℕ) → list_all may_hold t ≡ true → tokens_from begun true (t ++ rest) ≡ tokens_from (begun ++ t) true rest
 text_whole begun [] rest h = ap (λ f. tokens_from f true rest) (sym (append-nil begun))
@@ -45,7 +50,8 @@ pub text_token : (t : List ℕ) → list_all may_hold t ≡ true → IsToken (qu
 text_token t h = record {
   some = omega arith;
   whole = λ rest. ap (λ (bs : List ℕ). tokens_from (34 ∷ []) true bs) (append_assoc t (34 ∷ []) rest) ∙ text_whole (34 ∷ []) t (34 ∷ rest) h;
-  printed = all_joined (λ b. nat_le 32 b && nat_le b 126) t (34 ∷ []) (all_weaker may_hold (λ b. nat_le 32 b && nat_le b 126) (λ b k. grind (arith, common_steps, k)) t h) refl;
+  printed = all_joined (λ b. nat_le 32 b && nat_le b 126) t (34 ∷ [])
+      (all_weaker may_hold (λ b. nat_le 32 b && nat_le b 126) (λ b k. grind (arith, common_steps, k)) t h) refl;
 }
 
 -- ---- lists
@@ -63,4 +69,5 @@ tokens_again t (u ∷ ts) h all =
 
 pub printed_again : (ts : List (List ℕ)) → All IsToken ts → is_printed (spaced (λ u. u) ts) ≡ true
 printed_again [] all = refl
-printed_again (t ∷ ts) all = all_joined (λ b. nat_le 32 b && nat_le b 126) t (spaced (λ u. u) ts) (All-head IsToken t ts all).printed (printed_again ts (All-tail IsToken t ts all))
+printed_again (t ∷ ts) all = all_joined (λ b. nat_le 32 b && nat_le b 126) t (spaced (λ u. u) ts) (All-head IsToken t ts all).printed
+    (printed_again ts (All-tail IsToken t ts all))

@@ -14,7 +14,8 @@ pub space_skipped : (line : List ℕ) (at : ℕ) → at < length line → get_or
 space_skipped line at below space = sym (ap tokens (here line at below ∙ ap (λ (b : ℕ). b ∷ drop (at + 1) line) space))
 
 pub goes_on : (line : List ℕ) (at : ℕ) (quoted : Bool) → at < length line → (get_or line at 0 == 32 && not quoted) ≡ false
-    → tokens_from (take (at + 1) line) (cond (get_or line at 0 == 34) (not quoted) quoted) (drop (at + 1) line) ≡ tokens_from (take at line) quoted (drop at line)
+    → tokens_from (take (at + 1) line) (cond (get_or line at 0 == 34) (not quoted) quoted) (drop (at + 1) line) ≡ tokens_from (take at line) quoted
+    (drop at line)
 goes_on line at quoted below h =
     let d = here line at below in
     let t = take_more line at 0 below in
@@ -37,5 +38,6 @@ some_token : (t : List ℕ) (more : List (List ℕ)) → 0 < length t → with_t
 some_token [] more some = absurd (omega arith)
 some_token (b ∷ t) more some = refl
 
-pub first : (line rest token behind : List ℕ) → tokens rest ≡ tokens line → length rest ≤ length line → tokens rest ≡ with_token token (tokens behind) → length token + length behind ≡ length rest → 0 < length token → IsFirst line (Some (token, behind))
+pub first : (line rest token behind : List ℕ) → tokens rest ≡ tokens line → length rest ≤ length line → tokens rest ≡ with_token token (tokens behind)
+    → length token + length behind ≡ length rest → 0 < length token → IsFirst line (Some (token, behind))
 first line rest token behind same within cut whole some = (sym same ∙ cut ∙ some_token token (tokens behind) some, omega arith)

@@ -31,16 +31,19 @@ use Rattle.script_text.proofs.TokensAgain.{IsToken, is_plain, plain_token, text_
 
 -- ---- lists
 
-all_after_again : {A B : Type 0} (f : B → Option A) (g : A → B) (Is : A → Type 0) → ((x : A) → Is x → f (g x) ≡ Some x) → (done xs : List A) → All Is xs → all_after f done (map g xs) ≡ Some (done ++ xs)
+all_after_again : {A B : Type 0} (f : B → Option A) (g : A → B) (Is : A → Type 0) → ((x : A) → Is x → f (g x) ≡ Some x) → (done xs : List A) → All Is xs
+    → all_after f done (map g xs) ≡ Some (done ++ xs)
 all_after_again f g Is again done [] h = ap Some (sym (append-nil done))
 all_after_again f g Is again done (x ∷ xs) h =
     let e = again x (All-head Is x xs h) in
     rw e (all_after_again f g Is again (done ++ x ∷ []) xs (All-tail Is x xs h) ∙ ap Some (append_assoc done (x ∷ []) xs))
 
-pub all_of_again : {A B : Type 0} (f : B → Option A) (g : A → B) (Is : A → Type 0) → ((x : A) → Is x → f (g x) ≡ Some x) → (xs : List A) → All Is xs → all_of f (map g xs) ≡ Some xs
+pub all_of_again : {A B : Type 0} (f : B → Option A) (g : A → B) (Is : A → Type 0) → ((x : A) → Is x → f (g x) ≡ Some x) → (xs : List A) → All Is xs
+    → all_of f (map g xs) ≡ Some xs
 all_of_again f g Is again xs h = all_after_again f g Is again [] xs h
 
-pub all_mapped : {A B : Type 0} (Is : A → Type 0) (Is_too : B → Type 0) (g : A → B) → ((x : A) → Is x → Is_too (g x)) → (xs : List A) → All Is xs → All Is_too (map g xs)
+pub all_mapped : {A B : Type 0} (Is : A → Type 0) (Is_too : B → Type 0) (g : A → B) → ((x : A) → Is x → Is_too (g x)) → (xs : List A) → All Is xs
+    → All Is_too (map g xs)
 all_mapped Is Is_too g each xs h = All-map Is_too g xs (λ i y below. each (get_or xs i y) (h i y below))
 
 split_again : (c : ℕ) (x : List ℕ) (xs : List (List ℕ)) → All (Lacks c) (x ∷ xs) → slice_split (λ b. b == c) (join_with_byte c (x ∷ xs)) ≡ x ∷ xs
@@ -49,11 +52,13 @@ split_again c x (y ∷ xs) h =
     slice_split_at (λ b. b == c) x c (join_with_byte c (y ∷ xs)) (lacks_all c x (All-head (Lacks c) x (y ∷ xs) h)) (eq-eqb c c refl)
     ∙ ap (λ (l : List (List ℕ)). x ∷ l) (split_again c y xs (All-tail (Lacks c) x (y ∷ xs) h))
 
-all_in_join : (p : ℕ → Bool) (c : ℕ) → p c ≡ true → (x : List ℕ) (xs : List (List ℕ)) → All (λ t. list_all p t ≡ true) (x ∷ xs) → list_all p (join_with_byte c (x ∷ xs)) ≡ true
+all_in_join : (p : ℕ → Bool) (c : ℕ) → p c ≡ true → (x : List ℕ) (xs : List (List ℕ)) → All (λ t. list_all p t ≡ true) (x ∷ xs)
+    → list_all p (join_with_byte c (x ∷ xs)) ≡ true
 all_in_join p c at x [] h = All-head (λ t. list_all p t ≡ true) x [] h
 all_in_join p c at x (y ∷ xs) h =
     let rest = all_in_join p c at y xs (All-tail (λ t. list_all p t ≡ true) x (y ∷ xs) h) in
-    all_joined p x (c ∷ join_with_byte c (y ∷ xs)) (All-head (λ t. list_all p t ≡ true) x (y ∷ xs) h) (and_from (p c) (list_all p (join_with_byte c (y ∷ xs))) at rest)
+    all_joined p x (c ∷ join_with_byte c (y ∷ xs)) (All-head (λ t. list_all p t ≡ true) x (y ∷ xs) h)
+    (and_from (p c) (list_all p (join_with_byte c (y ∷ xs))) at rest)
 
 some_in_join : (c : ℕ) (x : List ℕ) (xs : List (List ℕ)) → 0 < length x → 0 < length (join_with_byte c (x ∷ xs))
 some_in_join c x [] some = some
@@ -66,15 +71,18 @@ abbrev pub is_numeric : ℕ → Bool
 is_numeric b = is_ascii_digit b || b == 45
 
 pub numeric : (z : ℤ) → is_i64 z ≡ true → list_all is_numeric (signed_decimal z) ≡ true
-numeric (pos n) h = all_weaker is_ascii_digit is_numeric (λ b k. grind (arith, common_steps, k)) (decimal n) (are_digits n (let few : n < 2 ^ 63 = grind (arith, common_steps, ints, h) in omega arith))
-numeric (negsuc n) h = all_weaker is_ascii_digit is_numeric (λ b k. grind (arith, common_steps, k)) (decimal (suc n)) (are_digits (suc n) (let few : n < 2 ^ 63 = grind (arith, common_steps, ints, h) in omega arith))
+numeric (pos n) h = all_weaker is_ascii_digit is_numeric (λ b k. grind (arith, common_steps, k)) (decimal n)
+    (are_digits n (let few : n < 2 ^ 63 = grind (arith, common_steps, ints, h) in omega arith))
+numeric (negsuc n) h = all_weaker is_ascii_digit is_numeric (λ b k. grind (arith, common_steps, k)) (decimal (suc n))
+    (are_digits (suc n) (let few : n < 2 ^ 63 = grind (arith, common_steps, ints, h) in omega arith))
 
 pub some_number : (z : ℤ) → is_i64 z ≡ true → 0 < length (signed_decimal z)
 some_number (pos n) h = decimal_nonempty n (let few : n < 2 ^ 63 = grind (arith, common_steps, ints, h) in omega arith)
 some_number (negsuc n) h = omega arith
 
 number_token : (z : ℤ) → is_i64 z ≡ true → IsToken (signed_decimal z)
-number_token z h = plain_token (signed_decimal z) (some_number z h) (all_weaker is_numeric is_plain (λ b k. grind (arith, common_steps, k)) (signed_decimal z) (numeric z h))
+number_token z h = plain_token (signed_decimal z) (some_number z h)
+    (all_weaker is_numeric is_plain (λ b k. grind (arith, common_steps, k)) (signed_decimal z) (numeric z h))
 
 -- ---- texts
 
@@ -120,14 +128,16 @@ tuples_again [] h same = refl
 tuples_again (t ∷ ts) h same =
     listed (join_with_byte 59 (map tuple_token (t ∷ ts))) (some_in_join 59 (tuple_token t) (map tuple_token ts) (some_tuple t (All-head IsTuple t ts h)))
     ∙ ap (λ (parts : List (List ℕ)). option_and_then fit_list (all_of tuple_of parts)) (split_again 59 (tuple_token t) (map tuple_token ts)
-    (all_mapped IsTuple (Lacks 59) tuple_token (λ t k. all_weaker (λ b. is_numeric b || b == 44) (λ b. not (b == 59)) (λ b m. grind (arith, common_steps, m)) (tuple_token t) (tuple_bytes t k)) (t ∷ ts) h))
+    (all_mapped IsTuple (Lacks 59) tuple_token (λ t k. all_weaker (λ b. is_numeric b || b == 44) (λ b. not (b == 59)) (λ b m. grind (arith, common_steps, m))
+    (tuple_token t) (tuple_bytes t k)) (t ∷ ts) h))
     ∙ ap (option_and_then fit_list) (all_of_again tuple_of tuple_token IsTuple tuple_again (t ∷ ts) h)
     ∙ ap (λ (b : Bool). cond b (Some (t ∷ ts)) None) same
 
 tuples_plain : (ts : List (List ℤ)) → All IsTuple ts → list_all is_plain (join_with_byte 59 (map tuple_token ts)) ≡ true
 tuples_plain [] h = refl
 tuples_plain (t ∷ ts) h = all_in_join is_plain 59 refl (tuple_token t) (map tuple_token ts)
-    (all_mapped IsTuple (λ t. list_all is_plain t ≡ true) tuple_token (λ t k. all_weaker (λ b. is_numeric b || b == 44) is_plain (λ b m. grind (arith, common_steps, m)) (tuple_token t) (tuple_bytes t k)) (t ∷ ts) h)
+    (all_mapped IsTuple (λ t. list_all is_plain t ≡ true) tuple_token
+    (λ t k. all_weaker (λ b. is_numeric b || b == 44) is_plain (λ b m. grind (arith, common_steps, m)) (tuple_token t) (tuple_bytes t k)) (t ∷ ts) h)
 
 -- ---- parts, values, arguments
 
@@ -187,9 +197,12 @@ join_behind : {X : Type 0} (c : ℕ) (f : X → List ℕ) (x : X) (xs : List X) 
 join_behind c f x [] = sym (append-nil (f x))
 join_behind c f x (y ∷ ys) = ap (λ (l : List ℕ). f x ++ c ∷ l) (join_behind c f y ys)
 
-pub joined_with : {X T E : Type 0} (r : Result T E) (c : ℕ) (f : X → List ℕ) (old mid new : List ℕ) (d : X) (items : List X) → 1 ≤ length items → mid ≡ old ++ f (get_or items 0 d) → OnOk r (new ≡ mid ++ behind c f (take (length items - 1) (drop 1 items))) → OnOk r (new ≡ old ++ join_with_byte c (map f items))
+pub joined_with : {X T E : Type 0} (r : Result T E) (c : ℕ) (f : X → List ℕ) (old mid new : List ℕ) (d : X) (items : List X) → 1 ≤ length items
+    → mid ≡ old ++ f (get_or items 0 d) → OnOk r (new ≡ mid ++ behind c f (take (length items - 1) (drop 1 items)))
+    → OnOk r (new ≡ old ++ join_with_byte c (map f items))
 joined_with (Err e) c f old mid new d items some h k = tt
 joined_with (Ok t) c f old mid new d [] some h k = absurd (omega arith)
 joined_with {X = X} (Ok t) c f old mid new d (x ∷ xs) some h k =
     let e : take (length (x ∷ xs) - 1) xs ≡ xs = grind (arith, common_steps) in
-    k ∙ ap (λ (ys : List X). mid ++ behind c f ys) e ∙ ap (λ (m : List ℕ). m ++ behind c f xs) h ∙ append_assoc old (f x) (behind c f xs) ∙ ap (λ (l : List ℕ). old ++ l) (sym (join_behind c f x xs))
+    k ∙ ap (λ (ys : List X). mid ++ behind c f ys) e ∙ ap (λ (m : List ℕ). m ++ behind c f xs) h ∙ append_assoc old (f x) (behind c f xs)
+    ∙ ap (λ (l : List ℕ). old ++ l) (sym (join_behind c f x xs))

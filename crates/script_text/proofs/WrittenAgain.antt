@@ -27,7 +27,8 @@ use Rattle.script_text.proofs.NamesFound.{found, passes}
 
 -- ---- rows
 
-row_there : (plan : Plan) (key : Key) (row : Cells) (found_table : Option Table) → slice_get plan.tables key.table ≡ found_table → IsCatalog plan → row_fits plan.tables key row ≡ true
+row_there : (plan : Plan) (key : Key) (row : Cells) (found_table : Option Table) → slice_get plan.tables key.table ≡ found_table → IsCatalog plan
+    → row_fits plan.tables key row ≡ true
     → fits_table key row found_table ≡ true → IsParts key.parts → IsCells row → row_said plan (row_line plan.tables key row) ≡ Ok (key, row)
 row_there plan key row None e is fits fit p v = cc
 row_there plan key row (Some table) e is fits fit p v =
@@ -38,10 +39,12 @@ row_there plan key row (Some table) e is fits fit p v =
     let says = row_said_again table.name key.parts row word p.some p.few v.few p.each v.each in
     rw (name, says, at, fits) refl
 
-pub row_again : (plan : Plan) (key : Key) (row : Cells) (line : List ℕ) → line ≡ row_line plan.tables key row → IsCatalog plan → Fits plan.tables key row → IsParts key.parts → IsCells row
+pub row_again : (plan : Plan) (key : Key) (row : Cells) (line : List ℕ) → line ≡ row_line plan.tables key row → IsCatalog plan → Fits plan.tables key row
+    → IsParts key.parts → IsCells row
     → row_said plan line ≡ Ok (key, row)
 row_again plan key row line e is fits p v =
-    ap (row_said plan) e ∙ row_there plan key row (slice_get plan.tables key.table) refl is (fits_again plan.tables key row fits) (fits_again plan.tables key row fits) p v
+    ap (row_said plan) e ∙ row_there plan key row (slice_get plan.tables key.table) refl is (fits_again plan.tables key row fits)
+    (fits_again plan.tables key row fits) p v
 
 -- ---- calls
 
@@ -67,7 +70,8 @@ alike_args (k ∷ ks) (a ∷ args) h =
     let parts = and_parts (arg_fits k a) (args_fit ks args) h in
     and_from (is_alike a) (list_all is_alike args) (alike_arg k a parts.0) (alike_args ks args parts.1)
 
-call_there : (plan : Plan) (call : Call) (found_proc : Option Proc) → slice_get plan.procs call.proc ≡ found_proc → IsCatalog plan → takes plan call ≡ true → fits_proc call.args found_proc ≡ true → IsArgs call.args
+call_there : (plan : Plan) (call : Call) (found_proc : Option Proc) → slice_get plan.procs call.proc ≡ found_proc → IsCatalog plan → takes plan call ≡ true
+    → fits_proc call.args found_proc ≡ true → IsArgs call.args
     → call_said plan (call_line plan.procs call) ≡ Ok call
 call_there plan call None e is fits fit args = cc
 call_there plan call (Some proc) e is fits fit args =
@@ -76,9 +80,11 @@ call_there plan call (Some proc) e is fits fit args =
     let word : is_word proc.name ≡ true = grind (arith, common_steps, limits) in
     let at = found (λ p. p.name) plan.procs call.proc proc is.proc_names e in
     let alike = alike_args proc.args call.args fit in
-    let says = call_said_again proc.name call.args word args.few (λ i d below. (args.each i d below, AllPass-from_list_all is_alike call.args alike i d below)) in
+    let says = call_said_again proc.name call.args word args.few
+    (λ i d below. (args.each i d below, AllPass-from_list_all is_alike call.args alike i d below)) in
     rw (name, says, at, fits) refl
 
-pub call_again : (plan : Plan) (call : Call) (line : List ℕ) → line ≡ call_line plan.procs call → IsCatalog plan → takes plan call ≡ true → IsArgs call.args → call_said plan line ≡ Ok call
+pub call_again : (plan : Plan) (call : Call) (line : List ℕ) → line ≡ call_line plan.procs call → IsCatalog plan → takes plan call ≡ true → IsArgs call.args
+    → call_said plan line ≡ Ok call
 call_again plan call line e is fits args =
     ap (call_said plan) e ∙ call_there plan call (slice_get plan.procs call.proc) refl is fits fits args

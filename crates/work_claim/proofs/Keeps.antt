@@ -46,7 +46,8 @@ times-contained (y ∷ ys) (suc k) d lt =
 
 misses-none : (bound : ℕ) (xs : List ℕ) → All (λ x. x < bound) xs → misses bound xs ≡ 0
 misses-none bound [] below = refl
-misses-none bound (y ∷ ys) below = let here : y < bound = below 0 0 (omega arith) in let rest = misses-none bound ys (λ k d lt. below (suc k) d (omega arith)) in grind (arith, nat_tests, sum_by-cons (λ z. cond (leb bound z) 1 0) y ys)
+misses-none bound (y ∷ ys) below = let here : y < bound = below 0 0 (omega arith) in let rest =
+    misses-none bound ys (λ k d lt. below (suc k) d (omega arith)) in grind (arith, nat_tests, sum_by-cons (λ z. cond (leb bound z) 1 0) y ys)
 
 -- ---- counts after a draw
 
@@ -63,7 +64,8 @@ one-miss : (bound c : ℕ) → cond (leb bound c) 1 0 ≤ 1
 one-miss bound c = grind (arith, nat_tests)
 
 -- the word is far from wrapping
-word-small : (bound c : ℕ) (views : List View) → c ≤ bound + sum_by (misses_of bound) views → Each (FewMisses bound) views → sum_by share_of views ≡ all_shares → c ≤ bound + all_shares
+word-small : (bound c : ℕ) (views : List View) → c ≤ bound + sum_by (misses_of bound) views → Each (FewMisses bound) views → sum_by share_of views ≡ all_shares
+    → c ≤ bound + all_shares
 word-small bound c views le few shares = let most = sum_by-each (misses_of bound) share_of views few in omega arith
 
 -- A draw finds a number that nobody drew, and keeps the rule
@@ -90,7 +92,11 @@ draws bound slots id me has_share fits below s kept homes at small = (
     few_misses = each-set (FewMisses bound) s.views id next few kept.few_misses;
     idle = each-set Idle s.views id next (λ none. absurd (omega arith)) kept.idle;
   },
-  (refl, λ k d lt. once-bound (get_or me.0.drawn k d) found (let x : ℕ = get_or me.0.drawn k d in let here = times-contained me.0.drawn k d lt in let all = kept.once x in let most = sum_by-at (times_of x) s.views id me.0 at in omega arith)),
+  (
+    refl,
+    λ k d lt. once-bound (get_or me.0.drawn k d) found (let x : ℕ = get_or me.0.drawn k d in let here = times-contained me.0.drawn k d lt in let all =
+        kept.once x in let most = sum_by-at (times_of x) s.views id me.0 at in omega arith),
+  ),
 )
   where
     found : ℕ
@@ -103,7 +109,8 @@ draws bound slots id me has_share fits below s kept homes at small = (
     next = view me.0.share (me.0.drawn ++ found ∷ [])
 
     word_is : get_or (set s.words 1 after) 1 0 ≡ found + 1
-    word_is = let low = word-small bound found s.views kept.small kept.few_misses kept.shares in get_or-set_same s.words 1 after 0 (omega (arith, kept.two_words)) ∙ mod-eq_of_lt (omega arith)
+    word_is = let low = word-small bound found s.views kept.small kept.few_misses kept.shares in
+        get_or-set_same s.words 1 after 0 (omega (arith, kept.two_words)) ∙ mod-eq_of_lt (omega arith)
 
     few : FewMisses bound next
     few = let none = misses-none bound me.0.drawn below in let pushed = misses-push bound me.0.drawn found in let most = one-miss bound found in omega arith
@@ -115,7 +122,8 @@ splits bound id v shares below s kept at = record {
   shares = let sum = sum_by-set_push share_of s.views id v (one_less v) one at in let all = kept.shares in omega arith;
   once = λ x. let sum = sum_by-set_push (times_of x) s.views id v (one_less v) one at in let all = kept.once x in omega arith;
   small = let sum = sum_by-set_push (misses_of bound) s.views id v (one_less v) one at in let le = kept.small in omega arith;
-  few_misses = each-push (FewMisses bound) (set s.views id (one_less v)) one (omega arith) (each-set (FewMisses bound) s.views id (one_less v) (let none = misses-none bound v.drawn below in omega arith) kept.few_misses);
+  few_misses = each-push (FewMisses bound) (set s.views id (one_less v)) one (omega arith)
+      (each-set (FewMisses bound) s.views id (one_less v) (let none = misses-none bound v.drawn below in omega arith) kept.few_misses);
   idle = each-push Idle (set s.views id (one_less v)) one (λ none. refl) (each-set Idle s.views id (one_less v) (λ none. absurd (omega arith)) kept.idle);
 }
 
@@ -132,8 +140,10 @@ joins bound id v other w has_share s kept at apart at' = record {
       let sum = sum_by-set_two (misses_of bound) s.views id other v (sum_of v w) w spent_view at at' in
       let le = kept.small in
       omega (arith, misses-append bound v.drawn w.drawn);
-  few_misses = each-set (FewMisses bound) (set s.views id (sum_of v w)) other spent_view (omega arith) (each-set (FewMisses bound) s.views id (sum_of v w) few kept.few_misses);
-  idle = each-set Idle (set s.views id (sum_of v w)) other spent_view (λ _. refl) (each-set Idle s.views id (sum_of v w) (λ none. absurd (omega arith)) kept.idle);
+  few_misses = each-set (FewMisses bound) (set s.views id (sum_of v w)) other spent_view (omega arith)
+      (each-set (FewMisses bound) s.views id (sum_of v w) few kept.few_misses);
+  idle = each-set Idle (set s.views id (sum_of v w)) other spent_view (λ _. refl)
+      (each-set Idle s.views id (sum_of v w) (λ none. absurd (omega arith)) kept.idle);
 }
   where
     few : FewMisses bound (sum_of v w)
@@ -150,9 +160,11 @@ closes bound id v words xs whole (s, (kept, at), words_are, count, values) x =
     ∙ kept.once x ∙ ap (λ ws. once_below x (get_or ws 1 0)) words_are
 
 -- a seat's numbers are below the table's bound where they are below that of the claims
-pub below-key : (offer offer' : Offer) (seat seat' : Drawer) (key : ℕ) → offer ≡ offer' → seat ≡ seat' → key ≡ offer.bound → All (λ x. x < offer'.bound) seat'.drawn → All (λ x. x < key) seat.drawn
+pub below-key : (offer offer' : Offer) (seat seat' : Drawer) (key : ℕ) → offer ≡ offer' → seat ≡ seat' → key ≡ offer.bound
+    → All (λ x. x < offer'.bound) seat'.drawn → All (λ x. x < key) seat.drawn
 below-key offer offer' seat seat' key same_offer same_seat same_key below =
-    subst (λ (s : Drawer). All (λ x. x < key) s.drawn) (sym same_seat) (λ k d lt. let here = below k d lt in omega (arith, ap (λ (o : Offer). o.bound) same_offer))
+    subst (λ (s : Drawer). All (λ x. x < key) s.drawn) (sym same_seat)
+    (λ k d lt. let here = below k d lt in omega (arith, ap (λ (o : Offer). o.bound) same_offer))
 
 -- what is counted stands in the list
 pub counted-contained : (x : ℕ) (xs : List ℕ) → 1 ≤ times x xs → Contains xs x

@@ -83,8 +83,10 @@ rises drawn x y all = let lt : x < y = All-contains (λ z. z < y) (drawn ++ x �
 pub rising_after : (before after : Drawer) (x : ℕ) → Drew before x after → (y : ℕ) → All (λ z. z < y) after.drawn → x + 1 ≤ y
 rising_after before after x drew y all = rises before.drawn x y (subst (λ (s : Drawer). All (λ z. z < y) s.drawn) drew.one_more all)
 
-pub below_after : (bound : ℕ) (before after : Drawer) (x : ℕ) → Drew before x after → x < bound → All (λ z. z < bound) before.drawn → All (λ z. z < bound) after.drawn
-below_after bound before after x drew lt all = subst (λ (s : Drawer). All (λ z. z < bound) s.drawn) (sym drew.one_more) (All-push (λ z. z < bound) before.drawn x all lt)
+pub below_after : (bound : ℕ) (before after : Drawer) (x : ℕ) → Drew before x after → x < bound → All (λ z. z < bound) before.drawn
+    → All (λ z. z < bound) after.drawn
+below_after bound before after x drew lt all = subst (λ (s : Drawer). All (λ z. z < bound) s.drawn) (sym drew.one_more)
+    (All-push (λ z. z < bound) before.drawn x all lt)
 
 module _ {Hand : Type 0} (count : ℕ) (did : Hand → ℕ → List ℕ → Type 0) where
   pub did_after : (before after : Drawer) (hand hand' : Hand) (x : ℕ) → Drew before x after → x < count
@@ -99,7 +101,8 @@ module _ {Hand : Type 0} (count : ℕ) (did : Hand → ℕ → List ℕ → Type
   part_ended first before after hand x drew le table share is = record {
     same_table = ap (λ (s : Drawer). s.table) drew.one_more ∙ table;
     same_share = ap (λ (s : Drawer). s.share) drew.one_more ∙ share;
-    done = subst (λ (s : Drawer). did hand s.share (places_of count s.drawn)) (sym drew.one_more) (subst (did hand before.share) (sym (place_missed count x before.drawn le)) is);
+    done = subst (λ (s : Drawer). did hand s.share (places_of count s.drawn)) (sym drew.one_more)
+        (subst (did hand before.share) (sym (place_missed count x before.drawn le)) is);
     ended = (x, le, subst (λ (s : Drawer). Contains s.drawn x) (sym drew.one_more) (Contains-push before.drawn x));
   }
 
@@ -120,10 +123,16 @@ module _ {Hand : Type 0} (count : ℕ) (did : Hand → ℕ → List ℕ → Type
         same_share = omega arith;
         done = subst (λ (s : Drawer). did hand s.share (places_of count s.drawn)) (sym j)
             (subst (did hand (mine.share + theirs.share)) (sym (filter-append (λ y. nat_lt y count) mine.drawn theirs.drawn)) (both _ _ _ _ p.done q.done));
-        ended = (p.ended.0, p.ended.1, subst (λ (s : Drawer). Contains s.drawn p.ended.0) (sym j) (Contains-append_left mine.drawn theirs.drawn p.ended.0 p.ended.2));
+        ended = (
+          p.ended.0,
+          p.ended.1,
+          subst (λ (s : Drawer). Contains s.drawn p.ended.0) (sym j)
+              (Contains-append_left mine.drawn theirs.drawn p.ended.0 p.ended.2),
+        );
       }
 
-  pub all_done : (first last : Drawer) (hand : Hand) (c : ℕ) → IsPart count did first last hand → last.share ≡ all_shares → IsEachOnce last.drawn c → HasDoneAll did count hand
+  pub all_done : (first last : Drawer) (hand : Hand) (c : ℕ) → IsPart count did first last hand → last.share ≡ all_shares → IsEachOnce last.drawn c
+      → HasDoneAll did count hand
   all_done first last hand c part all once =
       let past = part.ended.1 in
       let end = below_end last.drawn c part.ended.0 once part.ended.2 in

@@ -8,4 +8,5 @@ use Rattle.cat_read.specs.Places.{path_of}
 use Rattle.cat_read.proofs.statements.read_exprs.Given as goal
 
 abbrev pub invariant-loop-count : goal.invariant-loop-count
-invariant-loop-count l = terms_after (in_item (path_of l.fn.place) l.fn.at) l.count (map term_of l.exprs.items) (items_view (drop l.count l.item-items)) ≡ terms_at (path_of l.fn.place) l.fn.at (view l.fn.value)
+invariant-loop-count l = terms_after (in_item (path_of l.fn.place) l.fn.at) l.count (map term_of l.exprs.items)
+    (items_view (drop l.count l.item-items)) ≡ terms_at (path_of l.fn.place) l.fn.at (view l.fn.value)

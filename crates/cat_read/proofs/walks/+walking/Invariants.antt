@@ -8,7 +8,9 @@ use Rattle.cat_read.specs.Places.{path_of}
 use Rattle.cat_read.proofs.walks.+walking.Given as goal
 
 abbrev pub invariant-read_steps-loop-at : goal.invariant-read_steps-loop-at
-invariant-read_steps-loop-at l = steps_after l.walk.tables.now (path_of l.walk.body.now) (path_of l.place) l.at l.seen (map step_of l.stmts.items) (items_view (drop l.at l.item-items)) ≡ steps_after l.walk.tables.now (path_of l.walk.body.now) (path_of l.place) 0 l.initial.seen [] (items_view l.item-items)
+invariant-read_steps-loop-at l = steps_after l.walk.tables.now (path_of l.walk.body.now) (path_of l.place) l.at l.seen (map step_of l.stmts.items)
+    (items_view (drop l.at l.item-items)) ≡ steps_after l.walk.tables.now (path_of l.walk.body.now) (path_of l.place) 0 l.initial.seen []
+    (items_view l.item-items)
 
 abbrev pub decreases-read_stmt : goal.decreases-read_stmt
 decreases-read_stmt l = 8 * the_size l.value.now

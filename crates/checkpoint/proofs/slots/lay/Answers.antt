@@ -15,21 +15,24 @@ pub write_synced-requires-clause-within : goal.write_synced-requires-clause-with
 write_synced-requires-clause-within g c =
     let reads = g.met.D.Disk.reads c.args.disk.now (g.D.Disk.history c.args.disk.now).now c.args.slot in
     let size = ap (λ (l : List ℕ). length l) c.bytes-front.ensures ∙ head_size c.args.head.now (length c.args.body.now) in
-    head_room _ (g.D.Disk.history c.write_at.new.self) _ reads c.requires.shut c.bytes-front.result size c.write_at.ensures.acts c.in_ok-write_at.ensures.written
+    head_room _ (g.D.Disk.history c.write_at.new.self) _ reads c.requires.shut c.bytes-front.result size c.write_at.ensures.acts
+    c.in_ok-write_at.ensures.written
 
 pub returns-in_err-write_synced-clause-images : goal.returns-in_err-write_synced-clause-images
 returns-in_err-write_synced-clause-images g c =
     let reads = g.met.D.Disk.reads c.args.disk.now (g.D.Disk.history c.args.disk.now).now c.args.slot in
     let size = ap (λ (l : List ℕ). length l) c.bytes-front.ensures ∙ head_size c.args.head.now (length c.args.body.now) in
     let reads_next = g.met.D.Disk.reads c.write_at.new.self (g.D.Disk.history c.write_at.new.self).now c.args.slot in
-    lay_leaves _ _ _ reads c.requires.shut c.bytes-front.result size c.write_at.ensures.acts c.in_ok-write_at.ensures.written (g.D.Disk.history c.write_synced.new.disk) _ reads_next c.write_synced.ensures.images
+    lay_leaves _ _ _ reads c.requires.shut c.bytes-front.result size c.write_at.ensures.acts c.in_ok-write_at.ensures.written
+    (g.D.Disk.history c.write_synced.new.disk) _ reads_next c.write_synced.ensures.images
 
 pub returns-clause-images : goal.returns-clause-images
 returns-clause-images g c =
     let reads = g.met.D.Disk.reads c.args.disk.now (g.D.Disk.history c.args.disk.now).now c.args.slot in
     let size = ap (λ (l : List ℕ). length l) c.bytes-front.ensures ∙ head_size c.args.head.now (length c.args.body.now) in
     let reads_next = g.met.D.Disk.reads c.write_at.new.self (g.D.Disk.history c.write_at.new.self).now c.args.slot in
-    lay_leaves _ _ _ reads c.requires.shut c.bytes-front.result size c.write_at.ensures.acts c.in_ok-write_at.ensures.written (g.D.Disk.history c.write_synced.new.disk) _ reads_next c.write_synced.ensures.images
+    lay_leaves _ _ _ reads c.requires.shut c.bytes-front.result size c.write_at.ensures.acts c.in_ok-write_at.ensures.written
+    (g.D.Disk.history c.write_synced.new.disk) _ reads_next c.write_synced.ensures.images
 
 pub returns-clause-bytes : goal.returns-clause-bytes
 returns-clause-bytes g c =

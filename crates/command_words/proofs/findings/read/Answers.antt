@@ -12,8 +12,10 @@ returns-clause-line c =
     let words = map string_bytes c.args.words.now in
     let app_is = c.in_ok-command.ensures.app in
     IfOk-weaker c.try_get_matches_from.result _ _ (λ m h l e.
-    let found : subcommand_rows_of m ≡ _ = (h (ap is_simple app_is ∙ app_is_simple name cmds)).1 ∙ ap (λ (a : App). subcommand_of a words) app_is ∙ (line_is_taken name cmds words l e).1 in
-    (ap (option_map (λ p. p.0)) found, λ name. ap (option_map (λ p. first_of name p.1)) found ∙ ap Some (texts_are l.cmd l.given name))) c.try_get_matches_from.ensures.matches
+    let found : subcommand_rows_of m ≡ _ = (h (ap is_simple app_is ∙ app_is_simple name cmds)).1 ∙ ap (λ (a : App). subcommand_of a words) app_is
+    ∙ (line_is_taken name cmds words l e).1 in
+    (ap (option_map (λ p. p.0)) found, λ name. ap (option_map (λ p. first_of name p.1)) found ∙ ap Some (texts_are l.cmd l.given name)))
+    c.try_get_matches_from.ensures.matches
 
 pub returns-clause-memory : goal.returns-clause-memory
 returns-clause-memory c =
@@ -21,4 +23,5 @@ returns-clause-memory c =
     let cmds = map cmd_of c.args.rows.now in
     let words = map string_bytes c.args.words.now in
     let app_is = c.in_ok-command.ensures.app in
-    IfErr-weaker c.try_get_matches_from.result _ _ (λ e h l is. h (ap (λ (a : App). takes a words) app_is ∙ (line_is_taken name cmds words l is).0)) c.try_get_matches_from.ensures.passes
+    IfErr-weaker c.try_get_matches_from.result _ _ (λ e h l is. h (ap (λ (a : App). takes a words) app_is ∙ (line_is_taken name cmds words l is).0))
+    c.try_get_matches_from.ensures.passes

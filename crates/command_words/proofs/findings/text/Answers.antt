@@ -5,4 +5,5 @@ use Rattle.command_words.proofs.TableLemmas.{text_is}
 use Rattle.command_words.proofs.findings.text.Goals as goal
 
 pub returns : goal.returns
-returns c l is = c.get_str.ensures ∙ first_value-rows (found_of c.in_ok-inner.inner.now) c.args.name.now ∙ text_is c.args.name.now _ _ _ c.in_ok-inner.ensures.rows (is.1 c.args.name.now)
+returns c l is = c.get_str.ensures ∙ first_value-rows (found_of c.in_ok-inner.inner.now) c.args.name.now
+    ∙ text_is c.args.name.now _ _ _ c.in_ok-inner.ensures.rows (is.1 c.args.name.now)

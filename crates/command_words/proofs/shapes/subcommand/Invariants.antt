@@ -7,5 +7,10 @@ use Rattle.command_words.specs.Rows.{opt_of}
 use Rattle.command_words.proofs.shapes.subcommand.Given as goal
 
 abbrev pub invariant-loop-option : goal.invariant-loop-option
-invariant-loop-option l = (app_of l.command ≡ record { top = record (new_shape l.row.name.now) { rules = map rule_for (map opt_of (take l.option-index l.row.options.now)) }; subs = [] })
+invariant-loop-option l =
+    (app_of l.command ≡ record {
+      top = record (new_shape l.row.name.now) { rules = map rule_for (map opt_of (take l.option-index l.row.options.now)) };
+      subs =
+          [];
+    })
     × ((out-Command l.command).has_globals ≡ false)

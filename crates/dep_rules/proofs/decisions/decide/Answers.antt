@@ -17,7 +17,10 @@ returns c =
     let reads : Below (reads_at sheet tid) = subst Below c.reads_of-reads.ensures.list c.reads_of-reads.ensures.below in
     let written = least_written sheet tag words c.requires.words tid c.requires.tid in
     let read = least_read sheet tag words c.requires.words tid c.requires.tid in
-    let waw = c.least_before-waw.ensures ∙ ap (least_of (told words tag side.Writes tid) None) c.writes_of-writes.ensures.list ∙ written (writes_at sheet tid) writes in
-    let raw = c.least_before-raw.ensures ∙ ap (least_of (told words tag side.Writes tid) None) c.reads_of-reads.ensures.list ∙ written (reads_at sheet tid) reads in
-    let war = c.least_before-war.ensures ∙ ap (least_of (told words tag side.Reads tid) None) c.writes_of-writes.ensures.list ∙ read (writes_at sheet tid) writes in
+    let waw = c.least_before-waw.ensures ∙ ap (least_of (told words tag side.Writes tid) None) c.writes_of-writes.ensures.list
+    ∙ written (writes_at sheet tid) writes in
+    let raw = c.least_before-raw.ensures ∙ ap (least_of (told words tag side.Writes tid) None) c.reads_of-reads.ensures.list
+    ∙ written (reads_at sheet tid) reads in
+    let war = c.least_before-war.ensures ∙ ap (least_of (told words tag side.Reads tid) None) c.writes_of-writes.ensures.list
+    ∙ read (writes_at sheet tid) writes in
     c.decided.ensures ∙ (λ i. verdict_by c.args.rule (waw i) (raw i) (war i))

@@ -7,4 +7,5 @@ pub returns-then-sets-le-MOST_REQUESTS-clause-touched : goal.returns-then-sets-l
 returns-then-sets-le-MOST_REQUESTS-clause-touched c fits =
     let ended : length c.args.sets.now ≤ c.loop-set.set-index = omega arith in
     let below : 2560000 < 2 ^ 64 - 1 = omega arith in
-    few_touched (2 ^ 64 - 1) c.loop-set.touched 2560000 c.args.sets.now c.loop-set.set-index below ended c.loop-set.invariant (leb-true c.loop-set.touched 2560000 fits)
+    few_touched (2 ^ 64 - 1) c.loop-set.touched 2560000 c.args.sets.now c.loop-set.set-index below ended c.loop-set.invariant
+    (leb-true c.loop-set.touched 2560000 fits)

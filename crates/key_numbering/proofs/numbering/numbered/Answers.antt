@@ -34,12 +34,14 @@ of-requires-clause-count c =
 pub of-requires-clause-reads : goal.of-requires-clause-reads
 of-requires-clause-reads c =
     let whole = c.in_ok-reads.ensures ∙ (is_settled c.args.kept c.args.sets.now c.args.all.items c.requires.found).is in
-    all_reads_below c.args.kept c.settle_all.new.kept c.args.sets.now (ap (λ p. p.0) whole) c.len-keys.result (map (λ v. v.items) c.in_ok-reads.reads.items) c.len-keys.ensures.numbers c.len-keys.ensures.len (ap (λ p. p.1.0) whole)
+    all_reads_below c.args.kept c.settle_all.new.kept c.args.sets.now (ap (λ p. p.0) whole) c.len-keys.result
+    (map (λ v. v.items) c.in_ok-reads.reads.items) c.len-keys.ensures.numbers c.len-keys.ensures.len (ap (λ p. p.1.0) whole)
 
 pub of-requires-clause-writes : goal.of-requires-clause-writes
 of-requires-clause-writes c =
     let whole = c.in_ok-reads.ensures ∙ (is_settled c.args.kept c.args.sets.now c.args.all.items c.requires.found).is in
-    all_writes_below c.args.kept c.settle_all.new.kept c.args.sets.now (ap (λ p. p.0) whole) c.len-keys.result (map (λ v. v.items) c.in_ok-reads.writes.items) c.len-keys.ensures.numbers c.len-keys.ensures.len (ap (λ p. p.1.1) whole)
+    all_writes_below c.args.kept c.settle_all.new.kept c.args.sets.now (ap (λ p. p.0) whole) c.len-keys.result
+    (map (λ v. v.items) c.in_ok-reads.writes.items) c.len-keys.ensures.numbers c.len-keys.ensures.len (ap (λ p. p.1.1) whole)
 
 pub returns-clause-kept : goal.returns-clause-kept
 returns-clause-kept c = ap (λ p. p.0) (c.in_ok-reads.ensures ∙ (is_settled c.args.kept c.args.sets.now c.args.all.items c.requires.found).is)
@@ -47,10 +49,13 @@ returns-clause-kept c = ap (λ p. p.0) (c.in_ok-reads.ensures ∙ (is_settled c.
 pub returns-clause-lists : goal.returns-clause-lists
 returns-clause-lists c =
     let whole = c.in_ok-reads.ensures ∙ (is_settled c.args.kept c.args.sets.now c.args.all.items c.requires.found).is in
-    numbered_lists c.args.kept c.settle_all.new.kept c.args.sets.now (ap (λ p. p.0) whole) c.of.result (ap (λ (sheet : Sheet). sheet.reads) c.of.ensures ∙ ap (λ p. p.1.0) whole) (ap (λ (sheet : Sheet). sheet.writes) c.of.ensures ∙ ap (λ p. p.1.1) whole)
+    numbered_lists c.args.kept c.settle_all.new.kept c.args.sets.now (ap (λ p. p.0) whole) c.of.result (ap (λ (sheet : Sheet). sheet.reads) c.of.ensures
+    ∙ ap (λ p. p.1.0) whole) (ap (λ (sheet : Sheet). sheet.writes) c.of.ensures ∙ ap (λ p. p.1.1) whole)
 
 pub returns-clause-one_to_one : goal.returns-clause-one_to_one
 returns-clause-one_to_one c = one_to_one c.settle_all.new.kept c.len-keys.ensures.numbers
 
 pub returns-clause-keeps : goal.returns-clause-keeps
-returns-clause-keeps c = subst (Keeps c.args.kept) (sym (ap (λ p. p.0) (c.in_ok-reads.ensures ∙ (is_settled c.args.kept c.args.sets.now c.args.all.items c.requires.found).is))) (keeps_sets c.args.kept c.args.sets.now)
+returns-clause-keeps c =
+    subst (Keeps c.args.kept) (sym (ap (λ p. p.0) (c.in_ok-reads.ensures ∙ (is_settled c.args.kept c.args.sets.now c.args.all.items c.requires.found).is)))
+    (keeps_sets c.args.kept c.args.sets.now)

@@ -12,7 +12,8 @@ loop-found-init c =
       tt,
       tt,
       subst (All HasBothPlaces) (sym items) c.requires.places,
-      λ i. settled_all (c.args.kept.now, (map (λ v. v.items) (c.in_ok-reads.ensures.items i), map (λ v. v.items) (c.in_ok-writes.ensures.items i))) (into_iter_items c.into_iter-found-iterator.result),
+      λ i. settled_all (c.args.kept.now, (map (λ v. v.items) (c.in_ok-reads.ensures.items i), map (λ v. v.items) (c.in_ok-writes.ensures.items i)))
+          (into_iter_items c.into_iter-found-iterator.result),
     )
 
 pub settle_both-requires-clause-places : goal.settle_both-requires-clause-places
@@ -24,7 +25,8 @@ pub settle_both-requires-clause-count : goal.settle_both-requires-clause-count
 settle_both-requires-clause-count c =
     let items : into_iter_items c.into_iter-found-iterator.result ≡ c.args.all.items = search rules in
     let steps : into_iter_items c.loop-found.found-iterator ≡ c.in-Some.found ∷ into_iter_items c.next.new.self = search rules in
-    let longer = longer_first c.loop-found.kept (map (λ v. v.items) c.loop-found.reads.items, map (λ v. v.items) c.loop-found.writes.items) c.in-Some.found (into_iter_items c.next.new.self) (into_iter_items c.loop-found.found-iterator) steps in
+    let longer = longer_first c.loop-found.kept (map (λ v. v.items) c.loop-found.reads.items, map (λ v. v.items) c.loop-found.writes.items) c.in-Some.found
+    (into_iter_items c.next.new.self) (into_iter_items c.loop-found.found-iterator) steps in
     let same = ap (λ p. fin.len p.0) c.loop-found.invariant.3 in
     let whole = ap (λ l. fin.len (settled_all (c.args.kept.now, ([], [])) l).0) items in
     let most = c.requires.count in

@@ -4,8 +4,10 @@ use Rattle.proc_exec.proofs.interpretations.interpret.Goals as goal
 
 pub unreachable-requires : goal.unreachable-requires
 unreachable-requires g c =
-    never_strays (run_of c.args.catalog.now c.args.request.now) (g.A.Access.seen c.args.access.now) (g.A.Access.seen c.run_request.new.access) c.in-Moved.field-0 (rw c.in-Moved.is at c.in_ok-end.ensures)
+    never_strays (run_of c.args.catalog.now c.args.request.now) (g.A.Access.seen c.args.access.now)
+    (g.A.Access.seen c.run_request.new.access) c.in-Moved.field-0 (rw c.in-Moved.is at c.in_ok-end.ensures)
 
 pub returns : goal.returns
 returns g c =
-    ends_as (run_of c.args.catalog.now c.args.request.now) (g.A.Access.seen c.args.access.now) (g.A.Access.seen c.run_request.new.access) c.in-Ended.end (rw c.in-Ended.is at c.in_ok-end.ensures)
+    ends_as (run_of c.args.catalog.now c.args.request.now) (g.A.Access.seen c.args.access.now) (g.A.Access.seen c.run_request.new.access) c.in-Ended.end
+    (rw c.in-Ended.is at c.in_ok-end.ensures)

@@ -27,5 +27,6 @@ abbrev pub invariant-run_each-loop-tuple : goal.invariant-run_each-loop-tuple
 invariant-run_each-loop-tuple g l =
     let declared = g.L.Limits.declared l.setting.limits.now in
     let seen = g.A.Access.seen in
-    (next : Next) → play declared (for_each (steps_run l.setting.scope.request.now l.block) (tuples_of (slice_get l.setting.scope.request.now.call.args l.argument)) next l.initial.state) (seen l.initial.access)
+    (next : Next) → play declared (for_each (steps_run l.setting.scope.request.now l.block)
+    (tuples_of (slice_get l.setting.scope.request.now.call.args l.argument)) next l.initial.state) (seen l.initial.access)
     ≡ play declared (for_each (steps_run l.setting.scope.request.now l.block) (drop l.tuple-index l.tuple-items) next l.state) (seen l.access)

@@ -5,4 +5,5 @@ use Rattle.proc_verify.specs.Scopes.{seen}
 use Rattle.proc_verify.proofs.expressions.kinds_after.Given as goal
 
 abbrev pub invariant-loop-expr : goal.invariant-loop-expr
-invariant-loop-expr l = kinds_after (seen l.scope) l.set l.kinds.items (map term_of (drop l.expr-index l.expr-items)) ≡ kinds_after (seen l.scope) l.set l.initial.kinds.items l.exprs
+invariant-loop-expr l = kinds_after (seen l.scope) l.set l.kinds.items (map term_of (drop l.expr-index l.expr-items)) ≡ kinds_after
+    (seen l.scope) l.set l.initial.kinds.items l.exprs

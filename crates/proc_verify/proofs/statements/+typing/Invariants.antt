@@ -21,6 +21,7 @@ decreases-typed_steps l = 2 * steps_size l.block.now
 
 abbrev pub invariant-typed_steps-loop-stmt : goal.invariant-typed_steps-loop-stmt
 invariant-typed_steps-loop-stmt l = record {
-  same : typed_steps (seen l.scope) (steps_of (drop l.stmt-index l.stmt-items)) (standing l.reached) ≡ typed_steps (seen l.scope) l.block (standing l.initial.reached);
+  same : typed_steps (seen l.scope) (steps_of (drop l.stmt-index l.stmt-items)) (standing l.reached) ≡ typed_steps (seen l.scope) l.block
+      (standing l.initial.reached);
   count : l.reached.next + steps_count (steps_of (drop l.stmt-index l.stmt-items)) ≡ l.initial.reached.next + steps_count l.block;
 }

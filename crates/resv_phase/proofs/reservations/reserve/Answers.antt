@@ -15,7 +15,8 @@ close-requires g c = record { own = c.in_ok-seat.ensures.2.same_table; whole = c
 
 pub returns-clause-marks : goal.returns-clause-marks
 returns-clause-marks g c =
-    as_closed (λ tag keys marks. AreMarksOf c.args.numbered.now marks) c.in_ok-words.words c.in_ok-seat.seat c.close.result (marked_all _ _ _ c.in_ok-seat.ensures) c.close.ensures
+    as_closed (λ tag keys marks. AreMarksOf c.args.numbered.now marks) c.in_ok-words.words c.in_ok-seat.seat c.close.result
+    (marked_all _ _ _ c.in_ok-seat.ensures) c.close.ensures
 
 pub returns-clause-decides : goal.returns-clause-decides
 returns-clause-decides g c =

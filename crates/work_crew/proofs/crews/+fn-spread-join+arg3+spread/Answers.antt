@@ -8,8 +8,11 @@ pub returns : goal.returns
 returns g t c =
     let count = g.W.Work.count c.args.work.now in
     let did = g.W.Work.did c.args.work.now in
-    let first : IfOk c.join-theirs.result.0 (λ r. IsPart (g.W.Work.count c.args.work.now) (g.W.Work.did c.args.work.now) c.in_ok-other_seat.other_seat r.0 r.1) = search rules in
+    let first : IfOk c.join-theirs.result.0 (λ r. IsPart (g.W.Work.count c.args.work.now) (g.W.Work.did c.args.work.now) c.in_ok-other_seat.other_seat r.0
+    r.1) = search rules in
     let theirs = subst (λ r. IfOk r (λ r. IsPart count did c.in_ok-other_seat.other_seat r.0 r.1)) c.in_ok-other_seat-2.was first in
-    let second : IfOk c.join-theirs.result.1 (λ r. IsPart (g.W.Work.count c.args.work.now) (g.W.Work.did c.args.work.now) c.split.new.seat r.0 r.1) = search rules in
+    let second : IfOk c.join-theirs.result.1 (λ r. IsPart (g.W.Work.count c.args.work.now) (g.W.Work.did c.args.work.now) c.split.new.seat r.0 r.1) =
+    search rules in
     let ours = subst (λ r. IfOk r (λ r. IsPart count did c.split.new.seat r.0 r.1)) c.in_ok-seat.was second in
-    part_joined count did _ _ _ _ _ _ _ _ _ c.in_ok-other_seat.ensures.parent c.in_ok-other_seat.ensures.child (omega arith) ours theirs c.join.ensures c.in_ok-join.ensures
+    part_joined count did _ _ _ _ _ _ _ _ _ c.in_ok-other_seat.ensures.parent c.in_ok-other_seat.ensures.child
+    (omega arith) ours theirs c.join.ensures c.in_ok-join.ensures

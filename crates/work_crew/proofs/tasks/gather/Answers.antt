@@ -9,4 +9,5 @@ pub all_of-requires : goal.all_of-requires
 all_of-requires g c = some_all (g.T.Task.gives c.args.task.now) _ _ c.in_ok-done.ensures _ _ (c.in_ok-slots.ensures ∙ c.len.ensures) c.fill.ensures
 
 pub returns : goal.returns
-returns g c = given_all (g.T.Task.gives c.args.task.now) _ _ c.in_ok-done.ensures (λ v. v.items) _ _ _ (c.in_ok-slots.ensures ∙ c.len.ensures) c.fill.ensures c.all_of.ensures
+returns g c = given_all (g.T.Task.gives c.args.task.now) _ _ c.in_ok-done.ensures (λ v. v.items) _ _ _ (c.in_ok-slots.ensures
+    ∙ c.len.ensures) c.fill.ensures c.all_of.ensures

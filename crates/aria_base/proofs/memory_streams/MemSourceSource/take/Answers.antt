@@ -24,7 +24,8 @@ pub returns-clause-bytes : goal.returns-clause-bytes
 returns-clause-bytes c =
     let bytes = c.deref-2.ensures.value in
     let len : c.len.result ≡ length c.self.inside.bytes.items = search rules in
-    let n : c.min-n.result ≡ min (min c.self.inside.piece (length c.args.buf.now)) (length c.self.inside.bytes.items - c.self.inside.at) = c.min-n.ensures ∙ rw (len, c.min.ensures) refl in
+    let n : c.min-n.result ≡ min (min c.self.inside.piece (length c.args.buf.now)) (length c.self.inside.bytes.items - c.self.inside.at) = c.min-n.ensures
+    ∙ rw (len, c.min.ensures) refl in
     moved c.self.inside.bytes.items c.copy_from_slice.new.self c.args.buf.now _ c.self.inside.at c.min-n.result c.self.inside.piece
     (ap (λ v. v.left) c.self.view_is) c.self.invariant.0 c.self.invariant.1 c.requires n
     (rw bytes at c.copy_from_slice.ensures.after)

@@ -12,5 +12,6 @@ returns-clause-below c k d lt =
     let last = c.requires.1 in
     let same = sheet.same in
     let within : c.args.tid - 1 < length c.args.self.now.reads = omega arith in
-    let all : All (λ n. n < c.args.self.now.keys) (reads_at c.args.self.now c.args.tid) = All-get_or (λ (l : List ℕ). All (λ n. n < c.args.self.now.keys) l) c.args.self.now.reads (c.args.tid - 1) [] within sheet.reads_below in
+    let all : All (λ n. n < c.args.self.now.keys) (reads_at c.args.self.now c.args.tid) =
+    All-get_or (λ (l : List ℕ). All (λ n. n < c.args.self.now.keys) l) c.args.self.now.reads (c.args.tid - 1) [] within sheet.reads_below in
     subst (λ l. All (λ n. n < c.args.self.now.keys) l) (sym list) all k d lt

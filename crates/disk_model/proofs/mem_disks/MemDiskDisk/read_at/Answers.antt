@@ -4,7 +4,8 @@ use Rattle.disk_model.proofs.Moments.{more_acts, idle_stays, refused_acts, refus
 use Rattle.disk_model.proofs.mem_disks.MemDiskDisk.read_at.Goals as goal
 
 pub returns-then-not-passes-clause-acts : goal.returns-then-not-passes-clause-acts
-returns-then-not-passes-clause-acts c = let faults = rw c.refuse.ensures.refused at c.refuse.ensures.faults in rw c.refuse.ensures.refused (refused_acts c.args.self.now Idle c.args.file tt faults)
+returns-then-not-passes-clause-acts c = let faults = rw c.refuse.ensures.refused at c.refuse.ensures.faults in
+    rw c.refuse.ensures.refused (refused_acts c.args.self.now Idle c.args.file tt faults)
 
 pub returns-clause-acts : goal.returns-clause-acts
 returns-clause-acts c = rw c.note.ensures (more_acts c.args.self.now (Idle) c.args.self.now.faults c.args.file tt (omega arith))

@@ -11,4 +11,5 @@ returns-clause-parent g c = on_ok_weaker c.split.result
     c.split.ensures.parent
 
 pub returns-clause-child : goal.returns-clause-child
-returns-clause-child g c = IfOk-weaker c.split.result _ _ (λ other one shares has. marked_share _ _ c.args.seat.now other shares 1 [] one has) c.split.ensures.child
+returns-clause-child g c = IfOk-weaker c.split.result _ _ (λ other one shares has. marked_share _ _ c.args.seat.now other shares 1 [] one has)
+    c.split.ensures.child
