@@ -1,5 +1,5 @@
 // The next checkpoint, where one is due: behind a batch, or before the first one.
-ghost use Rattle.std.specs.Prelude.{◌≡◌, ◌≤◌, None, true, [], List, IfErr, IfSome, IsOk, OnOk};
+ghost use Rattle.std.specs.Prelude.{◌≡◌, ◌≤◌, None, true, false, [], List, IfErr, IfSome, IsOk, OnOk};
 ghost use Rattle.aria_base.specs.Faults.{Rose};
 ghost use Rattle.aria_base.specs.declared.limits.TheConstants.{GREATEST_NUMBER, MOST_PERCENT};
 ghost use Rattle.batch_engine.specs.Engines.{state_in};
@@ -65,7 +65,9 @@ pub fn renew_where_stale<D: Disk>(
 
     // A stop at any moment leaves this state.
     ensures images { (c : Checkpoint) (later : List Batch) → Holds (D.history disk.old) (plan_of live.old) (state_of live.old) live.old.store c later → LeavesAll (D.history disk.old) (D.history disk.new) (ReopensTo (plan_of live.old) (state_of live.old)) }
-    ensures untouched { live.old.store ≡ None → disk.new ≡ disk.old }
+
+    // A store that takes the next batch as it is stays untouched.
+    ensures untouched { stale_by live.old.store ≡ false → disk.new ≡ disk.old }
     ensures disk { OnOk result ((D.history disk.old).faults ≤ (D.history disk.new).faults) }
     ensures cause { IfErr result (λ why. IsUntold why ⊥ (Rose (D.history disk.old).faults (D.history disk.new).faults)) }
 {

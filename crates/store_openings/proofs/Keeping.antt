@@ -121,11 +121,6 @@ turned_settings : (due : Bool) (store : Kept) (state : State) → told_by (Some 
 turned_settings true store state same = refl
 turned_settings false store state same = same
 
-pub turned_some : (due : Bool) (disk : History) (plan : Plan) (state : State) (store : Option Kept) (c : Checkpoint) (later : List Batch)
-    → HoldsTurned due disk plan state store c later → (d : Checkpoint) × (more : List Batch) × Holds disk plan state store d more
-turned_some true disk plan state store c later h = (h.0, [], h.1)
-turned_some false disk plan state store c later h = (c, later, h)
-
 module _ (live : Live) (store : Kept) (checkpoint : ℕ) where
   abbrev pub with_it : Live
   with_it = record live { store = Some store; checkpoint = checkpoint }
@@ -255,17 +250,6 @@ opened_from disk engines c later live next f k = record {
 pub held_found : (disk : History) (store : Kept) (engines : Engines) (c : Checkpoint) (later : List Batch) (live : Live) → IsFoundAs engines c later live
     → Stands disk store c later → IsHeld disk (plan_of live) (state_of live) store c later
 held_found disk store engines c later live f stands = record { stands = stands; roomy = f.roomy; plan_is = sym f.plan; state_is = sym f.state }
-
--- what is held of the database is held of it with its store
-pub holds_kept : (disk kept_disk : History) (checkpoint : ℕ) (live next : Live) → IsWithStore kept_disk checkpoint live next
-    → (d : Checkpoint) × (more : List Batch) × Holds disk (plan_of live) (state_of live) next.store d more
-    → (d : Checkpoint) × (more : List Batch) × Holds disk (plan_of next) (state_of next) next.store d more
-holds_kept disk kept_disk checkpoint live next k h = (
-  h.0,
-  h.1,
-  subst (λ (plan : Plan). Holds disk plan (state_of next) next.store h.0 h.1) (sym k.plan)
-      (subst (λ (state : State). Holds disk (plan_of live) state next.store h.0 h.1) (sym k.state) h.2),
-)
 
 pub run_leaves : (old new : History) (engines : Engines) (c : Checkpoint) (later : List Batch) (live : Live) → IsFoundAs engines c later live
     → LeavesAll old new (ReopensTo (plan_of live) (state_of live)) → LeavesAll old new (LeftOrRun old c later)

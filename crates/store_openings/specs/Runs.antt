@@ -15,6 +15,7 @@ use Rattle.serving.specs.declared.lives.Live.{Live}
 use Rattle.slot_images.specs.Images.{Checkpoint}
 use Rattle.store_files.specs.Stores.{Rests}
 use Rattle.store_openings.specs.Openings.{log_in, offset_in}
+use Rattle.store_openings.specs.Saved.{Saved}
 use Rattle.store_openings.specs.declared.engines.Engines.{Engines}
 use Rattle.store_openings.specs.declared.refusals.NotOpened.{NotOpened}
 use Rattle.store_openings.specs.declared.refusals.NotOpened.TheVariants as refusal
@@ -97,6 +98,10 @@ pub record IsStoreOf (disk : History) (store : Kept) (state : State) : Type 0 wh
   pub counted : state.batches ≡ store.files.head.batches + store.files.batches
   pub empty : store.files.batches ≡ 0 → store.files.at ≡ 0
   pub settings : told_by (Some store) state ≡ state
+
+-- what is known of a store that was attached
+abbrev pub saved_by : Kept → Checkpoint → List Batch → Saved
+saved_by store c later = record { c = c; later = later; bytes = store.files.at }
 
 -- the same database with a store, which may take a batch and holds its state
 pub record IsWithStore (disk : History) (checkpoint : ℕ) (before after : Live) : Type 0 where

@@ -38,3 +38,9 @@ pub returns-clause-images : goal.returns-clause-images
 returns-clause-images g c k later h =
     turned_images c.args.live.now c.first.result.now c.first.ensures.first c.in-Some.store c.in-Some.is
     (g.D.Disk.history c.args.disk.now) (g.D.Disk.history c.rotate.new.disk) k later (c.rotate.ensures.images k later) h
+
+pub returns-clause-untouched : goal.returns-clause-untouched
+returns-clause-untouched g c off =
+    let on : is_stale c.in-Some.store ≡ true = grind (arith, c.is_stale.ensures, c.if-not-is_stale.false) in
+    let due : stale_by c.args.live.now.store ≡ true = ap (λ (s : Option Kept). stale_by s) c.in-Some.is ∙ on in
+    absurd (let no : true ≡ false = sym due ∙ off in cc)

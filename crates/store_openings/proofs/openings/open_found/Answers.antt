@@ -1,14 +1,17 @@
-use Rattle.std.proofs.Common.{◌≡◌, sym, subst, ap, ◌≤◌}
-use Rattle.disk_model.specs.Histories.{History, LeavesAll}
+use Rattle.std.proofs.Common.{◌≡◌, ◌∙◌, sym, subst, ap, ◌≤◌}
+use Rattle.disk_model.specs.Histories.{History, LeavesAll, MayLeave}
+use Rattle.disk_model.proofs.Spans.{still_none}
 use Rattle.aria_store.specs.Stands.{Stands, batches_in}
 use Rattle.serving.specs.Lives.{plan_of, state_of}
 use Rattle.serving.specs.Stored.{ReopensTo}
 use Rattle.slot_images.specs.Said.{checkpoint_in}
 use Rattle.store_files.specs.Stores.{Rests, slot_in}
 use Rattle.store_openings.specs.Openings.{LeavesUnwritten}
-use Rattle.store_openings.specs.Runs.{IsNotKept}
+use Rattle.store_openings.specs.Runs.{IsNotKept, saved_by}
+use Rattle.store_openings.specs.Saved.{renewed}
 use Rattle.store_openings.proofs.Fits.{ready_of, runnable}
-use Rattle.store_openings.proofs.Keeping.{err_more, held_found, holds_kept, kept_unwritten, left_leaves, looked_leaves, not_kept_found, not_run_found, ok_both, ok_more, opened_from, run_leaves, store_of, unwritten_of}
+use Rattle.store_openings.proofs.Keeping.{err_more, held_found, kept_unwritten, left_leaves, looked_leaves, not_kept_found, not_run_found, ok_both, ok_more, opened_from, run_leaves, store_of, unwritten_of}
+use Rattle.store_openings.proofs.Savings.{renewed_saved, saved_on}
 use Rattle.store_openings.proofs.openings.open_found.Goals as goal
 
 pub rerun_found-requires-clause-ready : goal.rerun_found-requires-clause-ready
@@ -38,11 +41,26 @@ returns-in-Ok-clause-holds g c =
     let new = g.D.Disk.history c.keep_store.new.disk in
     let image = checkpoint_in c.args.found.image in
     let later = batches_in c.args.found.later.items in
+    let live = c.in-Ok.live in
+    let found = c.in-Ok.ensures.found in
     let same : mid ≡ g.D.Disk.history c.args.disk.now = ap g.D.Disk.history c.in-Ok.ensures.untouched in
-    ok_both c.keep_store.result (λ next k h stands.
-    holds_kept new new c.args.engines.now.checkpoint c.in-Ok.live next k (h image later
-    (held_found mid c.args.store c.args.engines.now image later c.in-Ok.live c.in-Ok.ensures.found
-    (subst (λ (d : History). Stands d c.args.store image later) (sym same) stands)))) c.keep_store.ensures.kept c.keep_store.ensures.holds
+    ok_both c.keep_store.result (λ next k both stands.
+    saved_on new c.args.engines.now.checkpoint live next (renewed (saved_by c.args.store image later)) k
+    (renewed_saved new (plan_of live) (state_of live) c.args.store image later next.store c.requires.known.head (sym found.plan) (sym found.state) both.0
+    (both.1 image later (held_found mid c.args.store c.args.engines.now image later live found
+    (subst (λ (d : History). Stands d c.args.store image later) (sym same) stands))))) c.keep_store.ensures.kept
+    (ok_both c.keep_store.result (λ next s h. (s, h)) c.keep_store.ensures.store c.keep_store.ensures.holds)
+
+pub returns-in-Ok-clause-fresh : goal.returns-in-Ok-clause-fresh
+returns-in-Ok-clause-fresh g c off =
+    let old = g.D.Disk.history c.args.disk.now in
+    let same : g.D.Disk.history c.keep_store.new.disk ≡ old =
+    ap g.D.Disk.history (c.keep_store.ensures.untouched off) ∙ ap g.D.Disk.history c.in-Ok.ensures.untouched in
+    subst (λ (d : History). LeavesAll old d (MayLeave old old.now)) (sym same) (looked_leaves old old (still_none old))
+
+pub returns-in-Err-clause-fresh : goal.returns-in-Err-clause-fresh
+returns-in-Err-clause-fresh g c off =
+    looked_leaves (g.D.Disk.history c.args.disk.now) (g.D.Disk.history c.rerun_found.new.disk) c.rerun_found.ensures.still
 
 pub returns-in-Ok-clause-images : goal.returns-in-Ok-clause-images
 returns-in-Ok-clause-images g c stands =
