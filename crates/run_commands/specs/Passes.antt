@@ -41,12 +41,13 @@ module _ {R X : Type 0} (on : R → X → Course R) (held_by : State → R → R
   Passes [] r held t given = IsHere held [] t given
   Passes (x ∷ steps) r held t given = IsHere held [] t given ⊎ PassesBy r held (Passes steps) (on r x) t given
 
-  -- what is held behind them
-  abbrev pub held_by_step : R → State → (R → State → State) → Course R → State
+-- what is held behind them, whatever that is
+module _ {H R X : Type 0} (on : R → X → Course R) (held_by : H → R → R → H) where
+  abbrev pub held_by_step : R → H → (R → H → H) → Course R → H
   held_by_step r held over (Stops bytes) = held
   held_by_step r held over (Goes bytes next) = over next (held_by held r next)
 
-  abbrev pub held_over : List X → R → State → State
+  abbrev pub held_over : List X → R → H → H
   held_over [] r held = held
   held_over (x ∷ steps) r held = held_by_step r held (held_over steps) (on r x)
 

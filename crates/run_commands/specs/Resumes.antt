@@ -20,12 +20,14 @@ use Rattle.serving.specs.Lives.{plan_of, state_of}
 use Rattle.serving.specs.Stored.{state_behind}
 use Rattle.serving.specs.declared.lives.Live.{Live}
 use Rattle.slot_images.specs.Images.{Checkpoint}
+use Rattle.store_openings.specs.Saved.{Saved, renewed, saved_in}
 use Rattle.store_openings.specs.declared.refusals.NotOpened.{NotOpened}
 use Rattle.store_openings.specs.declared.refusals.NotOpened.TheVariants as not_opened
 use Rattle.run_commands.specs.Keeps.{LeavesLaid, ReopensAsGiven, ReopensToPassed}
 use Rattle.run_commands.specs.Onces.{Doing, Running, on_end, on_line}
 use Rattle.run_commands.specs.Outs.{is_each, no_line, text_turns}
 use Rattle.run_commands.specs.Passes.{At, PassesTurns, Turn, held_behind}
+use Rattle.run_commands.specs.Saves.{saved_behind}
 
 -- ---- a store that cannot be opened
 
@@ -114,11 +116,21 @@ LeavesOver settings (Damaged file at) text old new given_old given_new = LeavesA
 LeavesOver settings (Found c later) text old new given_old given_new =
     Outlives (PassesOver settings.drain (start_over settings c later) text) c.plan old new given_old given_new
 
--- A script that was read to its end or to a refused line: exactly the batches that were answered, and a checkpoint behind the last one
--- whose number the option divides.
-abbrev pub HoldsOver : Run → Reopened → List ℕ → History → Type 0
-HoldsOver settings NoStore text disk = Unit {0}
-HoldsOver settings (Damaged file at) text disk = Unit {0}
-HoldsOver settings (Found c later) text disk =
-    LeavesLaid (state_behind c later).batches settings.checkpoint disk c.plan
+-- what stands before the script's first line: the next checkpoint, where the store takes no batch as it is
+abbrev pub saved_first : (ℕ → List ℕ) → Checkpoint → List Batch → Saved
+saved_first images c later = renewed (saved_in images c later)
+
+-- what stands behind all that it does
+abbrev pub saved_over_all : Run → (ℕ → List ℕ) → Checkpoint → List Batch → List ℕ → Saved
+saved_over_all settings images c later text =
+    saved_behind settings.checkpoint (turns_over settings.drain (start_over settings c later) text) (start_over settings c later)
+    (saved_first images c later)
+
+-- A script that was read to its end or to a refused line: exactly the batches that were answered. The checkpoint that stands is the one
+-- that stood there, or the last one that was due, and just the batches behind it are in its log.
+abbrev pub HoldsOver : Run → (ℕ → List ℕ) → Reopened → List ℕ → History → Type 0
+HoldsOver settings images NoStore text disk = Unit {0}
+HoldsOver settings images (Damaged file at) text disk = Unit {0}
+HoldsOver settings images (Found c later) text disk =
+    LeavesLaid (state_behind c later).batches (saved_over_all settings images c later text) settings.checkpoint disk c.plan
     (held_over_all settings.drain (start_over settings c later) text)

@@ -108,11 +108,11 @@ returns-in-Some-clause-keeps g c = λ ck later d end h.
     (c.serve_batch-next.ensures.answered ck later h) c.in-Some.next c.in-Some.is
 
 pub returns-in-Some-clause-holds : goal.returns-in-Some-clause-holds
-returns-in-Some-clause-holds g c = λ first h.
+returns-in-Some-clause-holds g c = λ first saved h.
     let below : (state_of c.args.live).batches < GREATEST_NUMBER = omega (arith, c.batches.ensures, c.if-batches-ge-GREATEST_NUMBER.false) in
     holds_next c.args.live c.new.result.items c.new.ensures.items c.args.line below (g.K.Sink.given c.args.out.now)
     (g.K.Sink.given c.serve_batch-next.new.out) c.serve_batch-next.result
-    c.serve_batch-next.ensures.tells c.in-Some.next c.in-Some.is c.serve_batch-next.ensures.store first (g.D.Disk.history c.args.disk.now)
+    c.serve_batch-next.ensures.tells c.in-Some.next c.in-Some.is c.serve_batch-next.ensures.store first saved (g.D.Disk.history c.args.disk.now)
     (g.D.Disk.history c.serve_batch-next.new.disk)
     c.serve_batch-next.ensures.holds h
 

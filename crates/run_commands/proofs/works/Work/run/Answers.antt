@@ -89,7 +89,7 @@ returns-in_default-clause-keeps g c = λ ck later before line h same is.
     (held_leaves_all disk plan held (store_in c.args.self.base) ck later h)
 
 pub returns-in-Some-clause-stays : goal.returns-in-Some-clause-stays
-returns-in-Some-clause-stays g c = λ first h.
+returns-in-Some-clause-stays g c = λ first saved h before same shut.
     let ga = g.K.Sink.given c.args.out.now in
     let gb = g.K.Sink.given c.serve_batch-next.new.out in
     let calls = c.args.self.calls.items in
@@ -106,10 +106,10 @@ returns-in-Some-clause-stays g c = λ first h.
     (λ (n : Live). (ck : Checkpoint) (later : List Batch) → Holds old (plan_of live) (stored_state live) live.store ck later
     → HoldsTurned (next_due live calls) new (plan_of live) (next_state live calls) n.store ck (added later live.config.rule live.config.fallback calls))
     r c.in-Some.live c.in-Some.is tells c.serve_batch-next.ensures.holds in
-    ran_stays c.args.place c.args.self live c.in-Ok.ensures c.in-Some.live told.1 kept next refl first old new h turns
+    ran_stays c.args.place c.args.self live c.in-Ok.ensures c.in-Some.live told.1 kept next refl first saved old new h turns before same shut
 
 pub returns-in-Some-clause-held : goal.returns-in-Some-clause-held
-returns-in-Some-clause-held g c = λ first h before same.
+returns-in-Some-clause-held g c = λ first saved h before same.
     let ga = g.K.Sink.given c.args.out.now in
     let gb = g.K.Sink.given c.serve_batch-next.new.out in
     let calls = c.args.self.calls.items in

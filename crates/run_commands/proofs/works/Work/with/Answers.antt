@@ -57,15 +57,15 @@ returns-clause-cause g c =
     (IsSomeAnd (store_in c.args.self.base) (λ _. Rose disk.faults disk.faults)) c.quietly.result c.quietly.ensures.cause
 
 pub returns-clause-stays : goal.returns-clause-stays
-returns-clause-stays g c = λ first h.
+returns-clause-stays g c = λ first saved h before same calls.
     let off : runs_batch c.args.deed ≡ false = sym c.runs_batch.ensures ∙ c.if-runs_batch.false in
-    quiet_stays c.args.place c.args.self (g.K.Sink.given c.args.out.now) (g.K.Sink.given c.quietly.new.out) first
-    (g.D.Disk.history c.args.disk.now) h c.args.deed off c.requires.may
+    quiet_stays c.args.place c.args.self (g.K.Sink.given c.args.out.now) (g.K.Sink.given c.quietly.new.out) first saved
+    (g.D.Disk.history c.args.disk.now) h c.args.deed off c.requires.may before same
     c.quietly.result c.quietly.ensures.store c.quietly.ensures.checkpoint c.quietly.ensures.serves
 
 pub returns-clause-held : goal.returns-clause-held
-returns-clause-held g c = λ first h before same.
+returns-clause-held g c = λ first saved h before same.
     let off : runs_batch c.args.deed ≡ false = sym c.runs_batch.ensures ∙ c.if-runs_batch.false in
-    quiet_held c.args.place c.args.self (g.K.Sink.given c.args.out.now) (g.K.Sink.given c.quietly.new.out) first
+    quiet_held c.args.place c.args.self (g.K.Sink.given c.args.out.now) (g.K.Sink.given c.quietly.new.out) first saved
     (g.D.Disk.history c.args.disk.now) h c.args.deed off c.requires.may
     before same c.quietly.result c.quietly.ensures.store c.quietly.ensures.serves

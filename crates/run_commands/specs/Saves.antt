@@ -1,0 +1,31 @@
+-- Which checkpoint stands while a script runs over a store, and which batches behind it.
+use Rattle.std.specs.Prelude.{ℕ, ◌+◌, ◌==◌, if◌then◌else◌, List, [], ◌∷◌, ◌++◌, length}
+use Rattle.batch_core.specs.Steps.{State}
+use Rattle.image_text.specs.Payloads.{Batch, payload_text}
+use Rattle.serving.specs.Stored.{batch_of, is_due}
+use Rattle.store_openings.specs.Saved.{Saved, laid_where}
+use Rattle.run_commands.specs.Onces.{Doing, handed_in}
+use Rattle.run_commands.specs.Passes.{Turn, held_over, on_turn}
+
+-- one batch more in the log: a gate of one byte and a length of four stand before its payload
+abbrev pub with_batch : Saved → Batch → Saved
+with_batch saved batch = record {
+  c = saved.c;
+  later = saved.later ++ batch ∷ [];
+  bytes = saved.bytes + 5 + length (payload_text saved.c.plan batch);
+}
+
+-- Where a checkpoint is due behind it, that of the state that it leaves stands.
+abbrev pub saved_more : ℕ → Saved → Batch → State → Saved
+saved_more checkpoint saved batch after =
+    laid_where (is_due checkpoint after.batches (with_batch saved batch).bytes) (with_batch saved batch) after
+
+-- behind a turn: the count of batches tells whether it ran one
+abbrev pub saved_then : ℕ → Saved → Doing → Doing → Saved
+saved_then checkpoint saved before after =
+    if after.state.batches == before.state.batches then saved
+    else saved_more checkpoint saved (batch_of (handed_in before)) after.state
+
+-- behind these turns, where a checkpoint is laid behind so many batches each
+abbrev pub saved_behind : ℕ → List Turn → Doing → Saved → Saved
+saved_behind checkpoint steps d saved = held_over on_turn (saved_then checkpoint) steps d saved
