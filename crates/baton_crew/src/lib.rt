@@ -6,7 +6,6 @@ mod crews;
 mod hands;
 mod items;
 mod lists;
-mod outputs;
 mod plans;
 mod relays;
 mod rules;

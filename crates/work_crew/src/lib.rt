@@ -20,6 +20,7 @@ mod tasks;
 mod works;
 
 pub use crews::carry_out;
+pub use outputs::{Done, all_of, empty_slots, in_order};
 pub use tasks::{Task, gather};
 pub use works::Work;
 

@@ -15,6 +15,7 @@ const CONFIG: Config = Config {
     rule: Rule::Plain,
     fallback: 0,
     workers: 2,
+    batons: false,
 };
 
 const ACCOUNTS: [Account; 3] = [(1, 10), (2, 20), (3, 30)];
