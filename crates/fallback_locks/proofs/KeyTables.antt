@@ -21,6 +21,6 @@ module _ (f g : (Key → Key → Ordering) → Option Last) (q k : Key) (next : 
       → or_none (g key_cmp) ≡ noted (eq_by_cmp key_cmp q k) (or_none (f key_cmp))
   noted_at noted none is = ap or_none by_key_order ∙ elim (eq_by_cmp key_cmp q k) as (λ b. eq_by_cmp key_cmp q k ≡ b
       → or_none (cond b (Some next) (f key_cmp)) ≡ noted b (or_none (f key_cmp))) [
-    | true ↦ λ e. is (same_key key_cmp-IsAntisymmetric q k e)
-    | false ↦ λ e. sym (none (or_none (f key_cmp)))
-  ] refl
+        | true ↦ λ e. is (same_key key_cmp-IsAntisymmetric q k e)
+        | false ↦ λ e. sym (none (or_none (f key_cmp)))
+      ] refl

@@ -38,11 +38,7 @@ pub fn waves(alloc: Global, waiting: &[Waiting]) -> Result<Vec<u32>, Memory>
 /// The same of the requests with these TIDs, in their order, by the numbers of the keys that they declare.
 ///
 /// One pass, over a list that has the last waves of each key at its number.
-pub fn waves_numbered(
-    alloc: Global,
-    numbered: &Numbered,
-    tids: &[u32],
-) -> Result<Vec<u32>, Memory>
+pub fn waves_numbered(alloc: Global, numbered: &Numbered, tids: &[u32]) -> Result<Vec<u32>, Memory>
     requires few { length tids.now ≤ MOST_REQUESTS }
     requires tids { All (λ tid. IsTid numbered.now tid) tids.now }
     ensures { IfOk result (λ waves. waves.items ≡ waves_by numbered.now tids.now) }
@@ -59,11 +55,7 @@ pub fn waves_numbered(
 }
 
 /// The wave of a request that declares these keys, by the last waves of those before it; noted at the keys.
-fn next_wave<T: Table>(
-    table: &mut T,
-    reads: &[T::Key],
-    writes: &[T::Key],
-) -> Result<u32, Memory>
+fn next_wave<T: Table>(table: &mut T, reads: &[T::Key], writes: &[T::Key]) -> Result<u32, Memory>
     requires low { (q : T.Key) → IsBelow MOST_REQUESTS (T.last table.old q) }
     requires reads { All (T.holds table.old) reads.now }
     requires writes { All (T.holds table.old) writes.now }

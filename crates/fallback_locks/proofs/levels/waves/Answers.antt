@@ -24,7 +24,7 @@ loop-one-preserved c =
     ≡ with_writer wave (is_among key_cmp one.declared.writes q) (with_reader wave (is_among key_cmp one.declared.reads q) (last q))
     = λ q. c.in_ok-wave.ensures.noted q
     ∙ (λ i. with_writer wave (is_among key_cmp (c.as_slice-writes.ensures i) q)
-      (with_reader wave (is_among key_cmp (c.as_slice-reads.ensures i) q) (last q))) in
+    (with_reader wave (is_among key_cmp (c.as_slice-reads.ensures i) q) (last q))) in
     rw (c.in_ok-push.ensures.items)
     (so_far_more key_cmp (λ w. touchable w.declared) last (last_in c.next_wave.new.table.lasts) c.loop-one.one-index wave c.loop-one.waves.items
-        c.args.waiting.now one c.loop-one.invariant c.loop-one-test.true c.one-item.is by noted)
+    c.args.waiting.now one c.loop-one.invariant c.loop-one-test.true c.one-item.is by noted)
