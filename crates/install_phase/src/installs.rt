@@ -7,6 +7,7 @@ ghost use Rattle.install_phase.specs.Installs.{after_finishing, after_changes};
 use crate::deals::Dealing;
 use crate::hands::hand_out;
 use crate::jobs::Job;
+use crate::puts::put_finishing;
 use crate::shares::{PartWork, share_out};
 use aria_base::{Changes, MOST_WORKERS, Memory, Pace};
 use batch_rules::verdicts::Verdict;
@@ -71,11 +72,31 @@ fn changes_of(alloc: Global, outcomes: Vec<Outcome>) -> Result<Vec<Changes>, Mem
 }
 
 /// The tables with the writes of all that finish, one request after the other, where of each request its
-/// writes are handed in, and nothing else. Each of the workers, from 1 to 64, deals the writes of some
-/// neighbours in the list, and then makes those to shards of its own. At no time are there more threads than
-/// shards, and none is started for one worker. A worker whose thread cannot be started does its part on the
-/// thread that was to start it. An error: there was no memory, and the tables are gone.
+/// writes are handed in, and nothing else. One worker makes them one after the other. Each of several, up to
+/// 64, deals the writes of some neighbours in the list, and then makes those to shards of its own. At no time
+/// are there more threads than shards, and none is started for one worker. A worker whose thread cannot be
+/// started does its part on the thread that was to start it. An error: there was no memory, and the tables are gone.
 pub fn install_changes<P: Pace + Sync, R: Threads + Sync>(
+    rt: &R,
+    alloc: Global,
+    tables: Tables,
+    list: Vec<Changes>,
+    verdicts: &[Verdict],
+    workers: u32,
+    pace: &P,
+) -> Result<Tables, Memory>
+    requires workers { (1 ≤ workers) × (workers ≤ MOST_WORKERS) }
+    ensures { IfOk result (λ after. after ≡ after_changes 1 tables list.items verdicts.now) }
+{
+    if workers == 1 {
+        return put_finishing(tables, list, verdicts, pace);
+    }
+    install_by(rt, alloc, tables, list, verdicts, workers, pace)
+}
+
+/// The same, of which each worker deals the writes of some neighbours in the list, and then makes those to
+/// shards of its own.
+fn install_by<P: Pace + Sync, R: Threads + Sync>(
     rt: &R,
     alloc: Global,
     tables: Tables,
