@@ -4,7 +4,7 @@ use Rattle.install_phase.specs.Installs.{written}
 use Rattle.install_phase.proofs.Sharing.{made_flat}
 use Rattle.install_phase.proofs.Dealing.{deals_made}
 use Rattle.install_phase.proofs.Installing.{count_after, numbered_after, together}
-use Rattle.install_phase.proofs.installs.install_changes.Goals as goal
+use Rattle.install_phase.proofs.installs.install_by.Goals as goal
 
 pub hand_out-requires-clause-dealt : goal.hand_out-requires-clause-dealt
 hand_out-requires-clause-dealt g c =
