@@ -1,5 +1,5 @@
 -- What stands behind a run answers what the run printed, by the states and by the files.
-use Rattle.std.proofs.Common.{◌≡◌, ◌∙◌, sym, ap, subst, refl, ℕ, zero, suc, Bool, true, false, List, [], ◌∷◌, ◌++◌, map, replicate, Option, Some, None, arith}
+use Rattle.std.proofs.Common.{◌≡◌, ◌∙◌, sym, ap, subst, refl, ℕ, zero, suc, Bool, true, false, List, [], ◌∷◌, ◌++◌, map, replicate, Option, Some, None, append-nil, arith}
 use Rattle.aria_store.specs.Reopens.{Found, Reopened, Reopens}
 use Rattle.aria_store.proofs.Founds.{reopens_once}
 use Rattle.batch_core.specs.Steps.{State}
@@ -24,7 +24,7 @@ use Rattle.run_commands.specs.Resumes.{HoldsOver, held_over_all, saved_first, sa
 use Rattle.resume_laws.specs.Resumptions.{answers, later_than}
 use Rattle.store_commands.specs.Replays.{crowded_out, out_of}
 use Rattle.store_laws.proofs.Replied.{Shape, Tracks, UpTo, holds_own, is_replayed, none_later, replayed_as, replies_later, replies_up}
-use Rattle.store_laws.specs.Replies.{joined, replies_behind, run_answers}
+use Rattle.store_laws.specs.Replies.{joined, replies_behind, run_answers, saved_by_turns}
 
 -- ---- the turns of a run
 
@@ -84,6 +84,15 @@ turns_shape : (drain : Bool) (d : Doing) (text : List ℕ) → Shape false (turn
 turns_shape drain d text = shape_behind (turns_whole (scan no_line text)) (ending_behind drain (told_whole on_line no_line d text))
     (whole_lines (scan no_line text)) (ending_shape drain (told_whole on_line no_line d text))
 
+front_shape : (front rest : List Turn) (closed : Bool) → Shape closed (front ++ rest) → Shape closed front
+front_shape [] rest closed h = tt
+front_shape (At ∷ front) rest closed h = front_shape front rest closed h
+front_shape (Line line ∷ front) rest closed h = (h.0, front_shape front rest false h.1)
+front_shape (Past refusal ∷ front) rest closed h = front_shape front rest closed h
+front_shape (Close ∷ front) rest closed h = front_shape front rest true h
+front_shape (Drain ∷ front) rest closed h = (h.0, front_shape front rest true h.1)
+front_shape (Listed ∷ front) rest closed h = front_shape front rest closed h
+
 -- ---- before the first line
 
 module _ (settings : Run) (images : ℕ → List ℕ) (c : Checkpoint) (later : List Batch) where
@@ -122,13 +131,14 @@ module _ (settings : Run) (images : ℕ → List ℕ) (c : Checkpoint) (later : 
 
   -- ---- behind the run
 
-  pub run_replayed : (text : List ℕ)
-      → replies_behind Each (saved_over_all settings images c later text).c (saved_over_all settings images c later text).later
-      ≡ later_than (saved_over_all settings images c later text).c.head.batches (replies_behind Each c later ++ run_answers settings c later text)
-  run_replayed text =
-      is_replayed c.plan Each settings.checkpoint (turns_over settings.drain (start_over settings c later) text) false
-      (turns_shape settings.drain (start_over settings c later) text) (start_over settings c later) (saved_first images c later) (replies_behind Each c later)
-      (begun_by (is_full (saved_in images c later)))
+  pub run_replayed : (text : List ℕ) (front rest : List Turn) → turns_over settings.drain (start_over settings c later) text ≡ front ++ rest
+      → replies_behind Each (saved_by_turns settings images c later front).c (saved_by_turns settings images c later front).later
+      ≡ later_than (saved_by_turns settings images c later front).c.head.batches (replies_behind Each c later ++ answers front (start_over settings c later))
+  run_replayed text front rest is =
+      let start = start_over settings c later in
+      is_replayed c.plan Each settings.checkpoint front false
+      (front_shape front rest false (subst (λ (steps : List Turn). Shape false steps) is (turns_shape settings.drain start text))) start
+      (saved_first images c later) (replies_behind Each c later) (begun_by (is_full (saved_in images c later)))
 
   -- ---- by the files
 
@@ -145,10 +155,12 @@ module _ (settings : Run) (images : ℕ → List ℕ) (c : Checkpoint) (later : 
     prints : (left : ℕ → List ℕ) → crowded After.c After.later ≡ None → After.c.plan ≡ c.plan → state_behind After.c After.later ≡ Held
         → out_of again left (Found After.c After.later) ≡ out_behind Printed (listed c.plan Each Held)
     prints left roomy under state =
+        let steps = turns_over settings.drain (start_over settings c later) text in
+        let all = run_replayed text steps [] (sym (append-nil steps)) in
         replayed_as After.c.plan (is_each again.listing) (crowded_out (log_in After.c) (left (log_in After.c))) 0 (state_at After.c) After.later roomy
         ∙ ap (λ (l : Listing). out_behind (joined (replies_behind (is_each l) After.c After.later))
         (listed After.c.plan (is_each l) (state_behind After.c After.later))) same
-        ∙ (λ i. out_behind (joined (run_replayed text i)) (listed (under i) Each (state i)))
+        ∙ (λ i. out_behind (joined (all i)) (listed (under i) Each (state i)))
 
     pub replay_prints : (disk : History) → HoldsOver settings images (Found c later) text disk → (left : ℕ → List ℕ) → MayLeave disk disk.now left
         → (found : Reopened) → Reopens left found → out_of again left found ≡ out_behind Printed (listed c.plan Each Held)

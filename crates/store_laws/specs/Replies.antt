@@ -15,7 +15,10 @@ use Rattle.slot_images.specs.Images.{Checkpoint}
 use Rattle.run_commands.specs.Onces.{Doing, listed, text_of}
 use Rattle.run_commands.specs.Onces as onces
 use Rattle.run_commands.specs.Outs.{is_each}
-use Rattle.run_commands.specs.Resumes.{HoldsOver, held_over_all, saved_over_all, start_over, turns_over}
+use Rattle.run_commands.specs.Passes.{Turn}
+use Rattle.run_commands.specs.Resumes.{HoldsOver, held_over_all, saved_first, saved_over_all, start_over, turns_over}
+use Rattle.run_commands.specs.Saves.{saved_behind}
+use Rattle.store_openings.specs.Saved.{Saved}
 use Rattle.resume_laws.specs.Resumptions.{answers, later_than}
 use Rattle.store_commands.specs.Replays.{out_of}
 use Rattle.store_laws.specs.OneRuns.{HoldsAs}
@@ -65,14 +68,20 @@ abbrev pub run_answers : Run → Checkpoint → List Batch → List ℕ → List
 run_answers settings c later text =
     answers (turns_over settings.drain (start_over settings c later) text) (start_over settings c later)
 
--- Behind a run, the batches behind the checkpoint that then stands have, byte for byte, the answers that they had before it, and those
--- that it printed.
+-- what stands behind these turns of a run
+abbrev pub saved_by_turns : Run → (ℕ → List ℕ) → Checkpoint → List Batch → List Turn → Saved
+saved_by_turns settings images c later front =
+    saved_behind settings.checkpoint front (start_over settings c later) (saved_first images c later)
+
+-- Behind any first turns of a run, all of them or fewer, the batches behind the checkpoint that then stands have, byte for byte, the
+-- answers that they had before the run, and those that these turns printed.
 abbrev pub RunIsReplayed : Type 0
 RunIsReplayed =
-    (settings : Run) (images : ℕ → List ℕ) (c : Checkpoint) (later : List Batch) (text : List ℕ)
-    → replies_behind (is_each settings.listing) (saved_over_all settings images c later text).c (saved_over_all settings images c later text).later
-    ≡ later_than (saved_over_all settings images c later text).c.head.batches
-    (replies_behind (is_each settings.listing) c later ++ run_answers settings c later text)
+    (settings : Run) (images : ℕ → List ℕ) (c : Checkpoint) (later : List Batch) (text : List ℕ) (front rest : List Turn)
+    → turns_over settings.drain (start_over settings c later) text ≡ front ++ rest
+    → replies_behind (is_each settings.listing) (saved_by_turns settings images c later front).c (saved_by_turns settings images c later front).later
+    ≡ later_than (saved_by_turns settings images c later front).c.head.batches
+    (replies_behind (is_each settings.listing) c later ++ answers front (start_over settings c later))
 
 -- ---- by the files
 

@@ -64,9 +64,11 @@ pub fn run_would_print()
     ensures { RunWouldPrint }
 {}
 
-/// What `run` printed is what `replay` prints. Behind a run, the batches behind the checkpoint that then stands
-/// have the answers that they had before it, and those that it printed, each under its number and byte for byte;
-/// drained batches too. An answer that `replay` cannot print any more is of a batch that is in the checkpoint.
+/// What `run` printed is what `replay` prints. Behind any first turns of a run, all of them or fewer, the batches
+/// behind the checkpoint that then stands have the answers that they had before the run, and those that these turns
+/// printed, each under its number and byte for byte; drained batches too. So an answer that `replay` does not print
+/// any more is of a batch that is in the checkpoint. The batch that is at work then has the answer of
+/// [`run_would_print`] as soon as it is in the log.
 pub fn run_is_replayed()
     ensures { RunIsReplayed }
 {}
