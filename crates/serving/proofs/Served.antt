@@ -8,7 +8,7 @@ use Rattle.aria_base.specs.Streams.{AppendsFront}
 use Rattle.aria_base.specs.declared.calls.Call.{Call}
 use Rattle.batch_core.specs.Steps.{State}
 use Rattle.batch_engine.specs.Engines.{Between, state_in}
-use Rattle.disk_model.specs.Histories.{History, LeavesAll}
+use Rattle.disk_model.specs.Histories.{History, LeavesAll, MayLeave}
 use Rattle.disk_model.proofs.Spans.{leaves_more, leaves_still, leaves_then, still_none}
 use Rattle.image_text.specs.Payloads.{Batch}
 use Rattle.proc_lang.specs.Catalogs.{Plan}
@@ -18,12 +18,12 @@ use Rattle.aria_store.specs.Stands.{Kept, MayAdd, Stands, added}
 use Rattle.serving.specs.Deliveries.{IsUntold, Tells}
 use Rattle.serving.specs.Lives.{IsNext, MayServe, next_handed, next_state, plan_of, state_of}
 use Rattle.input_log.specs.declared.limits.TheConstants.{MOST_LOG}
-use Rattle.serving.specs.Stored.{GoesOn, HasTaken, Holds, HoldsTurned, IsHeld, IsLogging, LeavesState, MayRenew, MayTurn, ReopensTo, ReopensToEither, due_by, is_due, is_stale, logged, next_due, stored_state, told_by, turned, turned_by}
+use Rattle.serving.specs.Stored.{GoesOn, HasTaken, Holds, HoldsTurned, IsHeld, IsLogging, MayRenew, MayTurn, ReopensBy, ReopensOnWay, due_by, is_due, is_stale, logged, next_due, stored_state, told_by, turned, turned_by}
 use Rattle.serving.specs.declared.batches.Delivery.{Delivery}
 use Rattle.serving.specs.declared.batches.Delivery.TheVariants as delivery
 use Rattle.serving.specs.declared.lives.Live.{Live}
 use Rattle.serving.proofs.Nexts.{plan_is, state_is}
-use Rattle.serving.proofs.Storing.{held_leaves, log_held, log_leaves, may_add}
+use Rattle.serving.proofs.Storing.{held_left, log_held, log_leaves, may_add}
 
 -- ---- the first engine stands for the database
 
@@ -125,20 +125,23 @@ module _ (live mid next : Live) (calls : List Call) (log : mid ≡ logged live c
       (logs : Holds old (plan_of live) (stored_state live) live.store c later
       → Holds log_disk (plan_of live) (next_state live calls) mid.store c (added later live.config.rule live.config.fallback calls))
       (turns : Holds log_disk (plan_of next) (state_of next) next.store c (added later live.config.rule live.config.fallback calls)
-      → LeavesAll log_disk new (ReopensTo (plan_of next) (state_of next)))
+      → LeavesAll log_disk new (ReopensBy c (added later live.config.rule live.config.fallback calls) (plan_of next) (state_of next)))
       (h : Holds old (plan_of live) (stored_state live) live.store c later) where
-    turned_leaves : LeavesAll log_disk new (ReopensTo (plan_of live) (next_state live calls))
-    turned_leaves = to_live (λ plan state. LeavesAll log_disk new (ReopensTo plan state))
-        (turns (to_next (λ plan state store. Holds log_disk plan state store c (added later live.config.rule live.config.fallback calls)) (logs h)))
+    abbrev More : List Batch
+    More = added later live.config.rule live.config.fallback calls
 
-    pub images_after : LeavesAll old log_disk (ReopensToEither (plan_of live) (stored_state live) (next_state live calls))
-        → LeavesAll old new (ReopensToEither (plan_of live) (stored_state live) (next_state live calls))
+    turned_leaves : LeavesAll log_disk new (ReopensBy c More (plan_of live) (next_state live calls))
+    turned_leaves = to_live (λ plan state. LeavesAll log_disk new (ReopensBy c More plan state))
+        (turns (to_next (λ plan state store. Holds log_disk plan state store c More) (logs h)))
+
+    pub images_after : LeavesAll old log_disk (ReopensOnWay c later More (plan_of live) (stored_state live) (next_state live calls))
+        → LeavesAll old new (ReopensOnWay c later More (plan_of live) (stored_state live) (next_state live calls))
     images_after before =
-        leaves_then old log_disk new (ReopensToEither (plan_of live) (stored_state live) (next_state live calls)) before
-        (leaves_more log_disk new (ReopensTo (plan_of live) (next_state live calls))
-        (ReopensToEither (plan_of live) (stored_state live) (next_state live calls)) turned_leaves (λ images is_after. inr is_after))
+        leaves_then old log_disk new (ReopensOnWay c later More (plan_of live) (stored_state live) (next_state live calls)) before
+        (leaves_more log_disk new (ReopensBy c More (plan_of live) (next_state live calls))
+        (ReopensOnWay c later More (plan_of live) (stored_state live) (next_state live calls)) turned_leaves (λ images is_after. inr is_after))
 
-    pub left_after : LeavesState new (plan_of live) (next_state live calls)
+    pub left_after : (images : ℕ → List ℕ) → MayLeave new new.now images → ReopensBy c More (plan_of live) (next_state live calls) images
     left_after images left = turned_leaves.each new.now turned_leaves.later (omega arith) images left
 
 -- ---- the batch in the log
@@ -162,9 +165,11 @@ module _ (live : Live) (calls : List Call) (may : MayServe live calls) (store : 
   pub logged_leaves : (new : History)
       → (Stands old store c later → MayAdd catalog (length calls) c later
       → LeavesAll old new (λ images. Reopens images (Found c later) ⊎ Reopens images (Found c (added later live.config.rule live.config.fallback calls))))
-      → LeavesAll old new (ReopensToEither (plan_of live) (stored_state live) (next_state live calls))
+      → LeavesAll old new (ReopensOnWay c later (added later live.config.rule live.config.fallback calls) (plan_of live) (stored_state live)
+      (next_state live calls))
   logged_leaves new all =
-      subst (λ (s : Option Kept). LeavesAll old new (ReopensToEither (plan_of live) (told_by s (state_of live)) (next_state live calls))) (sym is)
+      subst (λ (s : Option Kept). LeavesAll old new (ReopensOnWay c later (added later live.config.rule live.config.fallback calls) (plan_of live)
+      (told_by s (state_of live)) (next_state live calls))) (sym is)
       (log_leaves old (plan_of live) (state_of live) store (next_handed live calls) c later here may.room new (all here.stands may_here))
 
 -- a database with a store may log where its store goes on
@@ -174,10 +179,10 @@ open_store live store is disk h =
     goes.open_yet
 
 -- what is held is what a stop now leaves
-pub holds_leaves : (disk : History) (plan : Plan) (state : State) (store : Option Kept) (c : Checkpoint) (later : List Batch)
-    → Holds disk plan state store c later → LeavesState disk plan state
-holds_leaves disk plan state None c later h = absurd h
-holds_leaves disk plan state (Some store) c later h = held_leaves disk plan state store c later h
+pub holds_left : (disk : History) (plan : Plan) (state : State) (store : Option Kept) (c : Checkpoint) (later : List Batch)
+    → Holds disk plan state store c later → (images : ℕ → List ℕ) → MayLeave disk disk.now images → ReopensBy c later plan state images
+holds_left disk plan state None c later h = absurd h
+holds_left disk plan state (Some store) c later h = λ images left. inl (held_left disk plan state store c later h images left)
 
 -- ---- when a store can take no batch as it is
 
@@ -207,9 +212,9 @@ fresh_of format at off (inr two) = (two, grind (arith, nat_tests, (none_of (form
 
 pub still_leaves : (disk : History) (plan : Plan) (state : State) (store : Option Kept) (c : Checkpoint) (later : List Batch)
     → Holds disk plan state store c later
-    → LeavesAll disk disk (ReopensTo plan state)
+    → LeavesAll disk disk (ReopensBy c later plan state)
 still_leaves disk plan state store c later h =
-    leaves_still disk disk (ReopensTo plan state) (still_none disk) (holds_leaves disk plan state store c later h)
+    leaves_still disk disk (ReopensBy c later plan state) (still_none disk) (holds_left disk plan state store c later h)
 
 module _ (live : Live) (store : Kept) (is : live.store ≡ Some store) where
   own_renew : (disk : History) → IfSome live.store (MayRenew disk (state_of live).batches) → MayRenew disk (state_of live).batches store
@@ -249,10 +254,11 @@ module _ (live : Live) (first : Between) (e : slice_get live.replicas 0 ≡ Some
   turned_is (Err why) now due on h = tt
 
   pub turned_images : (old new : History) (c : Checkpoint) (later : List Batch)
-      → (IsHeld old first.plan (state_in live.config first) store c later → LeavesAll old new (ReopensTo first.plan (state_in live.config first)))
-      → Holds old (plan_of live) (state_of live) live.store c later → LeavesAll old new (ReopensTo (plan_of live) (state_of live))
+      → (IsHeld old first.plan (state_in live.config first) store c later
+      → LeavesAll old new (ReopensBy c later first.plan (state_in live.config first)))
+      → Holds old (plan_of live) (state_of live) live.store c later → LeavesAll old new (ReopensBy c later (plan_of live) (state_of live))
   turned_images old new c later all h =
-      first_is live first e (λ plan state. LeavesAll old new (ReopensTo plan state))
+      first_is live first e (λ plan state. LeavesAll old new (ReopensBy c later plan state))
       (all (of_first live first e (λ plan state. IsHeld old plan state store c later)
       (subst (λ (s : Option Kept). Holds old (plan_of live) (state_of live) s c later) is h)))
 
