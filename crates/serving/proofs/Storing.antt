@@ -64,15 +64,15 @@ pub as_state : (c : Checkpoint) (later : List Batch) (plan : Plan) (state : Stat
 as_state c later plan state images h =
     record { c = c; later = later; reopens = h.reopens; roomy = h.roomy; plan_is = h.plan_is; state_is = h.state_is }
 
-pub by_state : (c : Checkpoint) (later : List Batch) (plan : Plan) (state : State) (images : ℕ → List ℕ) → ReopensBy c later plan state images
-    → ReopensTo plan state images
-by_state c later plan state images (inl h) = as_state c later plan state images h
-by_state c later plan state images (inr h) = as_state (laid_behind c state) [] plan state images h
+pub by_state : (due : Bool) (c : Checkpoint) (later : List Batch) (plan : Plan) (state : State) (images : ℕ → List ℕ)
+    → ReopensBy due c later plan state images → ReopensTo plan state images
+by_state due c later plan state images (inl h) = as_state c later plan state images h
+by_state due c later plan state images (inr h) = as_state (laid_behind c state) [] plan state images h.1
 
-pub way_states : (c : Checkpoint) (later more : List Batch) (plan : Plan) (before after : State) (images : ℕ → List ℕ)
-    → ReopensOnWay c later more plan before after images → ReopensToEither plan before after images
-way_states c later more plan before after images (inl h) = inl (as_state c later plan before images h)
-way_states c later more plan before after images (inr h) = inr (by_state c more plan after images h)
+pub way_states : (due : Bool) (c : Checkpoint) (later more : List Batch) (plan : Plan) (before after : State) (images : ℕ → List ℕ)
+    → ReopensOnWay due c later more plan before after images → ReopensToEither plan before after images
+way_states due c later more plan before after images (inl h) = inl (as_state c later plan before images h)
+way_states due c later more plan before after images (inr h) = inr (by_state due c more plan after images h)
 
 module _ (disk : History) (plan : Plan) (state : State) (store : Kept) (c : Checkpoint) (later : List Batch) (h : IsHeld disk plan state store c later) where
   pub held_reopens : (images : ℕ → List ℕ) → Reopens images (Found c later) → ReopensAs c later plan state images
@@ -126,11 +126,11 @@ module _ (old : History) (plan : Plan) (state : State) (store : Kept) (handed : 
   abbrev Added : List Batch
   Added = later ++ batch_of handed ∷ []
 
-  pub log_leaves : Room → (new : History) → LeavesAll old new (λ images. Reopens images (Found c later) ⊎ Reopens images (Found c Added))
-      → LeavesAll old new (ReopensOnWay c later Added plan (told_by (Some store) state) After)
-  log_leaves room new all =
+  pub log_leaves : Room → (due : Bool) (new : History) → LeavesAll old new (λ images. Reopens images (Found c later) ⊎ Reopens images (Found c Added))
+      → LeavesAll old new (ReopensOnWay due c later Added plan (told_by (Some store) state) After)
+  log_leaves room due new all =
       leaves_more old new (λ images. Reopens images (Found c later) ⊎ Reopens images (Found c Added))
-      (ReopensOnWay c later Added plan (told_by (Some store) state) After) all (λ images either. elim either [
+      (ReopensOnWay due c later Added plan (told_by (Some store) state) After) all (λ images either. elim either [
         | inl was ↦ inl (held_reopens old plan (told_by (Some store) state) store c later h images was)
         | inr is ↦ inr (inl (record { reopens = is; roomy = added_roomy room; plan_is = h.plan_is; state_is = added_state }))
       ])
@@ -169,12 +169,12 @@ module _ (was : Kept) (engine : Between) (config : Config) (plan : Plan) (rows :
 
   pub rotate_leaves : (old new : History) (c : Checkpoint) (later : List Batch) → IsHeld old engine.plan (state_in config engine) was c later
       → LeavesAll old new (λ images. Reopens images (Found c later) ⊎ Reopens images (Found Next []))
-      → LeavesAll old new (ReopensBy c later engine.plan (state_in config engine))
+      → LeavesAll old new (ReopensBy true c later engine.plan (state_in config engine))
   rotate_leaves old new c later h all =
       leaves_more old new (λ images. Reopens images (Found c later) ⊎ Reopens images (Found Next []))
-      (ReopensBy c later engine.plan (state_in config engine)) all
+      (ReopensBy true c later engine.plan (state_in config engine)) all
       (λ images either. elim either [
         | inl was_there ↦ inl (held_reopens old engine.plan (state_in config engine) was c later h images was_there)
-        | inr is ↦ inr (subst (λ (d : Checkpoint). ReopensAs d [] engine.plan (state_in config engine) images) (next_is c h.stands.known.head h.plan_is)
+        | inr is ↦ inr (refl, subst (λ (d : Checkpoint). ReopensAs d [] engine.plan (state_in config engine) images) (next_is c h.stands.known.head h.plan_is)
             (record { reopens = is; roomy = refl; plan_is = p; state_is = next_state_is }))
       ])

@@ -77,9 +77,10 @@ abbrev pub laid_behind : Checkpoint → State → Checkpoint
 laid_behind c state =
     checkpoint_of (next_head c.head state.rule state.percent state.batches state.requests) (c.plan, state.rows, state.waiting)
 
--- that, or the next checkpoint of the state with no batches behind it
-abbrev pub ReopensBy : Checkpoint → List Batch → Plan → State → (ℕ → List ℕ) → Type 0
-ReopensBy c later plan state images = ReopensAs c later plan state images ⊎ ReopensAs (laid_behind c state) [] plan state images
+-- that, or where one is due the next checkpoint of the state with no batches behind it
+abbrev pub ReopensBy : Bool → Checkpoint → List Batch → Plan → State → (ℕ → List ℕ) → Type 0
+ReopensBy due c later plan state images =
+    ReopensAs c later plan state images ⊎ ((due ≡ true) × ReopensAs (laid_behind c state) [] plan state images)
 
 -- This checkpoint with these batches behind it, which all have room, stands on the disk, and is this state under this catalogue.
 pub record IsHeld (disk : History) (plan : Plan) (state : State) (store : Kept) (c : Checkpoint) (later : List Batch) : Type 0 where
@@ -202,9 +203,10 @@ abbrev pub HoldsTurned : Bool → History → Plan → State → Option Kept →
 HoldsTurned true disk plan state store c later = (d : Checkpoint) × Holds disk plan state store d []
 HoldsTurned false disk plan state store c later = Holds disk plan state store c later
 
--- these four files are the checkpoint with its batches from before, or with those of the state after; or the next checkpoint of that state
-abbrev pub ReopensOnWay : Checkpoint → List Batch → List Batch → Plan → State → State → (ℕ → List ℕ) → Type 0
-ReopensOnWay c later more plan before after images = ReopensAs c later plan before images ⊎ ReopensBy c more plan after images
+-- these four files are the checkpoint with its batches from before, or with those of the state after; or, where one is due, the next
+-- checkpoint of that state
+abbrev pub ReopensOnWay : Bool → Checkpoint → List Batch → List Batch → Plan → State → State → (ℕ → List ℕ) → Type 0
+ReopensOnWay due c later more plan before after images = ReopensAs c later plan before images ⊎ ReopensBy due c more plan after images
 
 -- these four files are the text of the state before, or of the one after
 abbrev pub ReopensToEither : Plan → State → State → (ℕ → List ℕ) → Type 0

@@ -1,5 +1,5 @@
 // A batch in the log of the store, before it is run.
-ghost use Rattle.std.specs.Prelude.{◌≡◌, ◌≤◌, ◌<◌, ◌+◌, None, true, List, length, IfErr, IfSome, IsOk, OnOk};
+ghost use Rattle.std.specs.Prelude.{false, ◌≡◌, ◌≤◌, ◌<◌, ◌+◌, None, true, List, length, IfErr, IfSome, IsOk, OnOk};
 ghost use Rattle.std.specs.List.{All};
 ghost use Rattle.aria_base.specs.Faults.{Rose};
 ghost use Rattle.aria_base.specs.declared.limits.TheConstants.{GREATEST_NUMBER, MOST_REQUESTS};
@@ -34,7 +34,7 @@ pub(crate) fn log_batch<D: Disk>(
     ensures taken { OnOk result (IfSome live.new.store (HasTaken (D.history disk.new) (next_state live.old calls.now).batches)) }
     ensures holds { OnOk result ((c : Checkpoint) (later : List Batch) → Holds (D.history disk.old) (plan_of live.old) (stored_state live.old) live.old.store c later → Holds (D.history disk.new) (plan_of live.old) (next_state live.old calls.now) live.new.store c (added later live.old.config.rule live.old.config.fallback calls.now)) }
     ensures images { (c : Checkpoint) (later : List Batch) → Holds (D.history disk.old) (plan_of live.old) (stored_state live.old) live.old.store c later
-        → LeavesAll (D.history disk.old) (D.history disk.new) (ReopensOnWay c later (added later live.old.config.rule live.old.config.fallback calls.now)
+        → LeavesAll (D.history disk.old) (D.history disk.new) (ReopensOnWay false c later (added later live.old.config.rule live.old.config.fallback calls.now)
         (plan_of live.old) (stored_state live.old) (next_state live.old calls.now)) }
     ensures untouched { live.old.store ≡ None → disk.new ≡ disk.old }
     ensures storeless { live.old.store ≡ None → IsOk result }

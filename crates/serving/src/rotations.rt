@@ -34,7 +34,8 @@ pub(crate) fn rotate_where_due<D: Disk>(
     ensures logging { OnOk result (IsLogging (D.history disk.new) live.new) }
     ensures holds { OnOk result ((c : Checkpoint) (later : List Batch) → Holds (D.history disk.old) (plan_of live.old) (state_of live.old) live.old.store c later → HoldsTurned (due_by live.old.checkpoint (state_of live.old).batches live.old.store) (D.history disk.new) (plan_of live.old) (state_of live.old) live.new.store c later) }
     ensures images { (c : Checkpoint) (later : List Batch) → Holds (D.history disk.old) (plan_of live.old) (state_of live.old) live.old.store c later
-        → LeavesAll (D.history disk.old) (D.history disk.new) (ReopensBy c later (plan_of live.old) (state_of live.old)) }
+        → LeavesAll (D.history disk.old) (D.history disk.new) (ReopensBy (due_by live.old.checkpoint (state_of live.old).batches live.old.store) c later
+        (plan_of live.old) (state_of live.old)) }
     ensures untouched { live.old.store ≡ None → disk.new ≡ disk.old }
     ensures storeless { live.old.store ≡ None → IsOk result }
     ensures disk { OnOk result ((D.history disk.old).faults ≤ (D.history disk.new).faults) }
@@ -66,7 +67,7 @@ pub fn renew_where_stale<D: Disk>(
 
     // A stop at any moment leaves what stood there, or the next checkpoint of this state.
     ensures images { (c : Checkpoint) (later : List Batch) → Holds (D.history disk.old) (plan_of live.old) (state_of live.old) live.old.store c later
-        → LeavesAll (D.history disk.old) (D.history disk.new) (ReopensBy c later (plan_of live.old) (state_of live.old)) }
+        → LeavesAll (D.history disk.old) (D.history disk.new) (ReopensBy (stale_by live.old.store) c later (plan_of live.old) (state_of live.old)) }
 
     // A store that takes the next batch as it is stays untouched.
     ensures untouched { stale_by live.old.store ≡ false → disk.new ≡ disk.old }
@@ -110,7 +111,7 @@ fn rotate<D: Disk>(
     ensures goes_on { OnOk result (GoesOn (D.history disk.new) engine.now.batches store.new) }
     ensures holds { OnOk result ((d : Checkpoint) × IsHeld (D.history disk.new) engine.now.plan (state_in config.now engine.now) store.new d []) }
     ensures images { (c : Checkpoint) (later : List Batch) → IsHeld (D.history disk.old) engine.now.plan (state_in config.now engine.now) store.old c later
-        → LeavesAll (D.history disk.old) (D.history disk.new) (ReopensBy c later engine.now.plan (state_in config.now engine.now)) }
+        → LeavesAll (D.history disk.old) (D.history disk.new) (ReopensBy true c later engine.now.plan (state_in config.now engine.now)) }
     ensures disk { OnOk result ((D.history disk.old).faults ≤ (D.history disk.new).faults) }
     ensures cause { IfErr result (λ why. IsUntold why ⊥ (Rose (D.history disk.old).faults (D.history disk.new).faults)) }
 {
