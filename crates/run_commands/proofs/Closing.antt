@@ -20,12 +20,12 @@ use Rattle.store_openings.specs.Saved.{Saved}
 use Rattle.run_commands.specs.Endings.{IsEnd, closing_turns, drains_of}
 use Rattle.run_commands.specs.Keeps.{Keeps, LeavesLaid}
 use Rattle.run_commands.specs.Onces.{Doing, listed}
-use Rattle.run_commands.specs.Passes.{Close, Listed, PassesTurns, Turn, as_doing, held_behind, held_by_step, held_over, held_then, on_close, on_turn}
+use Rattle.run_commands.specs.Passes.{Close, Listed, PassesTurns, Turn, as_doing, held_behind, held_by_step, held_over, held_then, on_close, on_turn, over}
 use Rattle.run_commands.specs.Saves.{saved_behind, saved_then}
 use Rattle.run_commands.proofs.Draining.{going_is}
 use Rattle.run_commands.proofs.Endings.{drains_are, held_listed, held_still, laid_as, saved_listed, saved_still}
 use Rattle.run_commands.proofs.Kept.{keeps_cut, keeps_none, keeps_on, keeps_quiet}
-use Rattle.run_commands.proofs.Overs.{keeps_append, keeps_front, over}
+use Rattle.run_commands.proofs.Overs.{keeps_append, keeps_front}
 
 -- ---- the listing behind all
 

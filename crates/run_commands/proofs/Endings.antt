@@ -18,10 +18,9 @@ use Rattle.store_openings.specs.Saved.{Saved}
 use Rattle.run_commands.specs.Endings.{IsEnd, drains_of}
 use Rattle.run_commands.specs.Keeps.{HoldsState, Keeps, LeavesLaid}
 use Rattle.run_commands.specs.Onces.{Doing, handed_in}
-use Rattle.run_commands.specs.Passes.{Drain, Listed, PassesTurns, Turn, as_doing, held_behind, held_by_step, held_over, held_then, on_drain, on_turn}
+use Rattle.run_commands.specs.Passes.{Drain, Listed, PassesTurns, Turn, as_doing, held_behind, held_by_step, held_over, held_then, on_drain, on_turn, onward, over}
 use Rattle.run_commands.specs.Saves.{saved_behind, saved_more, saved_then}
 use Rattle.run_commands.proofs.Kept.{keeps_batch, keeps_quiet, keeps_told}
-use Rattle.run_commands.proofs.Overs.{onward, over}
 use Rattle.run_commands.proofs.Ran.{held_leaves_all}
 use Rattle.script_places.specs.Places.{plan_in}
 

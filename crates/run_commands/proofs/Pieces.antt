@@ -11,10 +11,9 @@ use Rattle.script_text.specs.Laws.{lead}
 use Rattle.script_text.specs.Lines.{Feed, Scan, last_line, scan}
 use Rattle.script_text.specs.declared.refusals.Refusal.{Refusal}
 use Rattle.run_commands.specs.Onces.{Doing, Running, on_line}
-use Rattle.run_commands.specs.Passes.{Line, Turn, last, on_turn, past, turns, turns_whole}
+use Rattle.run_commands.specs.Passes.{Line, Turn, last, on_turn, over, past, turns, turns_whole}
 use Rattle.store_openings.specs.Saved.{Saved}
 use Rattle.run_commands.specs.Turns.{KeepsTurns, saved_over}
-use Rattle.run_commands.proofs.Overs.{over}
 use Rattle.run_commands.proofs.Turns.{kept_front, kept_then, scan_over}
 
 -- ---- the turns of a piece stand in front of those of the rest

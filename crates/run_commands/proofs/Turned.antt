@@ -42,6 +42,11 @@ told_batches : (store : Option Kept) (state : State) → (told_by store state).b
 told_batches None state = refl
 told_batches (Some store) state = refl
 
+-- the log of a batch more has as many bytes as what then stands
+at_bytes : (plan : Plan) (batch : Batch) (saved : Saved) (kept : Kept) → kept.files.at ≡ saved.bytes → saved.c.plan ≡ plan
+    → (with_logged plan batch kept).files.at ≡ (with_batch saved batch).bytes
+at_bytes plan batch saved kept bytes under = λ i. bytes i + 5 + length (payload_text (sym under i) batch)
+
 module _ (first checkpoint : ℕ) (plan : Plan) (before after : State) (counted : after.batches ≡ before.batches + 1) (batch : Batch) (saved : Saved)
     (laid : IsLaid first checkpoint before saved.c) where
   abbrev More : Saved
@@ -58,7 +63,7 @@ module _ (first checkpoint : ℕ) (plan : Plan) (before after : State) (counted 
     Log = with_logged plan batch kept
 
     at_is : Log.files.at ≡ More.bytes
-    at_is = λ i. bytes i + 5 + length (payload_text (sym under i) batch)
+    at_is = at_bytes plan batch saved kept bytes under
 
     by_log : (due : Bool) (store : Option Kept) → due ≡ is_due checkpoint after.batches Log.files.at → store ≡ Some (turned due after Log)
         → HoldsTurned due new plan after store More.c More.later
@@ -78,6 +83,19 @@ module _ (first checkpoint : ℕ) (plan : Plan) (before after : State) (counted 
   by_store (Some kept) old new h store kept_is turns =
       by_log kept h.holds.stands.known.head h.bytes h.holds.plan_is new
       (is_due checkpoint after.batches (with_logged plan batch kept).files.at) store refl kept_is turns
+
+-- whether a checkpoint is due behind a batch goes by what stands
+due_by_store : (checkpoint number : ℕ) (disk : History) (plan : Plan) (state : State) (was : Option Kept) (batch : Batch) (saved : Saved)
+    → HoldsSaved disk plan state was saved
+    → due_by checkpoint number (option_map (with_logged plan batch) was) ≡ is_due checkpoint number (with_batch saved batch).bytes
+due_by_store checkpoint number disk plan state None batch saved h = absurd h.holds
+due_by_store checkpoint number disk plan state (Some kept) batch saved h =
+    ap (λ (n : ℕ). is_due checkpoint number n) (at_bytes plan batch saved kept h.bytes h.holds.plan_is)
+
+pub due_next : (live : Live) (calls : List Call) (disk : History) (saved : Saved) → HoldsSaved disk (plan_of live) (stored_state live) live.store saved
+    → next_due live calls ≡ is_due live.checkpoint (next_state live calls).batches (with_batch saved (next_batch live calls)).bytes
+due_next live calls disk saved h =
+    due_by_store live.checkpoint (next_state live calls).batches disk (plan_of live) (stored_state live) live.store (next_batch live calls) saved h
 
 -- ---- behind a batch
 

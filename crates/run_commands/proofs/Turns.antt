@@ -1,5 +1,5 @@
 -- What a script holds from turn to turn.
-use Rattle.std.proofs.Common.{◌≡◌, ◌≢◌, ◌∙◌, sym, ap, subst, refl, ℕ, ◌≤◌, List, [], ◌∷◌, ◌++◌, length, map, drop, Option, Some, None, append-nil}
+use Rattle.std.proofs.Common.{◌≡◌, ◌≢◌, ◌⊎◌, inl, inr, ◌∙◌, sym, ap, subst, refl, ℕ, ◌≤◌, List, [], ◌∷◌, ◌++◌, length, map, drop, Option, Some, None, append-nil, append_assoc}
 use Rattle.std.specs.Prelude.{Result, Ok, Err}
 use Rattle.std.specs.Io.KnownBytes.{Appends}
 use Rattle.std.proofs.KnownBytes.{Appends-nil}
@@ -7,7 +7,11 @@ use Rattle.std.proofs.lemmas.List.Elements.{All-drop, All-head}
 use Rattle.std.specs.List.{All}
 use Rattle.aria_base.specs.declared.limits.TheConstants.{LONGEST_LINE}
 use Rattle.batch_core.specs.Steps.{State}
-use Rattle.disk_model.specs.Histories.{History}
+use Rattle.aria_store.specs.Reopens.{Found, Reopens}
+use Rattle.aria_store.specs.Stands.{Kept}
+use Rattle.disk_model.specs.Histories.{History, LeavesAll}
+use Rattle.disk_model.proofs.Spans.{leaves_more, leaves_still, leaves_then, still_none}
+use Rattle.serving.specs.Stored.{batch_of}
 use Rattle.proc_lang.specs.Catalogs.{Plan}
 use Rattle.answer_text.specs.Refusals.{refusal_text}
 use Rattle.script_course.specs.Courses.{Course, Goes, Stops, behind, with_fault, with_lines, with_scan}
@@ -17,15 +21,15 @@ use Rattle.script_course.specs.declared.stops.Stop.TheVariants as stop
 use Rattle.script_course.proofs.Turns.{behind-behind, behind_nothing, stopped_lines, with_lines-behind}
 use Rattle.script_text.specs.Lines.{Scan}
 use Rattle.script_text.specs.declared.refusals.Refusal.{Refusal}
-use Rattle.run_commands.specs.Keeps.{Keeps, LeavesLaid, held_of}
-use Rattle.run_commands.specs.Onces.{Doing, Running, doing_result, on_line}
-use Rattle.run_commands.specs.Passes.{Line, Past, PassesTurns, Turn, held_behind, held_by_step, held_over, held_then, on_turn, past, turns}
+use Rattle.run_commands.specs.Keeps.{HoldsState, Keeps, LeavesLaid, held_of}
+use Rattle.run_commands.specs.Onces.{Doing, Running, doing_result, handed_in, on_line}
+use Rattle.run_commands.specs.Passes.{Line, PassesTurns, Past, Turn, held_behind, held_by_step, held_over, held_then, on_turn, onward, over, past, turns}
 use Rattle.store_openings.specs.Saved.{Saved}
-use Rattle.run_commands.specs.Saves.{saved_behind, saved_then}
+use Rattle.run_commands.specs.Saves.{HasFront, HasLogged, IsLeft, saved_behind, saved_then}
 use Rattle.run_commands.specs.Turns.{HoldsScript, KeepsTurns, Stays, saved_over}
 use Rattle.run_commands.proofs.Endings.{holds_laid, holds_leave, laid_as}
 use Rattle.run_commands.proofs.Kept.{keeps_none, keeps_quiet}
-use Rattle.run_commands.proofs.Overs.{keeps_append, keeps_front, onward, over}
+use Rattle.run_commands.proofs.Overs.{keeps_append, keeps_front}
 use Rattle.script_places.specs.Places.{plan_in}
 
 -- ---- steps, and more of them
@@ -145,6 +149,95 @@ fault_lines_over lines fault d =
 pub scan_over : (scan : Scan) (d : Doing) → with_scan on_line (Goes [] d) scan ≡ over on_turn (turns scan) d
 scan_over scan d = fault_lines_over scan.lines scan.fault d
 
+-- ---- what is left of turns
+
+module _ (checkpoint : ℕ) where
+  -- what is left of turns is left of them and more
+  pub left_more : (steps more : List Turn) (d : Doing) (saved : Saved) (images : ℕ → List ℕ) → IsLeft checkpoint steps d saved images
+      → IsLeft checkpoint (steps ++ more) d saved images
+  left_more steps more d saved images l = record {
+    front = l.front;
+    rest = l.rest ++ more;
+    are = ap (λ (s : List Turn). s ++ more) l.are ∙ append_assoc l.front l.rest more;
+    reads = by l.reads;
+  }
+    where
+      by : HasFront checkpoint l.front d saved images ⊎ HasLogged checkpoint l.front l.rest d saved images
+          → HasFront checkpoint l.front d saved images ⊎ HasLogged checkpoint l.front (l.rest ++ more) d saved images
+      by (inl h) = inl h
+      by (inr h) = inr (record {
+        turn = h.turn;
+        more = h.more ++ more;
+        rest_is = ap (λ (s : List Turn). s ++ more) h.rest_is;
+        printed = h.printed;
+        here = h.here;
+        goes = h.goes;
+        text = h.text;
+        next = h.next;
+        runs = h.runs;
+        counted = h.counted;
+        reads = h.reads;
+      })
+
+  module _ (steps more : List Turn) (d next : Doing) (saved : Saved) (bytes : List ℕ) (is : over on_turn steps d ≡ Goes bytes next) where
+    saved_on : (front : List Turn) → saved_behind checkpoint (steps ++ front) d saved
+        ≡ saved_behind checkpoint front next (saved_behind checkpoint steps d saved)
+    saved_on front = held_goes on_turn (saved_then checkpoint) steps front d saved bytes next is
+
+    goes_on : (front : List Turn) (printed : List ℕ) (here : Doing) → over on_turn front next ≡ Goes printed here
+        → over on_turn (steps ++ front) d ≡ Goes (bytes ++ printed) here
+    goes_on front printed here goes =
+        over_append on_turn steps front d
+        ∙ ap (λ (c : Course Doing). onward (over on_turn front) c) is
+        ∙ ap (λ (c : Course Doing). behind bytes c) goes
+
+    -- what is left of those behind turns that went on
+    pub left_behind : (images : ℕ → List ℕ) → IsLeft checkpoint more next (saved_behind checkpoint steps d saved) images
+        → IsLeft checkpoint (steps ++ more) d saved images
+    left_behind images l = record {
+      front = steps ++ l.front;
+      rest = l.rest;
+      are = ap (λ (s : List Turn). steps ++ s) l.are ∙ sym (append_assoc steps l.front l.rest);
+      reads = by l.reads;
+    }
+      where
+        by : HasFront checkpoint l.front next (saved_behind checkpoint steps d saved) images
+            ⊎ HasLogged checkpoint l.front l.rest next (saved_behind checkpoint steps d saved) images
+            → HasFront checkpoint (steps ++ l.front) d saved images ⊎ HasLogged checkpoint (steps ++ l.front) l.rest d saved images
+        by (inl h) = inl (subst (λ (s : Saved). Reopens images (Found s.c s.later)) (sym (saved_on l.front)) h)
+        by (inr h) = inr (record {
+          turn = h.turn;
+          more = h.more;
+          rest_is = h.rest_is;
+          printed = bytes ++ h.printed;
+          here = h.here;
+          goes = goes_on l.front h.printed h.here h.goes;
+          text = h.text;
+          next = h.next;
+          runs = h.runs;
+          counted = h.counted;
+          reads = subst (λ (s : Saved). Reopens images (Found s.c (s.later ++ batch_of (handed_in h.here) ∷ []))) (sym (saved_on l.front)) h.reads;
+        })
+
+    -- both parts
+    pub left_both : (a b c : History) → LeavesAll a b (IsLeft checkpoint steps d saved)
+        → LeavesAll b c (IsLeft checkpoint more next (saved_behind checkpoint steps d saved)) → LeavesAll a c (IsLeft checkpoint (steps ++ more) d saved)
+    left_both a b c first second =
+        leaves_then a b c (IsLeft checkpoint (steps ++ more) d saved)
+        (leaves_more a b (IsLeft checkpoint steps d saved) (IsLeft checkpoint (steps ++ more) d saved) first (left_more steps more d saved))
+        (leaves_more b c (IsLeft checkpoint more next (saved_behind checkpoint steps d saved)) (IsLeft checkpoint (steps ++ more) d saved) second left_behind)
+
+  -- nothing was done
+  pub left_still : (first : ℕ) (steps : List Turn) (d : Doing) (saved : Saved) (disk : History) (plan : Plan) (state : State) (store : Option Kept)
+      → HoldsState first saved checkpoint disk plan state store → LeavesAll disk disk (IsLeft checkpoint steps d saved)
+  left_still first steps d saved disk plan state store h =
+      leaves_still disk disk (IsLeft checkpoint steps d saved) (still_none disk) (λ images left. record {
+        front = [];
+        rest = steps;
+        are = refl;
+        reads = inl (holds_laid first saved checkpoint disk plan state store h images left).reopens;
+      })
+
 -- ---- what is kept, of one turn and of many
 
 abbrev pub stop_in : Result Running Stop → Stop
@@ -166,6 +259,7 @@ module _ (first : ℕ) where
     still_kept script a g h = record {
       keeps = keeps_none on_turn held_then (plan_in script.doing.place.head) [] script.doing (held_of script) a g (Appends-nil g)
           (holds_leave first saved script.checkpoint a (plan_in script.doing.place.head) (held_of script) script.store h);
+      left = left_still script.checkpoint first [] script.doing saved a (plan_in script.doing.place.head) (held_of script) script.store h;
       stays = stays_here a script h;
       held = refl;
       refused = λ e. absurd cc;
@@ -177,6 +271,7 @@ module _ (first : ℕ) where
     none_kept steps script a g why other h = record {
       keeps = keeps_none on_turn held_then (plan_in script.doing.place.head) steps script.doing (held_of script) a g (Appends-nil g)
           (holds_leave first saved script.checkpoint a (plan_in script.doing.place.head) (held_of script) script.store h);
+      left = left_still script.checkpoint first steps script.doing saved a (plan_in script.doing.place.head) (held_of script) script.store h;
       stays = tt;
       held = tt;
       refused = λ e. absurd (other (ap stop_in e));
@@ -195,6 +290,7 @@ module _ (first : ℕ) where
               (λ more next e. not_both bytes more next (sym is ∙ e))
               (subst (λ (c : Course Doing). Serves c ga gb (Err why)) (sym is) serves)
               (holds_leave first saved script.checkpoint a plan held script.store h);
+          left = left_still script.checkpoint first (turn ∷ []) script.doing saved a plan held script.store h;
           stays = tt;
           held = tt;
           refused = λ e. laid_as first script.checkpoint a plan saved (saved_over (turn ∷ []) script saved) held (held_behind (turn ∷ []) script.doing held)
@@ -212,6 +308,8 @@ module _ (first : ℕ) where
           → KeepsTurns first saved (steps ++ more) script a b ga gb (Err why)
       kept_front why serves k = record {
         keeps = keeps_front on_turn held_then Plan_in steps more script.doing (held_of script) a b ga gb k.keeps;
+        left = leaves_more a b (IsLeft script.checkpoint steps script.doing saved) (IsLeft script.checkpoint (steps ++ more) script.doing saved) k.left
+            (left_more script.checkpoint steps more script.doing saved);
         stays = tt;
         held = tt;
         refused = λ e.
@@ -257,17 +355,24 @@ module _ (first : ℕ) where
             (subst (λ (n : ℕ). LeavesLaid first (saved_over more next Here) n c (plan_in next.doing.place.head) (held_behind more next.doing (held_of next)))
             k.stays.checkpoint h))
 
+        left_all : LeavesAll b c (IsLeft next.checkpoint more next.doing Here) → LeavesAll a c (IsLeft script.checkpoint (steps ++ more) script.doing saved)
+        left_all l =
+            left_both script.checkpoint steps more script.doing next.doing saved went.0 went.1 a b c k.left
+            (subst (λ (n : ℕ). LeavesAll b c (IsLeft n more next.doing Here)) k.stays.checkpoint l)
+
         -- turns that went on, and what follows
         pub kept_then : (result : Result Running Stop) → KeepsTurns first Here more next b c gb gc result
             → KeepsTurns first saved (steps ++ more) script a c ga gc result
         kept_then (Ok last) l = record {
           keeps = keeps_both l.keeps;
+          left = left_all l.left;
           stays = subst (λ (x : Saved). Stays first x c script last) (sym saved_is) (stays_then (saved_over more next Here) Here b c script next last k.stays l.stays);
           held = l.held ∙ sym behind_is;
           refused = λ e. absurd cc;
         }
         kept_then (Err why) l = record {
           keeps = keeps_both l.keeps;
+          left = left_all l.left;
           stays = tt;
           held = tt;
           refused = λ e. laid_both (l.refused e);

@@ -15,11 +15,11 @@ use Rattle.store_openings.specs.Saved.{Saved}
 use Rattle.run_commands.specs.Keeps.{Keeps, LeavesLaid, held_of}
 use Rattle.run_commands.specs.Onces.{Doing, Running, on_line}
 use Rattle.run_commands.specs.Outs.{no_line, text_turns}
-use Rattle.run_commands.specs.Passes.{PassesTurns, Turn, ending_behind, ending_of, held_behind, held_then, last, on_turn, turns, turns_whole}
+use Rattle.run_commands.specs.Passes.{PassesTurns, Turn, ending_behind, ending_of, held_behind, held_then, last, on_turn, onward, over, turns, turns_whole}
 use Rattle.run_commands.specs.Saves.{saved_behind, saved_then}
 use Rattle.run_commands.specs.Turns.{HoldsScript, KeepsTurns, saved_over}
 use Rattle.run_commands.proofs.Endings.{laid_as}
-use Rattle.run_commands.proofs.Overs.{keeps_append, keeps_front, onward, over}
+use Rattle.run_commands.proofs.Overs.{keeps_append, keeps_front}
 use Rattle.run_commands.proofs.Turns.{held_goes, held_stops, onward_none, over_append, scan_over}
 use Rattle.script_places.specs.Places.{plan_in}
 

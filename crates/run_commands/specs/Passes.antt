@@ -4,7 +4,7 @@ use Rattle.std.specs.Prelude.{Option, Some, None, Result, Ok, Err}
 use Rattle.answer_text.specs.Notices.{at_text}
 use Rattle.answer_text.specs.Refusals.{refusal_text}
 use Rattle.batch_core.specs.Steps.{State}
-use Rattle.script_course.specs.Courses.{Course, Goes, Stops, refused_after}
+use Rattle.script_course.specs.Courses.{Course, Goes, Stops, behind, refused_after}
 use Rattle.script_text.specs.Lines.{Scan, last_line}
 use Rattle.script_text.specs.declared.refusals.RefusalKind.{RefusalKind}
 use Rattle.script_text.specs.declared.refusals.Refusal.{Refusal}
@@ -15,6 +15,17 @@ use Rattle.serving.specs.Drains.{one_drained}
 use Rattle.run_commands.specs.Onces.{Doing, on_line}
 
 -- ---- steps that print, one after the other
+
+-- a course, and what follows where it goes on
+abbrev pub onward : {R : Type 0} → (R → Course R) → Course R → Course R
+onward next (Goes bytes r) = behind bytes (next r)
+onward next (Stops bytes) = Stops bytes
+
+-- what steps print and leave
+module _ {R X : Type 0} (on : R → X → Course R) where
+  abbrev pub over : List X → R → Course R
+  over [] r = Goes [] r
+  over (x ∷ steps) r = onward (over steps) (on r x)
 
 -- this state is held, while some first of these bytes were given
 pub record IsHere (held : State) (bytes : List ℕ) (t : State) (given : List ℕ) : Type 0 where

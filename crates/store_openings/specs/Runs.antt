@@ -1,5 +1,5 @@
 -- The steps by which a store is opened.
-use Rattle.std.specs.Prelude.{◌≡◌, ◌⊎◌, ℕ, ◌+◌, IsSome, List, length, map, None, Some, IfSome, ⊤}
+use Rattle.std.specs.Prelude.{◌≡◌, ◌⊎◌, ℕ, ◌+◌, IsSome, List, length, map, true, None, Some, IfSome, ⊤}
 use Rattle.aria_base.specs.Faults.{Rose}
 use Rattle.aria_store.specs.Stands.{Kept}
 use Rattle.batch_core.specs.Steps.{State, step, run}
@@ -10,7 +10,7 @@ use Rattle.image_text.specs.Payloads.{Batch}
 use Rattle.input_log.specs.Layout.{log_of}
 use Rattle.proc_lang.specs.Catalogs.{Plan, run_of}
 use Rattle.serving.specs.Lives.{IsRunnable, plan_of, state_of}
-use Rattle.serving.specs.Stored.{IsLogging, ReopensTo, crowded, crowded_from, handed_in, state_behind, stored_state, told_by}
+use Rattle.serving.specs.Stored.{IsLogging, ReopensBy, crowded, crowded_from, handed_in, state_behind, stored_state, told_by}
 use Rattle.serving.specs.declared.lives.Live.{Live}
 use Rattle.slot_images.specs.Images.{Checkpoint}
 use Rattle.store_files.specs.Stores.{Rests}
@@ -132,9 +132,9 @@ pub record IsOpenedFrom (disk : History) (engines : Engines) (c : Checkpoint) (l
   pub stored : IsSome live.store
   pub settings : stored_state live ≡ state_of live
 
--- these four files are the text of its state, all batches having room
+-- these four files are just that, all batches having room, or the next checkpoint behind it
 abbrev pub ReopensRun : Checkpoint → List Batch → (ℕ → List ℕ) → Type 0
-ReopensRun c later images = (crowded c later ≡ None) × ReopensTo c.plan (state_behind c later) images
+ReopensRun c later images = (crowded c later ≡ None) × ReopensBy true c later c.plan (state_behind c later) images
 
 abbrev pub LeftOrRun : History → Checkpoint → List Batch → (ℕ → List ℕ) → Type 0
 LeftOrRun old c later images = MayLeave old old.now images ⊎ ReopensRun c later images

@@ -7,9 +7,8 @@ use Rattle.image_text.specs.Payloads.{Batch}
 use Rattle.input_log.specs.Layout.{Log, Ends, Breaks, log_of}
 use Rattle.input_log.specs.declared.limits.TheConstants.{MOST_LOG}
 use Rattle.proc_lang.specs.Catalogs.{Plan}
-use Rattle.serving.specs.Stored.{Holds, state_behind}
-use Rattle.slot_images.specs.Images.{Checkpoint, checkpoint_of}
-use Rattle.store_files.specs.Stores.{next_head}
+use Rattle.serving.specs.Stored.{Holds, laid_behind, state_behind}
+use Rattle.slot_images.specs.Images.{Checkpoint}
 use Rattle.store_openings.specs.Openings.{log_in}
 
 -- a checkpoint with the batches behind it, and how many bytes its log has before its end
@@ -33,11 +32,7 @@ is_full saved = saved.c.head.format == 1 || nat_lt MOST_LOG saved.bytes
 
 -- the next checkpoint: of this state, in format 2, with an empty log
 abbrev pub laid : Saved → State → Saved
-laid saved state = record {
-  c = checkpoint_of (next_head saved.c.head state.rule state.percent state.batches state.requests) (saved.c.plan, state.rows, state.waiting);
-  later = [];
-  bytes = 0;
-}
+laid saved state = record { c = laid_behind saved.c state; later = []; bytes = 0 }
 
 -- where it is due
 abbrev pub laid_where : Bool → Saved → State → Saved

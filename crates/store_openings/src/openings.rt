@@ -9,7 +9,7 @@ ghost use Rattle.batch_engine.specs.Engines.{IsReady};
 ghost use Rattle.disk_model.specs.Histories.{LeavesAll, MayLeave, Still};
 ghost use Rattle.image_text.specs.Payloads.{Batch};
 ghost use Rattle.serving.specs.Lives.{IsRunnable, plan_of, state_of};
-ghost use Rattle.serving.specs.Stored.{HoldsTurned, IsHeld, IsLogging, ReopensTo, is_stale, stored_state, turned};
+ghost use Rattle.serving.specs.Stored.{HoldsTurned, IsHeld, IsLogging, ReopensBy, is_stale, stored_state, turned};
 ghost use Rattle.slot_images.specs.Images.{Checkpoint};
 ghost use Rattle.slot_images.specs.Said.{IsInOrder, checkpoint_in};
 ghost use Rattle.store_files.specs.Stores.{Rests, slot_in};
@@ -67,7 +67,8 @@ pub fn open<D: Disk, P: Pace + Sync, R: Threads + Sync>(
     ensures holds { IfOk result (λ live. (images : ℕ → List ℕ) (c : Checkpoint) (later : List Batch) → ReadsAs (D.history disk.old) images → Reopens images (Holding c later)
         → HoldsSaved (D.history disk.new) (plan_of live) (stored_state live) live.store (renewed (saved_in images c later))) }
 
-    // A stop at any moment leaves what one could have left before, or what is opened as the same.
+    // A stop at any moment leaves what one could have left before, or just what was opened, or the next checkpoint
+    // behind it.
     ensures images { (images : ℕ → List ℕ) (found : Reopened) → ReadsAs (D.history disk.old) images → Reopens images found
         → LeavesAll (D.history disk.old) (D.history disk.new) (λ left. MayLeave (D.history disk.old) (D.history disk.old).now left ⊎ ReopensToOpened (opened images found) left) }
     ensures unwritten { IfErr result (LeavesUnwritten (D.history disk.old) (D.history disk.new)) }
@@ -165,7 +166,7 @@ fn keep_store<D: Disk>(
     ensures holds { IfOk result (λ next. (c : Checkpoint) (later : List Batch) → IsHeld (D.history disk.old) (plan_of live) (state_of live) store c later
         → HoldsTurned (is_stale store) (D.history disk.new) (plan_of live) (state_of live) next.store c later) }
     ensures images { (c : Checkpoint) (later : List Batch) → IsHeld (D.history disk.old) (plan_of live) (state_of live) store c later
-        → LeavesAll (D.history disk.old) (D.history disk.new) (ReopensTo (plan_of live) (state_of live)) }
+        → LeavesAll (D.history disk.old) (D.history disk.new) (ReopensBy (is_stale store) c later (plan_of live) (state_of live)) }
     ensures untouched { is_stale store ≡ false → disk.new ≡ disk.old }
     ensures disk { IfOk result (λ _. (D.history disk.old).faults ≤ (D.history disk.new).faults) }
     ensures refused { IfErr result (IsNotKept (D.history disk.old) (D.history disk.new) store) }

@@ -3,7 +3,7 @@ use Rattle.disk_model.specs.Histories.{History, LeavesAll, MayLeave}
 use Rattle.disk_model.proofs.Spans.{still_none}
 use Rattle.aria_store.specs.Stands.{Stands, batches_in}
 use Rattle.serving.specs.Lives.{plan_of, state_of}
-use Rattle.serving.specs.Stored.{ReopensTo}
+use Rattle.serving.specs.Stored.{ReopensBy, is_stale}
 use Rattle.slot_images.specs.Said.{checkpoint_in}
 use Rattle.store_files.specs.Stores.{Rests, slot_in}
 use Rattle.store_openings.specs.Openings.{LeavesUnwritten}
@@ -73,8 +73,8 @@ returns-in-Ok-clause-images g c stands =
     let all = c.keep_store.ensures.images image later
     (held_found mid c.args.store c.args.engines.now image later c.in-Ok.live c.in-Ok.ensures.found
     (subst (λ (d : History). Stands d c.args.store image later) (sym same) stands)) in
-    run_leaves old new c.args.engines.now image later c.in-Ok.live c.in-Ok.ensures.found
-    (subst (λ (d : History). LeavesAll d new (ReopensTo (plan_of c.in-Ok.live) (state_of c.in-Ok.live))) same all)
+    run_leaves old new c.args.engines.now image later c.in-Ok.live (is_stale c.args.store) c.in-Ok.ensures.found
+    (subst (λ (d : History). LeavesAll d new (ReopensBy (is_stale c.args.store) image later (plan_of c.in-Ok.live) (state_of c.in-Ok.live))) same all)
 
 pub returns-in-Ok-clause-unwritten : goal.returns-in-Ok-clause-unwritten
 returns-in-Ok-clause-unwritten g c =
