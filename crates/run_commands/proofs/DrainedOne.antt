@@ -5,7 +5,8 @@ use Rattle.aria_base.specs.declared.calls.Call.{Call}
 use Rattle.aria_base.specs.declared.limits.TheConstants.{GREATEST_NUMBER}
 use Rattle.aria_store.specs.Stands.{Kept, added}
 use Rattle.batch_core.specs.Steps.{State, Handed}
-use Rattle.disk_model.specs.Histories.{History, LeavesAll}
+use Rattle.disk_model.specs.Histories.{History, LeavesAll, MayLeave}
+use Rattle.disk_model.proofs.Spans.{leaves_more}
 use Rattle.image_text.specs.Payloads.{Batch}
 use Rattle.script_course.specs.Courses.{Course}
 use Rattle.script_course.specs.Served.{IsGoing, Serves}
@@ -13,8 +14,9 @@ use Rattle.script_course.specs.declared.stops.Stop.{Stop}
 use Rattle.script_course.specs.declared.stops.Stop.TheVariants as stop
 use Rattle.serving.specs.Drains.{no_calls, one_drained}
 use Rattle.serving.specs.Deliveries.{IfTold, IsAnswered, Tells}
-use Rattle.serving.specs.Lives.{IsLike, IsNext, next_state, next_text, plan_of, state_of}
-use Rattle.serving.specs.Stored.{Holds, HoldsTurned, LeavesState, ReopensToEither, batch_of, next_batch, next_due, next_store, stored_state, turned_by, with_logged}
+use Rattle.serving.proofs.Storing.{by_state, way_states}
+use Rattle.serving.specs.Lives.{IsLike, IsNext, handed_at, next_state, next_text, plan_of, state_of}
+use Rattle.serving.specs.Stored.{Holds, HoldsTurned, LeavesState, ReopensBy, ReopensOnWay, ReopensToEither, batch_of, next_batch, next_due, next_store, stored_state, turned_by, with_logged}
 use Rattle.serving.specs.declared.batches.Delivery.{Delivery}
 use Rattle.serving.specs.declared.batches.Delivery.TheVariants as delivery
 use Rattle.serving.specs.declared.lives.Live.{Live}
@@ -22,12 +24,13 @@ use Rattle.slot_images.specs.Images.{Checkpoint}
 use Rattle.store_openings.specs.Saved.{Saved}
 use Rattle.run_commands.specs.Endings.{HoldsLive, IsEnd}
 use Rattle.run_commands.specs.Keeps.{Keeps}
-use Rattle.run_commands.specs.Onces.{Doing}
+use Rattle.run_commands.specs.Onces.{Doing, handed_in}
 use Rattle.run_commands.specs.Passes.{Drain, PassesTurns}
-use Rattle.run_commands.specs.Saves.{saved_more}
+use Rattle.run_commands.specs.Saves.{IsLeft, saved_more}
 use Rattle.run_commands.specs.Stops.{IsStopFor}
 use Rattle.run_commands.proofs.Drained.{handed_none, one_is}
-use Rattle.run_commands.proofs.Endings.{drain_cut, drain_told}
+use Rattle.run_commands.proofs.Endings.{drain_cut, drain_goes, drain_told}
+use Rattle.run_commands.proofs.Lefts.{batch_left}
 use Rattle.run_commands.proofs.Told.{cut_front, cut_serves, if_told, told_all, told_is}
 use Rattle.run_commands.proofs.Turned.{told_next, turned_next, turned_on}
 
@@ -110,6 +113,33 @@ module _ (live : Live) (calls : List Call) (none : calls ≡ []) (line : ℕ) (b
           turns)))
 
   -- ---- what is kept
+
+  -- what is left, as states
+  module _ (due : Bool) (c : Checkpoint) (later more : List Batch) where
+    pub as_either : (a b : History) → LeavesAll a b (ReopensOnWay due c later more (plan_of live) (stored_state live) (next_state live calls))
+        → LeavesAll a b (ReopensToEither (plan_of live) (stored_state live) (next_state live calls))
+    as_either a b all =
+        leaves_more a b (ReopensOnWay due c later more (plan_of live) (stored_state live) (next_state live calls))
+        (ReopensToEither (plan_of live) (stored_state live) (next_state live calls)) all
+        (way_states due c later more (plan_of live) (stored_state live) (next_state live calls))
+
+    pub as_after : (answered : Type 0) (b : History)
+        → (answered → (images : ℕ → List ℕ) → MayLeave b b.now images → ReopensBy due c more (plan_of live) (next_state live calls) images)
+        → answered → LeavesState b (plan_of live) (next_state live calls)
+    as_after answered b given told images left = by_state due c more (plan_of live) (next_state live calls) images (given told images left)
+
+  pub drain_left : (some : (length (state_of live).waiting == 0) ≡ false) (first : ℕ) (saved : Saved) (d : Doing)
+      → IsEnd (plan_of live) live.each line (state_of live) d → (a b : History) → HoldsLive first saved a live
+      → LeavesAll a b (ReopensOnWay (next_due live calls) saved.c saved.later (added saved.later live.config.rule live.config.fallback calls)
+      (plan_of live) (stored_state live) (next_state live calls))
+      → LeavesAll a b (IsLeft live.checkpoint (Drain ∷ []) d saved)
+  drain_left some first saved d end a b h all =
+      let is = drain_goes (plan_of live) live.each line (state_of live) d end some (stored_state live) (next_state live calls) (next_text live calls)
+      (one_is live calls none line below) refl a b ga gb in
+      let batch : next_batch live calls ≡ batch_of (handed_in d) =
+      ap batch_of (handed_none live calls none) ∙ (λ i. batch_of (handed_at (sym end.state_is i) (sym end.calls_none i))) in
+      batch_left live calls Drain d (record d { state = next_state live calls }) (next_text live calls) is refl
+      (ap (λ (s : State). s.batches + 1) (sym end.state_is)) batch a saved h.stands b all
 
   module _ (some : (length (state_of live).waiting == 0) ≡ false) (d : Doing) (end : IsEnd (plan_of live) live.each line (state_of live) d) (a b : History)
       (all : LeavesAll a b (ReopensToEither (plan_of live) (stored_state live) (next_state live calls)))

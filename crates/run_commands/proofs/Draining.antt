@@ -7,7 +7,8 @@ use Rattle.aria_base.specs.Faults.{Rose}
 use Rattle.aria_base.specs.declared.calls.Call.{Call}
 use Rattle.aria_store.specs.Stands.{Kept}
 use Rattle.batch_core.specs.Steps.{State}
-use Rattle.disk_model.specs.Histories.{History}
+use Rattle.disk_model.specs.Histories.{History, LeavesAll}
+use Rattle.disk_model.proofs.Spans.{leaves_more}
 use Rattle.proc_lang.specs.Catalogs.{Plan}
 use Rattle.script_course.specs.Causes.{IsCause}
 use Rattle.script_course.specs.Courses.{Course, Goes, Stops}
@@ -22,11 +23,12 @@ use Rattle.store_openings.specs.Saved.{Saved}
 use Rattle.run_commands.specs.Endings.{HoldsLive, IsEnd, drains_of}
 use Rattle.run_commands.specs.Keeps.{Keeps, LeavesLaid}
 use Rattle.run_commands.specs.Onces.{Doing, handed_in}
-use Rattle.run_commands.specs.Passes.{Drain, PassesTurns, Turn, as_doing, held_behind, held_by_step, held_over, held_then, on_drain, on_turn}
-use Rattle.run_commands.specs.Saves.{saved_behind, saved_more, saved_then}
+use Rattle.run_commands.specs.Passes.{Drain, PassesTurns, Turn, as_doing, held_behind, held_by_step, held_over, held_then, on_drain, on_turn, over}
+use Rattle.run_commands.specs.Saves.{IsLeft, saved_behind, saved_more, saved_then}
 use Rattle.run_commands.proofs.Drained.{fuel}
 use Rattle.run_commands.proofs.Endings.{drain_is, held_after, holds_laid, holds_leave, none_held, none_saved, ran_then}
 use Rattle.run_commands.proofs.Kept.{keeps_cut, keeps_none, keeps_on}
+use Rattle.run_commands.proofs.Turns.{held_one, left_both, left_more, onward_none}
 
 -- ---- faults
 
@@ -160,6 +162,36 @@ module _ (start live : Live) (line n i : ℕ) (d : Doing) (end : IsEnd (plan_of 
         ap (λ (steps : List Turn). held_over on_turn held_by steps Here held) turns_next
         ∙ ap (λ (c : Course Doing). held_by_step on_turn held_by Here held (held_over on_turn held_by Rest) c) is
 
+    -- what is left of it and of those behind it
+    pub left_next : (next : Live) (ga gb : Option (List ℕ)) (counted : (state_of next).batches ≡ (state_of live).batches + 1)
+        (told : stored_state next ≡ state_of next)
+        (serves : IsGoing (state_of next) (one_drained (plan_of live) live.each line (state_of live)) ga gb) (here : Saved) (a b c : History)
+        → LeavesAll a b (IsLeft live.checkpoint (Drain ∷ []) Here here)
+        → LeavesAll b c (IsLeft start.checkpoint Rest (record d { state = state_of next })
+        (saved_more live.checkpoint here (batch_of (no_calls (state_of live))) (state_of next)))
+        → LeavesAll a c (IsLeft start.checkpoint (replicate (n - i) Drain) Here here)
+    left_next next ga gb counted told serves here a b c first second =
+        let went = going_is (one_drained (plan_of live) live.each line (state_of live)) (state_of next) ga gb serves in
+        let is : over on_turn (Drain ∷ []) Here ≡ Goes went.0 (record d { state = state_of next }) =
+        onward_none on_turn (on_drain Here) ∙ next_is next ga gb counted told serves in
+        let behind : saved_behind start.checkpoint (Drain ∷ []) Here here
+        ≡ saved_more live.checkpoint here (batch_of (no_calls (state_of live))) (state_of next) =
+        held_one on_turn (saved_then start.checkpoint) Drain Here (record d { state = state_of next }) here went.0 (next_is next ga gb counted told serves)
+        ∙ next_saved next ga gb counted told serves here in
+        subst (λ (steps : List Turn). LeavesAll a c (IsLeft start.checkpoint steps Here here)) (sym turns_next)
+        (left_both start.checkpoint (Drain ∷ []) Rest Here (record d { state = state_of next }) here went.0 is a b c
+        (subst (λ (k : ℕ). LeavesAll a b (IsLeft k (Drain ∷ []) Here here)) like.checkpoint first)
+        (subst (λ (s : Saved). LeavesAll b c (IsLeft start.checkpoint Rest (record d { state = state_of next }) s)) (sym behind) second))
+
+    -- of one that was cut off, whatever follows
+    pub left_stop : (here : Saved) (a b : History) → LeavesAll a b (IsLeft live.checkpoint (Drain ∷ []) Here here)
+        → LeavesAll a b (IsLeft start.checkpoint (replicate (n - i) Drain) Here here)
+    left_stop here a b first =
+        subst (λ (steps : List Turn). LeavesAll a b (IsLeft start.checkpoint steps Here here)) (sym turns_next)
+        (leaves_more a b (IsLeft start.checkpoint (Drain ∷ []) Here here) (IsLeft start.checkpoint (Drain ∷ Rest) Here here)
+        (subst (λ (k : ℕ). LeavesAll a b (IsLeft k (Drain ∷ []) Here here)) like.checkpoint first)
+        (left_more start.checkpoint (Drain ∷ []) Rest Here here))
+
 -- ---- before the first turn
 
 pub like_self : (live : Live) → IsRunnable live → IsLike live live
@@ -184,6 +216,14 @@ module _ (start : Live) (line : ℕ) (d : Doing) (end : IsEnd (plan_of start) st
   over_init held_by held =
       ap (λ (m : ℕ). held_over on_turn held_by (replicate m Drain) (record d { state = state_of start }) held) (less_none (length (state_of start).waiting))
       ∙ ap (λ (x : Doing). held_over on_turn held_by (drains_of (state_of start)) x held) doing_init
+
+  pub left_init : (saved : Saved) (a b : History)
+      → LeavesAll a b (IsLeft start.checkpoint (replicate (length (state_of start).waiting - 0) Drain) (record d { state = state_of start }) saved)
+      → LeavesAll a b (IsLeft start.checkpoint (drains_of (state_of start)) d saved)
+  left_init saved a b h =
+      subst (λ (x : Doing). LeavesAll a b (IsLeft start.checkpoint (drains_of (state_of start)) x saved)) doing_init
+      (subst (λ (m : ℕ). LeavesAll a b (IsLeft start.checkpoint (replicate m Drain) (record d { state = state_of start }) saved))
+      (less_none (length (state_of start).waiting)) h)
 
   pub keeps_init : (a b : History) (ga gb : Option (List ℕ))
       → Keeps (PassesTurns (replicate (length (state_of start).waiting - 0) Drain) (record d { state = state_of start }) (stored_state start))

@@ -137,10 +137,10 @@ module _ (plan : Plan) (each : Bool) (line : ℕ) (state : State) (d : Doing) (e
     module _ (held after : State) (text : List ℕ) (is : one_drained plan each line state ≡ Goes text after) (counted : after.batches ≡ state.batches + 1)
         (a b : History)
         (ga gb : Option (List ℕ)) where
-      abbrev Next : Doing
+      abbrev pub Next : Doing
       Next = record d { state = after }
 
-      drain_goes : on_drain d ≡ Goes text Next
+      pub drain_goes : on_drain d ≡ Goes text Next
       drain_goes = drain_is ∙ ap (λ (c : Course State). as_doing d c) is
 
       held_next : held_then held d Next ≡ after

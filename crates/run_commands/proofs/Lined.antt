@@ -5,10 +5,10 @@ use Rattle.aria_base.specs.declared.calls.Call.{Call}
 use Rattle.aria_store.specs.Stands.{Kept, added}
 use Rattle.batch_core.specs.Steps.{State}
 use Rattle.batch_rules.specs.declared.verdicts.Rule.{Rule}
-use Rattle.disk_model.specs.Histories.{History}
+use Rattle.disk_model.specs.Histories.{History, LeavesAll}
 use Rattle.image_text.specs.Payloads.{Batch}
 use Rattle.proc_lang.specs.Catalogs.{Plan}
-use Rattle.script_course.specs.Courses.{Stops}
+use Rattle.script_course.specs.Courses.{Goes, Stops}
 use Rattle.script_course.specs.Served.{Serves}
 use Rattle.script_course.specs.declared.stops.Stop.{Stop}
 use Rattle.script_places.proofs.Allowed.{follows}
@@ -22,21 +22,23 @@ use Rattle.script_places.specs.declared.places.Counts.{Counts}
 use Rattle.script_places.specs.declared.places.Place.{Place}
 use Rattle.serving.proofs.Nexts.{handed_is}
 use Rattle.serving.specs.Lives.{IsNext, handed_at, next_state, plan_of}
-use Rattle.serving.specs.Stored.{HasLines, Holds, HoldsTurned, batch_of, next_batch, next_due, next_store, stored_state, told_by}
+use Rattle.serving.specs.Stored.{HasLines, Holds, HoldsTurned, ReopensOnWay, batch_of, next_batch, next_due, next_store, stored_state, told_by}
 use Rattle.serving.specs.declared.lives.Live.{Live}
 use Rattle.slot_images.specs.Images.{Checkpoint}
 use Rattle.store_openings.specs.Saved.{Saved}
 use Rattle.run_commands.specs.Bases.{IsBegun, IsHead, checkpoint_in, counts_of, state_in, store_in}
 use Rattle.run_commands.specs.Keeps.{HoldsState, IsOpen, Keeps, held_of}
-use Rattle.run_commands.specs.Onces.{Doing, Running, doing_result, done, handed_in, on_line, with_call, with_settings, without_calls}
+use Rattle.run_commands.specs.Onces.{Doing, Running, behind_batch, doing_result, done, handed_in, text_of, on_line, with_call, with_settings, without_calls}
 use Rattle.run_commands.specs.Passes.{Line, PassesTurns, held_then, on_turn}
-use Rattle.run_commands.specs.Saves.{saved_more, saved_then}
+use Rattle.run_commands.specs.Saves.{IsLeft, saved_more, saved_then}
 use Rattle.run_commands.specs.Standing.{IsOf, MayDo, Stands, doing_of, running_of, runs_batch}
 use Rattle.run_commands.specs.Turns.{HoldsScript, KeepsTurns, Stays}
 use Rattle.run_commands.specs.declared.bases.Base.{Base}
 use Rattle.run_commands.specs.declared.bases.Base.TheVariants as base
 use Rattle.run_commands.specs.declared.works.Work.{Work}
 use Rattle.run_commands.proofs.Asked.{line_is}
+use Rattle.run_commands.proofs.Deeds.{state_is}
+use Rattle.run_commands.proofs.Lefts.{batch_left}
 use Rattle.run_commands.proofs.Endings.{held_after, ran_then, still_then}
 use Rattle.run_commands.proofs.Ran.{held_is}
 use Rattle.run_commands.proofs.Stepped.{quiet_count}
@@ -154,6 +156,21 @@ module _ (place : Place) (work : Work) (live : Live) (begun : IsBegun place.head
       ∙ ap (λ (s : State). batch_of (handed_at s Calls)) (begun.state ∙ sym same)
       ∙ ap (λ (l : List Call). batch_of (handed_at before.state l)) (sym calls)
 
+  -- what a stop leaves of it
+  pub ran_left : (first : ℕ) (saved : Saved) (old new : History) → HoldsScript first saved old Script
+      → (before : Doing) (line : List ℕ) → before.state ≡ state_in work.base → before.calls ≡ Calls
+      → on_line before line ≡ Goes (text_of Script.doing) (behind_batch Script.doing)
+      → LeavesAll old new (ReopensOnWay (next_due live Calls) saved.c saved.later (added saved.later live.config.rule live.config.fallback Calls)
+      (plan_of live) (stored_state live) (next_state live Calls))
+      → LeavesAll old new (IsLeft Script.checkpoint (Line line ∷ []) before saved)
+  ran_left first saved old new h before line same calls is all =
+      let after = behind_batch Script.doing in
+      let state : after.state ≡ next_state live Calls = sym (state_is place work live begun) in
+      let counted : after.state.batches ≡ before.state.batches + 1 = ap (λ (s : State). s.batches + 1) (sym same) in
+      subst (λ (k : ℕ). LeavesAll old new (IsLeft k (Line line ∷ []) before saved)) begun.checkpoint
+      (batch_left live Calls (Line line) before after (text_of Script.doing) is state counted (batch_is before same calls) old saved
+      (begun_state first saved old h).stands new all)
+
   module _ (next : Live) (is : IsNext live Calls next) (kept : next.store ≡ next_store live Calls) (n : Work) (b : n.base ≡ base.Runs next) where
     state_next : state_in n.base ≡ next_state live Calls
     state_next = ap state_in b ∙ is.state
@@ -250,11 +267,13 @@ module _ (place after : Place) (work : Work) (stands : Stands place work) (count
         → Keeps (PassesTurns (Line line ∷ []) From.doing (held_of To)) (plan_in after.head) old new ga gb
         → IfOk result (λ next. Stays first (saved_then To.checkpoint saved From.doing next.doing) new To next)
         → IfOk result (λ next. held_of next ≡ held_then (held_of To) From.doing next.doing)
+        → LeavesAll old new (IsLeft To.checkpoint (Line line ∷ []) From.doing saved)
         → KeepsTurns first saved (Line line ∷ []) From old new ga gb result
-    line_kept new ga gb (Ok next) serves keeps stays held =
+    line_kept new ga gb (Ok next) serves keeps stays held left =
         let went = goes_to (on_line From.doing line) next.doing ga gb serves in
         record {
           keeps = subst (λ (p : Plan). Keeps (PassesTurns (Line line ∷ []) From.doing (held_of From)) p old new ga gb) plan_is keeps;
+          left = left;
           stays = record {
             plan = stays.plan ∙ plan_is;
             checkpoint = stays.checkpoint;
@@ -264,8 +283,9 @@ module _ (place after : Place) (work : Work) (stands : Stands place work) (count
           held = held ∙ sym (held_one on_turn held_then (Line line) From.doing next.doing (held_of From) went.0 went.1);
           refused = λ e. absurd cc;
         }
-    line_kept new ga gb (Err why) serves keeps stays held = record {
+    line_kept new ga gb (Err why) serves keeps stays held left = record {
       keeps = subst (λ (p : Plan). Keeps (PassesTurns (Line line ∷ []) From.doing (held_of From)) p old new ga gb) plan_is keeps;
+      left = left;
       stays = tt;
       held = tt;
       refused = λ e.

@@ -1,6 +1,7 @@
 // The batches that run what waits, when no new calls come.
 ghost use Rattle.std.specs.Prelude.{◌≡◌, ◌≤◌, ◌<◌, ◌+◌, ℕ, List, [], ◌∷◌, length, Err, None, IfOk, IfErr, IsSomeAnd};
 ghost use Rattle.aria_base.specs.Faults.{Rose};
+ghost use Rattle.disk_model.specs.Histories.{LeavesAll};
 ghost use Rattle.image_text.specs.Payloads.{Batch};
 ghost use Rattle.script_course.specs.Causes.{IsCause};
 ghost use Rattle.script_course.specs.Served.{Serves};
@@ -14,7 +15,7 @@ ghost use Rattle.run_commands.specs.Endings.{HoldsLive, IsEnd, drains_of};
 ghost use Rattle.run_commands.specs.Keeps.{Keeps, LeavesLaid};
 ghost use Rattle.run_commands.specs.Onces.{Doing};
 ghost use Rattle.run_commands.specs.Passes.{Drain, PassesTurns, held_behind};
-ghost use Rattle.run_commands.specs.Saves.{saved_behind, saved_more};
+ghost use Rattle.run_commands.specs.Saves.{IsLeft, saved_behind, saved_more};
 
 use crate::scripts::why_stopped;
 use aria_base::{GREATEST_NUMBER, Pace, Sink};
@@ -50,6 +51,11 @@ pub(crate) fn drain<K: Sink, D: Disk, P: Pace + Sync, R: Threads + Sync>(
         → HoldsLive first saved (D.history disk.old) start
         → Keeps (PassesTurns (drains_of (state_of start)) d (stored_state start)) (plan_of start) (D.history disk.old) (D.history disk.new)
         (K.given out.old) (K.given out.new) }
+
+    // It leaves just what stands behind some first ones.
+    ensures left { (first : ℕ) (saved : Saved) (d : Doing) → IsEnd (plan_of start) start.each line (state_of start) d
+        → HoldsLive first saved (D.history disk.old) start
+        → LeavesAll (D.history disk.old) (D.history disk.new) (IsLeft start.checkpoint (drains_of (state_of start)) d saved) }
 
     // The disk holds the state behind all of them, by the last checkpoint that was due.
     ensures holds { (first : ℕ) (saved : Saved) (d : Doing) → IsEnd (plan_of start) start.each line (state_of start) d
@@ -106,6 +112,9 @@ fn drain_one<K: Sink, D: Disk, P: Pace + Sync, R: Threads + Sync>(
         → Holds (D.history disk.old) (plan_of live) (stored_state live) live.store c later
         → Keeps (PassesTurns (Drain ∷ []) d (stored_state live)) (plan_of live) (D.history disk.old) (D.history disk.new)
         (K.given out.old) (K.given out.new) }
+    ensures left { (first : ℕ) (saved : Saved) (d : Doing) → IsEnd (plan_of live) live.each line (state_of live) d
+        → HoldsLive first saved (D.history disk.old) live
+        → LeavesAll (D.history disk.old) (D.history disk.new) (IsLeft live.checkpoint (Drain ∷ []) d saved) }
     ensures holds { (first : ℕ) (saved : Saved) → HoldsLive first saved (D.history disk.old) live
         → IfOk result (λ next. HoldsLive first (saved_more live.checkpoint saved (batch_of (no_calls (state_of live))) (state_of next)) (D.history disk.new) next) }
     ensures refused { result ≡ Err stop.Refused → disk.new ≡ disk.old }

@@ -1,4 +1,4 @@
-use Rattle.std.proofs.Common.{◌≡◌, ◌∙◌, ◌-◌, ◌==◌, ◌<◌, sym, ap, subst, refl, true, false, length, replicate, arith}
+use Rattle.std.proofs.Common.{ℕ, ◌≡◌, ◌∙◌, ◌-◌, ◌==◌, ◌<◌, sym, ap, subst, refl, true, false, length, replicate, arith}
 use Rattle.std.specs.Prelude.{Ok, Err}
 use Rattle.disk_model.specs.Histories.{History}
 use Rattle.script_course.specs.Served.{ServesCut}
@@ -9,14 +9,15 @@ use Rattle.serving.specs.Lives.{plan_of, state_of}
 use Rattle.serving.specs.Stored.{batch_of, stored_state}
 use Rattle.store_openings.specs.Saved.{Saved}
 use Rattle.run_commands.specs.Endings.{HoldsLive, drains_of}
-use Rattle.run_commands.specs.Keeps.{LeavesLaid}
+use Rattle.run_commands.specs.Keeps.{HoldsState, LeavesLaid}
 use Rattle.run_commands.specs.Onces.{Doing}
 use Rattle.run_commands.specs.Passes.{Drain, held_behind, held_then}
 use Rattle.run_commands.specs.Saves.{saved_behind, saved_more, saved_then}
 use Rattle.run_commands.proofs.Drained.{like_on, next_cut, next_leads, quiet}
 use Rattle.run_commands.proofs.DrainedOne.{some_waits}
-use Rattle.run_commands.proofs.Draining.{cause_on, here_end, held_next, keeps_here, keeps_init, keeps_next, keeps_stop, laid_here, leads_init, like_self, none_left, over_init, over_refused, saved_left, saved_next}
+use Rattle.run_commands.proofs.Draining.{cause_on, here_end, held_next, keeps_here, keeps_init, keeps_next, keeps_stop, laid_here, leads_init, left_init, left_next, left_stop, like_self, none_left, over_init, over_refused, saved_left, saved_next}
 use Rattle.run_commands.proofs.Endings.{laid_as}
+use Rattle.run_commands.proofs.Turns.{left_still}
 use Rattle.run_commands.proofs.drains.drain.Goals as goal
 
 pub loop-init : goal.loop-init
@@ -31,7 +32,12 @@ loop-init g c =
       logging = c.requires.logging;
       left = omega arith;
       leads = λ new result h. leads_init c.args.start c.args.line now new result h;
-      holds = λ first saved d end h. (saved, h, over_init c.args.start c.args.line d end (saved_then c.args.start.checkpoint) saved);
+      holds = λ first saved d end h. (
+        saved,
+        h,
+        over_init c.args.start c.args.line d end (saved_then c.args.start.checkpoint) saved,
+        λ last l. left_init c.args.start c.args.line d end saved (g.D.Disk.history c.args.disk.now) last l,
+      );
       held = λ d end. over_init c.args.start c.args.line d end held_then (stored_state c.args.start);
       keeps = λ first saved d end h last given k. keeps_init c.args.start c.args.line d end (g.D.Disk.history c.args.disk.now) last now given k;
     }
@@ -93,7 +99,42 @@ returns-clause-held g c = λ d end.
     sym (c.loop.invariant.held d end)
     ∙ none_left c.args.start c.loop.live c.args.line (length (state_of c.args.start).waiting) c.loop.counter d end c.loop.invariant.like none
 
+pub returns-then-waiting-eq0-clause-left : goal.returns-then-waiting-eq0-clause-left
+returns-then-waiting-eq0-clause-left g c = λ first saved d end h.
+    let held = c.loop.invariant.holds first saved d end h in
+    let live = c.loop.live in
+    let k = c.args.start.checkpoint in
+    held.3 (g.D.Disk.history c.loop.disk)
+    (left_still k first (replicate (length (state_of c.args.start).waiting - c.loop.counter) Drain) (record d { state = state_of live }) held.0
+    (g.D.Disk.history c.loop.disk) (plan_of live) (stored_state live) live.store
+    (subst (λ (m : ℕ). HoldsState first held.0 m (g.D.Disk.history c.loop.disk) (plan_of live) (stored_state live) live.store)
+    c.loop.invariant.like.checkpoint held.1))
+
+pub returns-clause-left : goal.returns-clause-left
+returns-clause-left g c = λ first saved d end h.
+    let held = c.loop.invariant.holds first saved d end h in
+    let live = c.loop.live in
+    let k = c.args.start.checkpoint in
+    held.3 (g.D.Disk.history c.loop.disk)
+    (left_still k first (replicate (length (state_of c.args.start).waiting - c.loop.counter) Drain) (record d { state = state_of live }) held.0
+    (g.D.Disk.history c.loop.disk) (plan_of live) (stored_state live) live.store
+    (subst (λ (m : ℕ). HoldsState first held.0 m (g.D.Disk.history c.loop.disk) (plan_of live) (stored_state live) live.store)
+    c.loop.invariant.like.checkpoint held.1))
+
 -- ---- a batch was cut off or refused
+
+pub returns-in-Err-clause-left : goal.returns-in-Err-clause-left
+returns-in-Err-clause-left g c = λ first saved d end h.
+    let some : (length (state_of c.loop.live).waiting == 0) ≡ false =
+    some_waits (length (state_of c.loop.live).waiting) (omega (arith, c.waiting.ensures, c.if-waiting-eq0.false)) in
+    let within : c.loop.counter < length (state_of c.args.start).waiting = omega (arith, c.loop-test.true, c.waiting-end.ensures) in
+    let n = length (state_of c.args.start).waiting in
+    let held = c.loop.invariant.holds first saved d end h in
+    held.3 (g.D.Disk.history c.drain_one.new.disk)
+    (left_stop c.args.start c.loop.live c.args.line n c.loop.counter d end c.loop.invariant.like within some held.0 (g.D.Disk.history c.loop.disk)
+    (g.D.Disk.history c.drain_one.new.disk)
+    (c.drain_one.ensures.left first held.0 (record d { state = state_of c.loop.live })
+    (here_end c.args.start c.loop.live c.args.line n c.loop.counter d end c.loop.invariant.like) held.1))
 
 pub returns-in-Err-clause-serves : goal.returns-in-Err-clause-serves
 returns-in-Err-clause-serves g c =
@@ -183,6 +224,11 @@ loop-preserved g c =
             saved_next c.args.start live c.args.line n c.loop.counter d end c.loop.invariant.like within some c.in-Ok.next now new c.in-Ok.ensures.counted
                 c.in-Ok.ensures.told c.in-Ok.ensures.serves inv.0
                 ∙ inv.2,
+            λ last l. inv.3 last
+                (left_next c.args.start live c.args.line n c.loop.counter d end c.loop.invariant.like within some c.in-Ok.next now new c.in-Ok.ensures.counted
+                c.in-Ok.ensures.told c.in-Ok.ensures.serves inv.0 (g.D.Disk.history c.loop.disk) (g.D.Disk.history c.drain_one.new.disk) last
+                (c.drain_one.ensures.left first inv.0 (record d { state = state_of live })
+                (here_end c.args.start live c.args.line n c.loop.counter d end c.loop.invariant.like) inv.1) l),
           );
       held = λ d end.
           held_next c.args.start live c.args.line n c.loop.counter d end c.loop.invariant.like within some c.in-Ok.next now new c.in-Ok.ensures.counted
