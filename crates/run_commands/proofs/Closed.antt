@@ -6,7 +6,7 @@ use Rattle.aria_base.specs.declared.calls.Call.{Call}
 use Rattle.aria_base.specs.Streams.{AppendsFront}
 use Rattle.answer_text.specs.Refusals.{refusal_text}
 use Rattle.aria_store.specs.Stands.{Kept}
-use Rattle.disk_model.specs.Histories.{History}
+use Rattle.disk_model.specs.Histories.{History, LeavesAll}
 use Rattle.proc_lang.specs.Catalogs.{Plan}
 use Rattle.cat_text.specs.Texts.{catalog_of}
 use Rattle.script_places.specs.Follows.{HeadStays}
@@ -28,12 +28,12 @@ use Rattle.run_commands.specs.Endings.{HoldsBase, HoldsLive, IsEnd, closing_turn
 use Rattle.run_commands.specs.Keeps.{HoldsState, Keeps, LeavesLaid}
 use Rattle.run_commands.specs.Onces.{Doing}
 use Rattle.run_commands.specs.Passes.{PassesTurns, Turn, ending_of, held_behind}
-use Rattle.run_commands.specs.Saves.{saved_behind}
+use Rattle.run_commands.specs.Saves.{IsLeft, saved_behind}
 use Rattle.run_commands.specs.Standing.{IsOf, doing_of}
 use Rattle.run_commands.specs.declared.bases.Base.{Base}
 use Rattle.run_commands.specs.declared.bases.Base.TheVariants as base
 use Rattle.run_commands.specs.declared.works.Work.{Work}
-use Rattle.run_commands.proofs.Closing.{close_keeps, close_laid, refused_keeps, refused_laid}
+use Rattle.run_commands.proofs.Closing.{close_keeps, close_laid, close_left, refused_keeps, refused_laid}
 use Rattle.run_commands.proofs.Endings.{holds_laid, holds_leave}
 
 -- ---- the place behind the end of the input
@@ -126,6 +126,11 @@ module _ (h : Head) (b : Base) (each : Bool) (live : Live) (is : b ≡ base.Runs
       → Keeps (PassesTurns (drains_of (state_in b)) d (held_in b)) (plan_in h) old new ga gb
   keeps_base d old new ga gb k = to_base (λ plan x. Keeps (PassesTurns (drains_of (state_in x)) d (held_in x)) plan old new ga gb) k
 
+  pub left_base : (saved : Saved) (d : Doing) (old new : History)
+      → LeavesAll old new (IsLeft live.checkpoint (drains_of (state_of live)) d saved)
+      → LeavesAll old new (IsLeft (checkpoint_in b) (drains_of (state_in b)) d saved)
+  left_base saved d old new h = subst (λ (x : Base). LeavesAll old new (IsLeft (checkpoint_in x) (drains_of (state_in x)) d saved)) (sym is) h
+
   pub laid_base : (first : ℕ) (saved : Saved) (d : Doing) (disk : History)
       → LeavesLaid first (saved_behind live.checkpoint (drains_of (state_of live)) d saved) live.checkpoint disk (plan_of live)
       (held_behind (drains_of (state_of live)) d (stored_state live))
@@ -161,6 +166,9 @@ module _ (p q : Place) (work : Work) (is : closing p ≡ Ok q) (stays : HeadStay
   pub closed_holds : HoldsBase first saved old (plan_in q.head) work.base
   closed_holds = subst (λ (plan : Plan). HoldsBase first saved old plan work.base) (sym same_plan) h
 
+  holds_now : HoldsBase first saved old (plan_in p.head) work.base
+  holds_now = h
+
   abbrev Rest : List Turn
   Rest = closing_turns drain (state_in work.base)
 
@@ -171,6 +179,11 @@ module _ (p q : Place) (work : Work) (is : closing p ≡ Ok q) (stays : HeadStay
       close_keeps (doing_of p work) (held_in work.base) Rest q is (plan_in p.head) old new ga gb
       (holds_leave first saved (checkpoint_in work.base) old (plan_in p.head) (held_in work.base) (store_in work.base) h)
       (subst (λ (plan : Plan). Keeps (PassesTurns Rest (doing_of q work) (held_in work.base)) plan old new ga gb) same_plan k)
+
+  pub closed_left : (new : History) → LeavesAll old new (IsLeft (checkpoint_in work.base) Rest (doing_of q work) saved)
+      → LeavesAll old new (IsLeft (checkpoint_in work.base) (ending_of drain (doing_of p work)) (doing_of p work) saved)
+  closed_left new h =
+      close_left (doing_of p work) Rest q is first saved (checkpoint_in work.base) old new (plan_in p.head) (held_in work.base) (store_in work.base) holds_now h
 
   pub closed_laid : (new : History)
       → LeavesLaid first (saved_behind (checkpoint_in work.base) Rest (doing_of q work) saved) (checkpoint_in work.base) new (plan_in q.head)

@@ -4,7 +4,9 @@ use Rattle.std.specs.Prelude.{Result, Ok, Err}
 use Rattle.std.proofs.KnownBytes.{Appends-nil}
 use Rattle.aria_base.specs.Streams.{AppendsFront}
 use Rattle.batch_core.specs.Steps.{State}
-use Rattle.disk_model.specs.Histories.{History}
+use Rattle.aria_store.specs.Stands.{Kept}
+use Rattle.disk_model.specs.Histories.{History, LeavesAll}
+use Rattle.disk_model.proofs.Spans.{leaves_more}
 use Rattle.proc_lang.specs.Catalogs.{Plan}
 use Rattle.script_course.proofs.Turns.{front_all}
 use Rattle.script_course.specs.Courses.{Course, Goes, Out, Stops, printed, refused_after}
@@ -18,14 +20,15 @@ use Rattle.serving.specs.Drains.{drains}
 use Rattle.serving.specs.Stored.{LeavesState}
 use Rattle.store_openings.specs.Saved.{Saved}
 use Rattle.run_commands.specs.Endings.{IsEnd, closing_turns, drains_of}
-use Rattle.run_commands.specs.Keeps.{Keeps, LeavesLaid}
+use Rattle.run_commands.specs.Keeps.{HoldsState, Keeps, LeavesLaid}
 use Rattle.run_commands.specs.Onces.{Doing, listed}
 use Rattle.run_commands.specs.Passes.{Close, Listed, PassesTurns, Turn, as_doing, held_behind, held_by_step, held_over, held_then, on_close, on_turn, over}
-use Rattle.run_commands.specs.Saves.{saved_behind, saved_then}
+use Rattle.run_commands.specs.Saves.{IsLeft, saved_behind, saved_then}
 use Rattle.run_commands.proofs.Draining.{going_is}
 use Rattle.run_commands.proofs.Endings.{drains_are, held_listed, held_still, laid_as, saved_listed, saved_still}
 use Rattle.run_commands.proofs.Kept.{keeps_cut, keeps_none, keeps_on, keeps_quiet}
 use Rattle.run_commands.proofs.Overs.{keeps_append, keeps_front}
+use Rattle.run_commands.proofs.Turns.{held_one, left_both, left_more, left_still, onward_none}
 
 -- ---- the listing behind all
 
@@ -72,6 +75,14 @@ module _ (plan : Plan) (each : Bool) (line : ℕ) (state : State) (d : Doing) (e
       laid_as first checkpoint disk plan saved (saved_behind checkpoint (Listed ∷ []) d saved) held (held_behind (Listed ∷ []) d held)
       (sym (saved_listed checkpoint [] d saved)) (sym (held_listed [] d held)) laid
 
+  -- what a stop leaves where all was drained, the listing included
+  pub drained_left : (drain : Bool) → drain ≡ true → (saved : Saved) (checkpoint : ℕ) (a b : History)
+      → LeavesAll a b (IsLeft checkpoint (drains_of state) d saved) → LeavesAll a b (IsLeft checkpoint (closing_turns drain state) d saved)
+  drained_left false on saved checkpoint a b h = absurd cc
+  drained_left true on saved checkpoint a b h =
+      leaves_more a b (IsLeft checkpoint (drains_of state) d saved) (IsLeft checkpoint (drains_of state ++ Listed ∷ []) d saved) h
+      (left_more checkpoint (drains_of state) (Listed ∷ []) d saved)
+
   -- where all was drained
   pub drained_laid : (drain : Bool) → drain ≡ true → (first : ℕ) (saved : Saved) (checkpoint : ℕ) (disk : History)
       → LeavesLaid first (saved_behind checkpoint (drains_of state) d saved) checkpoint disk plan (held_behind (drains_of state) d held)
@@ -104,6 +115,18 @@ module _ (plan : Plan) (each : Bool) (line : ℕ) (state : State) (d : Doing) (e
       (listed_keeps plan each line next Next end_next kept b gb gc result finishes leaves))
 
 -- ---- the end of the input
+
+-- what a stop leaves of it and of what follows
+module _ (d : Doing) (steps : List Turn) (q : Place) (is : closing d.place ≡ Ok q) (first : ℕ) (saved : Saved) (checkpoint : ℕ) (a b : History) where
+  pub close_left : (plan : Plan) (state : State) (store : Option Kept) → HoldsState first saved checkpoint a plan state store
+      → LeavesAll a b (IsLeft checkpoint steps (record d { place = q }) saved) → LeavesAll a b (IsLeft checkpoint (Close ∷ steps) d saved)
+  close_left plan state store h l =
+      let goes : on_turn d Close ≡ Goes [] (record d { place = q }) = ap (λ (r : Result Place RefusalKind). on_close d r) is in
+      let behind : saved_behind checkpoint (Close ∷ []) d saved ≡ saved =
+      held_one on_turn (saved_then checkpoint) Close d (record d { place = q }) saved [] goes ∙ saved_still checkpoint saved d (record d { place = q }) refl in
+      left_both checkpoint (Close ∷ []) steps d (record d { place = q }) saved [] (onward_none on_turn (on_turn d Close) ∙ goes) a a b
+      (left_still checkpoint first (Close ∷ []) d saved a plan state store h)
+      (subst (λ (s : Saved). LeavesAll a b (IsLeft checkpoint steps (record d { place = q }) s)) (sym behind) l)
 
 module _ (d : Doing) (held : State) (steps : List Turn) where
   module _ (q : Place) (is : closing d.place ≡ Ok q) where

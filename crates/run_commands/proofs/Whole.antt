@@ -3,7 +3,8 @@ use Rattle.std.proofs.Common.{◌≡◌, ◌⊎◌, inl, inr, ◌∙◌, sym, ap
 use Rattle.std.specs.Prelude.{Result, Ok, Err, IfSome}
 use Rattle.std.specs.Io.KnownBytes.{Appends}
 use Rattle.batch_core.specs.Steps.{State}
-use Rattle.disk_model.specs.Histories.{History}
+use Rattle.disk_model.specs.Histories.{History, LeavesAll}
+use Rattle.disk_model.proofs.Spans.{leaves_more}
 use Rattle.proc_lang.specs.Catalogs.{Plan}
 use Rattle.script_course.specs.Courses.{Course, Goes, Stops, behind, told_whole, with_last}
 use Rattle.script_course.specs.Served.{IsGoing, IsStopped, Reaches}
@@ -16,11 +17,11 @@ use Rattle.run_commands.specs.Keeps.{Keeps, LeavesLaid, held_of}
 use Rattle.run_commands.specs.Onces.{Doing, Running, on_line}
 use Rattle.run_commands.specs.Outs.{no_line, text_turns}
 use Rattle.run_commands.specs.Passes.{PassesTurns, Turn, ending_behind, ending_of, held_behind, held_then, last, on_turn, onward, over, turns, turns_whole}
-use Rattle.run_commands.specs.Saves.{saved_behind, saved_then}
+use Rattle.run_commands.specs.Saves.{IsLeft, saved_behind, saved_then}
 use Rattle.run_commands.specs.Turns.{HoldsScript, KeepsTurns, saved_over}
 use Rattle.run_commands.proofs.Endings.{laid_as}
 use Rattle.run_commands.proofs.Overs.{keeps_append, keeps_front}
-use Rattle.run_commands.proofs.Turns.{held_goes, held_stops, onward_none, over_append, scan_over}
+use Rattle.run_commands.proofs.Turns.{held_goes, held_stops, left_both, left_more, onward_none, over_append, scan_over}
 use Rattle.script_places.specs.Places.{plan_in}
 
 -- ---- a text as turns
@@ -108,6 +109,21 @@ module _ (drain : Bool) (first : ℕ) (saved : Saved) (start : Running) (a b : H
         (subst (λ (n : ℕ). LeavesLaid first after n c Plan0 held) k.stays.checkpoint
         (subst (λ (p : Plan). LeavesLaid first after next.checkpoint c p held) k.stays.plan (ends k.stays.holds)))
 
+    text_left : (HoldsScript first (Here text) b next → LeavesAll b c (IsLeft next.checkpoint (ending_of drain next.doing) next.doing (Here text)))
+        → LeavesAll a c (IsLeft start.checkpoint (text_turns drain start.doing text) start.doing saved)
+    text_left ends =
+        subst (λ (t : List Turn). LeavesAll a c (IsLeft start.checkpoint t start.doing saved)) (sym turns_are)
+        (left_both start.checkpoint (Steps text) (ending_of drain next.doing) start.doing next.doing saved went_on.0 over_is a b c k.left
+        (subst (λ (n : ℕ). LeavesAll b c (IsLeft n (ending_of drain next.doing) next.doing (Here text))) k.stays.checkpoint (ends k.stays.holds)))
+
+  pub left_on_end : (left : Option (List ℕ)) (next : Running) (c : History) (gc : Option (List ℕ))
+      → IfSome left (λ text. Reaches (Told text) ga gb (Ok next.doing))
+      → IfSome left (λ text. KeepsTurns first saved (Steps text) start a b ga gb (Ok next))
+      → ((here : Saved) → HoldsScript first here b next → LeavesAll b c (IsLeft next.checkpoint (ending_of drain next.doing) next.doing here))
+      → IfSome left (λ text. LeavesAll a c (IsLeft start.checkpoint (text_turns drain start.doing text) start.doing saved))
+  left_on_end None next c gc reaches k ends = tt
+  left_on_end (Some text) next c gc reaches k ends = text_left next c gc text reaches k (ends (Here text))
+
   pub keeps_on_end : (left : Option (List ℕ)) (next : Running) (c : History) (gc : Option (List ℕ))
       → IfSome left (λ text. Reaches (Told text) ga gb (Ok next.doing))
       → IfSome left (λ text. KeepsTurns first saved (Steps text) start a b ga gb (Ok next))
@@ -133,6 +149,14 @@ module _ (drain : Bool) (first : ℕ) (saved : Saved) (start : Running) (a b : H
   keeps_on_cut None why k = tt
   keeps_on_cut (Some text) why k = keeps_front on_turn held_then Plan0 (Steps text) (ending_behind drain (Told text)) start.doing
       (held_of start) a b ga gb k.keeps
+
+  pub left_on_cut : (left : Option (List ℕ)) (why : Stop) → IfSome left (λ text. KeepsTurns first saved (Steps text) start a b ga gb (Err why))
+      → IfSome left (λ text. LeavesAll a b (IsLeft start.checkpoint (text_turns drain start.doing text) start.doing saved))
+  left_on_cut None why k = tt
+  left_on_cut (Some text) why k =
+      let rest = ending_behind drain (Told text) in
+      leaves_more a b (IsLeft start.checkpoint (Steps text) start.doing saved) (IsLeft start.checkpoint (Steps text ++ rest) start.doing saved) k.left
+      (left_more start.checkpoint (Steps text) rest start.doing saved)
 
   laid_cut : (why : Stop) (text : List ℕ) → why ≡ stop.Refused → Reaches (Told text) ga gb (Err why)
       → KeepsTurns first saved (Steps text) start a b ga gb (Err why)

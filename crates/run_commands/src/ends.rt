@@ -12,7 +12,8 @@ ghost use Rattle.run_commands.specs.Endings.{HoldsBase, IsEnd, closing_turns, dr
 ghost use Rattle.run_commands.specs.Keeps.{IsOpen, Keeps, LeavesLaid, held_of};
 ghost use Rattle.run_commands.specs.Onces.{Doing, drained, listed, on_end};
 ghost use Rattle.run_commands.specs.Passes.{PassesTurns, ending_of, held_behind};
-ghost use Rattle.run_commands.specs.Saves.{saved_behind};
+ghost use Rattle.run_commands.specs.Saves.{IsLeft, saved_behind};
+ghost use Rattle.disk_model.specs.Histories.{LeavesAll};
 ghost use Rattle.run_commands.specs.Turns.{HoldsScript, saved_over};
 ghost use Rattle.store_openings.specs.Saved.{Saved};
 ghost use Rattle.script_places.specs.Places.{plan_in};
@@ -49,6 +50,10 @@ pub(crate) fn end_of<K: Sink, D: Disk, P: Pace + Sync, R: Threads + Sync>(
     ensures keeps { (first : ℕ) (saved : Saved) → HoldsScript first saved (D.history disk.old) script
         → Keeps (PassesTurns (ending_of drains script.doing) script.doing (held_of script)) (plan_in script.doing.place.head)
         (D.history disk.old) (D.history disk.new) (K.given out.old) (K.given out.new) }
+
+    // It leaves just what stands behind some first ones of what is done.
+    ensures left { (first : ℕ) (saved : Saved) → HoldsScript first saved (D.history disk.old) script
+        → LeavesAll (D.history disk.old) (D.history disk.new) (IsLeft script.checkpoint (ending_of drains script.doing) script.doing saved) }
 
     // Behind the end, and where something is refused, the disk holds the state behind all batches that were run.
     ensures laid { (first : ℕ) (saved : Saved) → HoldsScript first saved (D.history disk.old) script
@@ -92,6 +97,9 @@ fn close<K: Sink, D: Disk, P: Pace + Sync, R: Threads + Sync>(
         → HoldsBase first saved (D.history disk.old) (plan_in head.now) work.base
         → Keeps (PassesTurns (closing_turns drains (state_in work.base)) d (held_in work.base)) (plan_in head.now)
         (D.history disk.old) (D.history disk.new) (K.given out.old) (K.given out.new) }
+    ensures left { (first : ℕ) (saved : Saved) (d : Doing) → IsEnd (plan_in head.now) work.each line (state_in work.base) d
+        → HoldsBase first saved (D.history disk.old) (plan_in head.now) work.base
+        → LeavesAll (D.history disk.old) (D.history disk.new) (IsLeft (checkpoint_in work.base) (closing_turns drains (state_in work.base)) d saved) }
     ensures laid { (first : ℕ) (saved : Saved) (d : Doing) → IsEnd (plan_in head.now) work.each line (state_in work.base) d
         → HoldsBase first saved (D.history disk.old) (plan_in head.now) work.base
         → (result ≡ Ok DONE) ⊎ (result ≡ Err stop.Refused)
@@ -133,6 +141,9 @@ fn drained<K: Sink, D: Disk, P: Pace + Sync, R: Threads + Sync>(
         → HoldsBase first saved (D.history disk.old) (plan_in head.now) base
         → Keeps (PassesTurns (drains_of (state_in base)) d (held_in base)) (plan_in head.now) (D.history disk.old) (D.history disk.new)
         (K.given out.old) (K.given out.new) }
+    ensures left { (first : ℕ) (saved : Saved) (d : Doing) → IsEnd (plan_in head.now) each line (state_in base) d
+        → HoldsBase first saved (D.history disk.old) (plan_in head.now) base
+        → LeavesAll (D.history disk.old) (D.history disk.new) (IsLeft (checkpoint_in base) (drains_of (state_in base)) d saved) }
     ensures holds { (first : ℕ) (saved : Saved) (d : Doing) → IsEnd (plan_in head.now) each line (state_in base) d
         → HoldsBase first saved (D.history disk.old) (plan_in head.now) base
         → IfOk result (HoldsBase first (saved_behind (checkpoint_in base) (drains_of (state_in base)) d saved) (D.history disk.new) (plan_in head.now)) }

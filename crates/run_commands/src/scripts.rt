@@ -7,6 +7,7 @@ ghost use Rattle.script_course.specs.Causes.{IsCause};
 ghost use Rattle.script_course.specs.Courses.{Goes};
 ghost use Rattle.script_course.specs.Served.{Serves};
 ghost use Rattle.serving.specs.declared.batches.Delivery.TheVariants as delivery;
+ghost use Rattle.disk_model.specs.Histories.{LeavesAll};
 ghost use Rattle.image_text.specs.Payloads.{Batch};
 ghost use Rattle.serving.specs.Stored.{Holds};
 ghost use Rattle.slot_images.specs.Images.{Checkpoint};
@@ -19,7 +20,7 @@ ghost use Rattle.run_commands.specs.Onces.{Doing, behind_batch, doing_result, do
 ghost use Rattle.run_commands.specs.Outs.{start_by};
 ghost use Rattle.run_commands.specs.Stops.{IsStopFor};
 ghost use Rattle.run_commands.specs.Passes.{Line, PassesTurns, held_then};
-ghost use Rattle.run_commands.specs.Saves.{saved_then};
+ghost use Rattle.run_commands.specs.Saves.{IsLeft, saved_then};
 ghost use Rattle.store_openings.specs.Saved.{Saved};
 ghost use Rattle.run_commands.specs.Turns.{HoldsScript, KeepsTurns, Stays};
 ghost use Rattle.run_commands.specs.Standing.{MayCall, MayClose, MayDo, MayPut, MayRun, MaySet, Stands, doing_of, running_of, runs_batch};
@@ -166,6 +167,12 @@ impl Work {
             → before.state ≡ state_in self.base → on_line before line ≡ done (doing_of place self) deed
             → Keeps (PassesTurns (Line line ∷ []) before (held_of (running_of place self))) (plan_in place.head) (D.history disk.old) (D.history disk.new)
             (K.given out.old) (K.given out.new) }
+
+        // It leaves just what stood there, or that with the batch in the log, or what stands behind the line.
+        ensures left { (first : ℕ) (saved : Saved) → HoldsScript first saved (D.history disk.old) (running_of place self)
+            → (before : Doing) (line : List ℕ) → before.state ≡ state_in self.base → before.calls ≡ self.calls.items
+            → on_line before line ≡ done (doing_of place self) deed
+            → LeavesAll (D.history disk.old) (D.history disk.new) (IsLeft (checkpoint_in self.base) (Line line ∷ []) before saved) }
 
         // The state behind it is held by the script that goes on, by the last checkpoint that was due.
         ensures stays { (first : ℕ) (saved : Saved) → HoldsScript first saved (D.history disk.old) (running_of place self)
@@ -339,6 +346,12 @@ impl Work {
             → before.state ≡ state_in self.base → on_line before line ≡ Goes (text_of (doing_of place self)) (behind_batch (doing_of place self))
             → Keeps (PassesTurns (Line line ∷ []) before (held_of (running_of place self))) (plan_in place.head) (D.history disk.old) (D.history disk.new)
             (K.given out.old) (K.given out.new) }
+
+        // It leaves just what stood there, or that with the batch in the log, or what stands behind the line.
+        ensures left { (first : ℕ) (saved : Saved) → HoldsScript first saved (D.history disk.old) (running_of place self)
+            → (before : Doing) (line : List ℕ) → before.state ≡ state_in self.base → before.calls ≡ self.calls.items
+            → on_line before line ≡ Goes (text_of (doing_of place self)) (behind_batch (doing_of place self))
+            → LeavesAll (D.history disk.old) (D.history disk.new) (IsLeft (checkpoint_in self.base) (Line line ∷ []) before saved) }
 
         // The state behind it is held by the script that goes on, by the last checkpoint that was due.
         ensures stays { (first : ℕ) (saved : Saved) → HoldsScript first saved (D.history disk.old) (running_of place self)

@@ -11,7 +11,9 @@ ghost use Rattle.run_commands.specs.Keeps.{IsOpen, Keeps, LeavesLaid, held_of};
 ghost use Rattle.run_commands.specs.Onces.{on_end, on_line};
 ghost use Rattle.run_commands.specs.Outs.{no_line, text_turns};
 ghost use Rattle.run_commands.specs.Passes.{PassesTurns, held_behind};
+ghost use Rattle.run_commands.specs.Saves.{IsLeft};
 ghost use Rattle.run_commands.specs.Turns.{HoldsScript, saved_over};
+ghost use Rattle.disk_model.specs.Histories.{LeavesAll};
 ghost use Rattle.store_openings.specs.Saved.{Saved};
 ghost use Rattle.script_places.specs.Places.{plan_in};
 
@@ -44,6 +46,9 @@ pub(crate) fn run_text<S: Source, K: Sink, D: Disk, P: Pace + Sync, R: Threads +
     ensures keeps { (first : ℕ) (saved : Saved) → HoldsScript first saved (D.history disk.old) start
         → IfSome (S.left input.old) (λ text. Keeps (PassesTurns (text_turns drains start.doing text) start.doing (held_of start))
         (plan_in start.doing.place.head) (D.history disk.old) (D.history disk.new) (K.given out.old) (K.given out.new)) }
+    ensures left { (first : ℕ) (saved : Saved) → HoldsScript first saved (D.history disk.old) start
+        → IfSome (S.left input.old) (λ text. LeavesAll (D.history disk.old) (D.history disk.new)
+        (IsLeft start.checkpoint (text_turns drains start.doing text) start.doing saved)) }
     ensures laid { (first : ℕ) (saved : Saved) → HoldsScript first saved (D.history disk.old) start → (result ≡ Ok DONE) ⊎ (result ≡ Err stop.Refused)
         → IfSome (S.left input.old) (λ text. LeavesLaid first (saved_over (text_turns drains start.doing text) start saved) start.checkpoint
         (D.history disk.new) (plan_in start.doing.place.head) (held_behind (text_turns drains start.doing text) start.doing (held_of start))) }

@@ -4,14 +4,15 @@ use Rattle.aria_base.specs.Faults.{Rose}
 use Rattle.batch_core.specs.Steps.{State}
 use Rattle.script_course.specs.declared.stops.Stop.TheVariants as stop
 use Rattle.run_commands.specs.Bases.{checkpoint_in, state_in, store_in}
-use Rattle.run_commands.specs.Endings.{drains_of, held_in}
+use Rattle.run_commands.specs.Endings.{closing_turns, drains_of, held_in}
 use Rattle.run_commands.specs.Keeps.{LeavesLaid}
 use Rattle.run_commands.specs.Passes.{held_behind}
 use Rattle.run_commands.specs.Saves.{saved_behind}
-use Rattle.run_commands.proofs.Closing.{drained_keeps, drained_laid, drained_stop, quiet_keeps, quiet_laid, refused_as}
+use Rattle.run_commands.proofs.Closing.{drained_keeps, drained_laid, drained_left, drained_stop, quiet_keeps, quiet_laid, refused_as}
 use Rattle.run_commands.proofs.Ending.{drained_by, drained_cut}
 use Rattle.run_commands.proofs.Endings.{holds_laid, holds_leave}
 use Rattle.run_commands.proofs.Stepped.{causes_more}
+use Rattle.run_commands.proofs.Turns.{left_still}
 use Rattle.run_commands.proofs.ends.close.Goals as goal
 use Rattle.script_places.specs.Places.{plan_in}
 
@@ -104,3 +105,25 @@ returns-clause-laid g c = λ first saved d end h which.
           (g.D.Disk.history c.drained.new.disk)
           (c.in-Err.ensures.refused first saved d end h (refused_as c.in-Err.stop stop.Refused e))
     ]
+
+-- ---- what a stop leaves
+
+pub returns-then-not-drains-clause-left : goal.returns-then-not-drains-clause-left
+returns-then-not-drains-clause-left g c = λ first saved d end h.
+    let b = c.args.work.base in
+    left_still (checkpoint_in b) first (closing_turns c.args.drains (state_in b)) d saved (g.D.Disk.history c.args.disk.now) (plan_in c.args.head.now)
+    (held_in b) (store_in b) h
+
+pub returns-in-Ok-clause-left : goal.returns-in-Ok-clause-left
+returns-in-Ok-clause-left g c = λ first saved d end h.
+    let on : c.args.drains ≡ true = grind (arith, c.if-not-drains.false) in
+    let b = c.args.work.base in
+    drained_left (plan_in c.args.head.now) c.args.work.each c.args.line (state_in b) d end (held_in b) c.args.drains on saved (checkpoint_in b)
+    (g.D.Disk.history c.args.disk.now) (g.D.Disk.history c.drained.new.disk) (c.drained.ensures.left first saved d end h)
+
+pub returns-clause-left : goal.returns-clause-left
+returns-clause-left g c = λ first saved d end h.
+    let on : c.args.drains ≡ true = grind (arith, c.if-not-drains.false) in
+    let b = c.args.work.base in
+    drained_left (plan_in c.args.head.now) c.args.work.each c.args.line (state_in b) d end (held_in b) c.args.drains on saved (checkpoint_in b)
+    (g.D.Disk.history c.args.disk.now) (g.D.Disk.history c.drained.new.disk) (c.drained.ensures.left first saved d end h)

@@ -65,7 +65,8 @@ returns-in-Ok-clause-keeps g c = λ first saved.
     line_kept place after work c.self.invariant counts c.counts-counts.ensures line asks c.in-Ok.ensures first saved old h new ga gb c.with.result serves
     (c.with.ensures.keeps saved.c saved.later (doing_of place work) line held.stands.holds refl moves)
     (c.with.ensures.stays first saved held (doing_of place work) refl refl)
-    (c.with.ensures.held first saved held (doing_of place work) refl))
+    (c.with.ensures.held first saved held (doing_of place work) refl)
+    (c.with.ensures.left first saved held (doing_of place work) line refl refl moves))
 
 pub returns-in-Err-Memory-clause-keeps : goal.returns-in-Err-Memory-clause-keeps
 returns-in-Err-Memory-clause-keeps g c = λ first saved h.
