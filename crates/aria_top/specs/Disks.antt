@@ -6,7 +6,7 @@ use Rattle.checkpoint.specs.Slots.{is_open}
 use Rattle.command_words.specs.declared.settings.Init.{Init}
 use Rattle.command_words.specs.declared.settings.Run.{Run}
 use Rattle.disk_model.specs.Histories.{History, LeavesAll, MayLeave, Still}
-use Rattle.run_commands.specs.Resumes.{HoldsOver, LeavesOver}
+use Rattle.run_commands.specs.Resumes.{HoldsOver, LeavesOver, StandsOver}
 use Rattle.script_course.specs.declared.statuses.TheConstants.{DONE, READ_FAULT, REFUSED, STORE_REFUSED}
 use Rattle.store_commands.specs.Inits as init
 use Rattle.store_openings.specs.Openings.{ReadsAs, opened}
@@ -42,6 +42,7 @@ pub record InitLeaves (settings : Init) (taken : Bool) (left : Option (List ℕ)
 pub record RunLeaves (settings : Run) (images : ℕ → List ℕ) (found : Reopened) (left : Option (List ℕ)) (was is : History)
     (old new : Option (List ℕ)) (status : ℕ) : Type 0 where
   pub leaves : IfSome left (λ text. LeavesOver settings (opened images found) text was is old new)
+  pub stands : IfSome left (λ text. StandsOver settings images (opened images found) text was is old new)
   pub holds : (status ≡ DONE) ⊎ (status ≡ REFUSED) → IfSome left (λ text. HoldsOver settings images (opened images found) text is)
 
 -- Of the disk is asked what each of these needs to know of it, and of `replay` nothing. A task that does not use the disk has a clause of

@@ -1,7 +1,6 @@
 -- What a stop leaves of a turn that runs a batch.
 use Rattle.std.proofs.Common.{◌≡◌, ◌∙◌, inl, inr, sym, ap, subst, refl, ℕ, ◌+◌, Bool, true, List, [], ◌∷◌, ◌++◌}
 use Rattle.aria_base.specs.declared.calls.Call.{Call}
-use Rattle.aria_store.specs.Reopens.{Found, Reopens}
 use Rattle.aria_store.specs.Stands.{added}
 use Rattle.batch_core.specs.Steps.{State}
 use Rattle.disk_model.specs.Histories.{History, LeavesAll}
@@ -14,7 +13,7 @@ use Rattle.serving.specs.declared.lives.Live.{Live}
 use Rattle.store_openings.specs.Saved.{HoldsSaved, Saved, laid, laid_where}
 use Rattle.run_commands.specs.Onces.{Doing, handed_in}
 use Rattle.run_commands.specs.Passes.{Turn, on_turn}
-use Rattle.run_commands.specs.Saves.{IsLeft, saved_behind, saved_more, saved_then, with_batch}
+use Rattle.run_commands.specs.Saves.{IsLeft, ReadsAs, saved_behind, saved_more, saved_then, with_batch}
 use Rattle.run_commands.proofs.Endings.{ran_then}
 use Rattle.run_commands.proofs.Turned.{due_next}
 use Rattle.run_commands.proofs.Turns.{held_one}
@@ -43,7 +42,7 @@ module _ (live : Live) (calls : List Call) (turn : Turn) (d next : Doing) (text 
   one : (images : ℕ → List ℕ)
       → ReopensOnWay (next_due live calls) saved.c saved.later Added (plan_of live) (stored_state live) After images
       → IsLeft live.checkpoint (turn ∷ []) d saved images
-  one images (inl was) = record { front = []; rest = turn ∷ []; are = refl; reads = inl was.reopens }
+  one images (inl was) = record { front = []; rest = turn ∷ []; are = refl; reads = inl (was.reopens, was.roomy) }
   one images (inr (inl more)) = record {
     front = [];
     rest = turn ∷ [];
@@ -59,14 +58,14 @@ module _ (live : Live) (calls : List Call) (turn : Turn) (d next : Doing) (text 
       next = next;
       runs = is;
       counted = counted;
-      reads = subst (λ (b : Batch). Reopens images (Found saved.c (saved.later ++ b ∷ []))) batch more.reopens;
+      reads = subst (λ (b : Batch). ReadsAs saved.c (saved.later ++ b ∷ []) images) batch (more.reopens, more.roomy);
     });
   }
   one images (inr (inr turned)) = record {
     front = turn ∷ [];
     rest = [];
     are = refl;
-    reads = inl (subst (λ (s : Saved). Reopens images (Found s.c s.later)) (sym (laid_is turned.0)) turned.1.reopens);
+    reads = inl (subst (λ (s : Saved). ReadsAs s.c s.later images) (sym (laid_is turned.0)) (turned.1.reopens, turned.1.roomy));
   }
 
   pub batch_left : (new : History)

@@ -7,7 +7,6 @@ use Rattle.std.proofs.lemmas.List.Elements.{All-drop, All-head}
 use Rattle.std.specs.List.{All}
 use Rattle.aria_base.specs.declared.limits.TheConstants.{LONGEST_LINE}
 use Rattle.batch_core.specs.Steps.{State}
-use Rattle.aria_store.specs.Reopens.{Found, Reopens}
 use Rattle.aria_store.specs.Stands.{Kept}
 use Rattle.disk_model.specs.Histories.{History, LeavesAll}
 use Rattle.disk_model.proofs.Spans.{leaves_more, leaves_still, leaves_then, still_none}
@@ -25,7 +24,7 @@ use Rattle.run_commands.specs.Keeps.{HoldsState, Keeps, LeavesLaid, held_of}
 use Rattle.run_commands.specs.Onces.{Doing, Running, doing_result, handed_in, on_line}
 use Rattle.run_commands.specs.Passes.{Line, PassesTurns, Past, Turn, held_behind, held_by_step, held_over, held_then, on_turn, onward, over, past, turns}
 use Rattle.store_openings.specs.Saved.{Saved}
-use Rattle.run_commands.specs.Saves.{HasFront, HasLogged, IsLeft, saved_behind, saved_then}
+use Rattle.run_commands.specs.Saves.{HasFront, HasLogged, IsLeft, ReadsAs, saved_behind, saved_then}
 use Rattle.run_commands.specs.Turns.{HoldsScript, KeepsTurns, Stays, saved_over}
 use Rattle.run_commands.proofs.Endings.{holds_laid, holds_leave, laid_as}
 use Rattle.run_commands.proofs.Kept.{keeps_none, keeps_quiet}
@@ -204,7 +203,7 @@ module _ (checkpoint : ℕ) where
         by : HasFront checkpoint l.front next (saved_behind checkpoint steps d saved) images
             ⊎ HasLogged checkpoint l.front l.rest next (saved_behind checkpoint steps d saved) images
             → HasFront checkpoint (steps ++ l.front) d saved images ⊎ HasLogged checkpoint (steps ++ l.front) l.rest d saved images
-        by (inl h) = inl (subst (λ (s : Saved). Reopens images (Found s.c s.later)) (sym (saved_on l.front)) h)
+        by (inl h) = inl (subst (λ (s : Saved). ReadsAs s.c s.later images) (sym (saved_on l.front)) h)
         by (inr h) = inr (record {
           turn = h.turn;
           more = h.more;
@@ -216,7 +215,7 @@ module _ (checkpoint : ℕ) where
           next = h.next;
           runs = h.runs;
           counted = h.counted;
-          reads = subst (λ (s : Saved). Reopens images (Found s.c (s.later ++ batch_of (handed_in h.here) ∷ []))) (sym (saved_on l.front)) h.reads;
+          reads = subst (λ (s : Saved). ReadsAs s.c (s.later ++ batch_of (handed_in h.here) ∷ []) images) (sym (saved_on l.front)) h.reads;
         })
 
     -- both parts
@@ -231,12 +230,9 @@ module _ (checkpoint : ℕ) where
   pub left_still : (first : ℕ) (steps : List Turn) (d : Doing) (saved : Saved) (disk : History) (plan : Plan) (state : State) (store : Option Kept)
       → HoldsState first saved checkpoint disk plan state store → LeavesAll disk disk (IsLeft checkpoint steps d saved)
   left_still first steps d saved disk plan state store h =
-      leaves_still disk disk (IsLeft checkpoint steps d saved) (still_none disk) (λ images left. record {
-        front = [];
-        rest = steps;
-        are = refl;
-        reads = inl (holds_laid first saved checkpoint disk plan state store h images left).reopens;
-      })
+      leaves_still disk disk (IsLeft checkpoint steps d saved) (still_none disk) (λ images left.
+      let here = holds_laid first saved checkpoint disk plan state store h images left in
+      record { front = []; rest = steps; are = refl; reads = inl (here.reopens, here.roomy) })
 
 -- ---- what is kept, of one turn and of many
 

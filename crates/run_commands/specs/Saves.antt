@@ -1,10 +1,11 @@
 -- Which checkpoint stands while a script runs over a store, and which batches behind it; and what a stop leaves of that.
-use Rattle.std.specs.Prelude.{◌≡◌, ◌⊎◌, ℕ, ◌+◌, ◌==◌, if◌then◌else◌, List, [], ◌∷◌, ◌++◌, length}
+use Rattle.std.specs.Prelude.{◌≡◌, ◌⊎◌, ℕ, ◌+◌, ◌==◌, if◌then◌else◌, List, [], ◌∷◌, ◌++◌, length, None}
 use Rattle.aria_store.specs.Reopens.{Found, Reopens}
 use Rattle.batch_core.specs.Steps.{State}
 use Rattle.image_text.specs.Payloads.{Batch, payload_text}
 use Rattle.script_course.specs.Courses.{Goes}
-use Rattle.serving.specs.Stored.{batch_of, is_due}
+use Rattle.serving.specs.Stored.{batch_of, crowded, is_due}
+use Rattle.slot_images.specs.Images.{Checkpoint}
 use Rattle.store_openings.specs.Saved.{Saved, laid_where}
 use Rattle.run_commands.specs.Onces.{Doing, handed_in}
 use Rattle.run_commands.specs.Passes.{Turn, held_over, on_turn, over}
@@ -34,10 +35,14 @@ saved_behind checkpoint steps d saved = held_over on_turn (saved_then checkpoint
 
 -- ---- what a stop leaves of turns
 
+-- these four files are just this checkpoint with these batches behind it, which all have room
+abbrev pub ReadsAs : Checkpoint → List Batch → (ℕ → List ℕ) → Type 0
+ReadsAs c later images = Reopens images (Found c later) × (crowded c later ≡ None)
+
 -- the store has what stands behind these first turns
 abbrev pub HasFront : ℕ → List Turn → Doing → Saved → (ℕ → List ℕ) → Type 0
 HasFront checkpoint front d saved images =
-    Reopens images (Found (saved_behind checkpoint front d saved).c (saved_behind checkpoint front d saved).later)
+    ReadsAs (saved_behind checkpoint front d saved).c (saved_behind checkpoint front d saved).later images
 
 -- or that with the batch of the next turn in its log, before a checkpoint that is due behind it
 pub record HasLogged (checkpoint : ℕ) (front rest : List Turn) (d : Doing) (saved : Saved) (images : ℕ → List ℕ) : Type 0 where
@@ -51,8 +56,7 @@ pub record HasLogged (checkpoint : ℕ) (front rest : List Turn) (d : Doing) (sa
   pub next : Doing
   pub runs : on_turn here turn ≡ Goes text next
   pub counted : next.state.batches ≡ here.state.batches + 1
-  pub reads : Reopens images (Found (saved_behind checkpoint front d saved).c
-      ((saved_behind checkpoint front d saved).later ++ batch_of (handed_in here) ∷ []))
+  pub reads : ReadsAs (saved_behind checkpoint front d saved).c ((saved_behind checkpoint front d saved).later ++ batch_of (handed_in here) ∷ []) images
 
 -- some first ones of these turns, all of them or none
 pub record IsLeft (checkpoint : ℕ) (steps : List Turn) (d : Doing) (saved : Saved) (images : ℕ → List ℕ) : Type 0 where

@@ -15,8 +15,9 @@ ghost use Rattle.store_openings.specs.Openings.{ReadsAs, opened};
 ghost use Rattle.run_commands.specs.Endings.{HoldsLive};
 ghost use Rattle.run_commands.specs.Keeps.{Keeps, LeavesLaid};
 ghost use Rattle.run_commands.specs.Passes.{PassesTurns, held_behind};
-ghost use Rattle.run_commands.specs.Resumes.{CompletesOver, HoldsOver, LeavesOver, out_from, over, told_from, turns_over};
-ghost use Rattle.run_commands.specs.Saves.{saved_behind};
+ghost use Rattle.run_commands.specs.Resumes.{CompletesOver, HoldsOver, LeavesOver, StandsOver, out_from, over, told_from, turns_over};
+ghost use Rattle.run_commands.specs.Saves.{IsLeft, saved_behind};
+ghost use Rattle.disk_model.specs.Histories.{LeavesAll};
 ghost use Rattle.store_openings.specs.Saved.{Saved};
 
 use crate::once_command::is_each;
@@ -56,6 +57,12 @@ pub fn run<S: Source, K: Sink, D: Disk, P: Pace + Sync, R: Threads + Sync>(
     // all that were answered, and at most one more.
     ensures leaves { (images : ℕ → List ℕ) (found : Reopened) → ReadsAs (D.history disk.old) images → Reopens images found
         → IfSome (S.left input.old) (λ text. LeavesOver settings.now (opened images found) text (D.history disk.old) (D.history disk.new)
+        (K.given out.old) (K.given out.new)) }
+
+    // It leaves just the checkpoint and the batches that stand behind some first lines, or that with the batch at
+    // work in the log.
+    ensures stands { (images : ℕ → List ℕ) (found : Reopened) → ReadsAs (D.history disk.old) images → Reopens images found
+        → IfSome (S.left input.old) (λ text. StandsOver settings.now images (opened images found) text (D.history disk.old) (D.history disk.new)
         (K.given out.old) (K.given out.new)) }
 
     // Where the script was read to its end or to a refused line, exactly those that were answered, behind the
@@ -110,6 +117,9 @@ fn run_over<S: Source, K: Sink, D: Disk, P: Pace + Sync, R: Threads + Sync>(
     ensures keeps { (first : ℕ) (saved : Saved) → HoldsLive first saved (D.history disk.old) live
         → IfSome (S.left input.old) (λ text. Keeps (PassesTurns (turns_over settings.now.drain (over live) text) (over live) (stored_state live)) (plan_of live)
         (D.history disk.old) (D.history disk.new) (K.given out.old) (K.given out.new)) }
+    ensures left { (first : ℕ) (saved : Saved) → HoldsLive first saved (D.history disk.old) live
+        → IfSome (S.left input.old) (λ text. LeavesAll (D.history disk.old) (D.history disk.new)
+        (IsLeft live.checkpoint (turns_over settings.now.drain (over live) text) (over live) saved)) }
     ensures laid { (first : ℕ) (saved : Saved) → HoldsLive first saved (D.history disk.old) live → (result ≡ Ok DONE) ⊎ (result ≡ Err stop.Refused)
         → IfSome (S.left input.old) (λ text. LeavesLaid first (saved_behind live.checkpoint (turns_over settings.now.drain (over live) text) (over live) saved)
         live.checkpoint (D.history disk.new) (plan_of live) (held_behind (turns_over settings.now.drain (over live) text) (over live) (stored_state live))) }

@@ -1,5 +1,5 @@
 use Rattle.run_commands.specs.Resumes.{over}
-use Rattle.run_commands.proofs.Resumed.{completes_at, completes_cut_at, completes_memory, keeps_at, keeps_cut_at, keeps_memory, laid_at, open_over, script_told}
+use Rattle.run_commands.proofs.Resumed.{completes_at, completes_cut_at, completes_memory, keeps_at, keeps_cut_at, keeps_memory, laid_at, left_at, left_over_none, open_over, script_told}
 use Rattle.run_commands.proofs.resumes.run_over.Goals as goal
 
 pub run_text-requires-clause-open : goal.run_text-requires-clause-open
@@ -53,3 +53,21 @@ returns-in-Err-clause-keeps g c first saved holds =
     keeps_cut_at c.args.settings.now.drain first saved c.args.live (g.D.Disk.history c.args.disk.now) (g.K.Sink.given c.args.out.now)
     (g.K.Sink.given c.tell_batches.new.out) holds c.in-Ok.script (g.S.Source.left c.args.input.now)
     c.in-Err.stop c.in-Ok.ensures.doing c.in-Ok.ensures.store c.in-Ok.ensures.checkpoint c.in-Err.ensures.serves
+
+pub returns-in_default-clause-left : goal.returns-in_default-clause-left
+returns-in_default-clause-left g c first saved holds =
+    left_over_none c.args.settings.now.drain first saved c.args.live (g.D.Disk.history c.args.disk.now) (g.K.Sink.given c.args.out.now)
+    (g.K.Sink.given c.args.out.now) holds (g.S.Source.left c.args.input.now)
+
+pub returns-in-Ok-tell_batches-clause-left : goal.returns-in-Ok-tell_batches-clause-left
+returns-in-Ok-tell_batches-clause-left g c first saved holds =
+    left_at c.args.settings.now.drain first saved c.args.live (g.D.Disk.history c.args.disk.now) (g.K.Sink.given c.args.out.now)
+    (g.K.Sink.given c.tell_batches.new.out) holds c.in-Ok.script c.in-Ok-tell_batches.script
+    (g.S.Source.left c.args.input.now) (g.D.Disk.history c.run_text.new.disk) c.in-Ok.ensures.doing c.in-Ok.ensures.store c.in-Ok.ensures.checkpoint
+    c.in-Ok-tell_batches.ensures.serves
+    (λ h. c.run_text.ensures.left first saved h)
+
+pub returns-in-Err-clause-left : goal.returns-in-Err-clause-left
+returns-in-Err-clause-left g c first saved holds =
+    left_over_none c.args.settings.now.drain first saved c.args.live (g.D.Disk.history c.args.disk.now) (g.K.Sink.given c.args.out.now)
+    (g.K.Sink.given c.tell_batches.new.out) holds (g.S.Source.left c.args.input.now)
