@@ -30,9 +30,11 @@ use Rattle.store_openings.specs.Saved.{Saved, laid_where}
 use Rattle.run_commands.specs.Bases.{counts_of}
 use Rattle.run_commands.specs.Onces.{Doing, behind_batch, done, done_by, listed, on_line, text_of, with_call, with_settings, without_calls}
 use Rattle.run_commands.specs.Onces as onces
-use Rattle.run_commands.specs.Passes.{At, Close, Drain, Line, Listed, Past, Turn, as_doing, held_by_step, held_over, on_close, on_drain, on_turn}
+use Rattle.run_commands.specs.Passes.{At, Close, Drain, Line, Listed, Past, Turn, as_doing, held_by_step, held_over, on_close, on_drain, on_turn, onward, over}
 use Rattle.run_commands.specs.Saves.{saved_behind, saved_more, saved_then, with_batch}
 use Rattle.run_commands.proofs.Endings.{ran_then, still_then}
+use Rattle.run_commands.proofs.Turns.{not_both}
+use Rattle.store_laws.proofs.Ended.{goes_behind, same_state}
 use Rattle.run_commands.proofs.Overs.{IfGoes}
 use Rattle.resume_laws.specs.Resumptions.{answers, answers_by, later_than}
 use Rattle.store_commands.specs.Replays.{replayed}
@@ -295,10 +297,10 @@ module _ (plan : Plan) (d : Doing) (ready : d.place.head ≡ head.Ready plan) (r
     abbrev There : Doing
     There = record d { place = after }
 
-    same_state : (next : Doing) → next.place.head ≡ head.Ready plan → next.each ≡ d.each → next.place.rows_ended ≡ true
+    quiet_to : (next : Doing) → next.place.head ≡ head.Ready plan → next.each ≡ d.each → next.place.rows_ended ≡ true
         → next.place.open_calls ≡ length next.calls → next.state.rows ≡ d.state.rows → next.state.waiting ≡ d.state.waiting
         → next.state.batches ≡ d.state.batches → next.state.requests ≡ d.state.requests → Quiet false plan d next
-    same_state next h e r k table waiting batches requests = record {
+    quiet_to next h e r k table waiting batches requests = record {
       head_is = h;
       each_is = e;
       rows = r;
@@ -311,16 +313,16 @@ module _ (plan : Plan) (d : Doing) (ready : d.place.head ≡ head.Ready plan) (r
     }
 
     done_to : (asks : Deed) → Follows d.place (counts_of d.state) after asks → TurnTo false plan d (done There asks)
-    done_to deed.Nothing f = inl (same_state There (ready_stays d.place.head after.head plan ready f.head_stays) refl (f.allows.rows rows)
+    done_to deed.Nothing f = inl (quiet_to There (ready_stays d.place.head after.head plan ready f.head_stays) refl (f.allows.rows rows)
         (f.allows.calls ∙ counted) refl refl refl refl)
-    done_to deed.Tell f = inl (same_state There (ready_stays d.place.head after.head plan ready f.head_stays) refl (f.allows.rows rows)
+    done_to deed.Tell f = inl (quiet_to There (ready_stays d.place.head after.head plan ready f.head_stays) refl (f.allows.rows rows)
         (f.allows.calls ∙ counted) refl refl refl refl)
     done_to (deed.Put key row) f = absurd (let both : true ≡ false = sym rows ∙ f.allows.rows in cc)
-    done_to (deed.Call call) f = inl (same_state (with_call There call) (ready_stays d.place.head after.head plan ready f.head_stays) refl f.allows.rows
+    done_to (deed.Call call) f = inl (quiet_to (with_call There call) (ready_stays d.place.head after.head plan ready f.head_stays) refl f.allows.rows
         (f.allows.calls ∙ ap (λ (n : ℕ). n + 1) counted ∙ sym (one_more call)) refl refl refl refl)
-    done_to (deed.Set rule percent) f = inl (same_state (with_settings There rule percent) (ready_stays d.place.head after.head plan ready f.head_stays) refl
+    done_to (deed.Set rule percent) f = inl (quiet_to (with_settings There rule percent) (ready_stays d.place.head after.head plan ready f.head_stays) refl
         f.allows.rows (f.allows.calls ∙ counted) refl refl refl refl)
-    done_to (deed.Keep number) f = inl (same_state (without_calls There) (ready_stays d.place.head after.head plan ready f.head_stays) refl f.allows.rows
+    done_to (deed.Keep number) f = inl (quiet_to (without_calls There) (ready_stays d.place.head after.head plan ready f.head_stays) refl f.allows.rows
         f.allows.calls refl refl refl refl)
     done_to deed.Run f =
         let h = ready_stays d.place.head after.head plan ready f.head_stays in
@@ -421,66 +423,99 @@ Shape closed (Close ∷ steps) = Shape true steps
 Shape closed (Drain ∷ steps) = (closed ≡ true) × Shape true steps
 Shape closed (Listed ∷ steps) = Shape closed steps
 
+module _ (plan : Plan) (each : Bool) where
+  pub turn_to : (turn : Turn) (more : List Turn) (closed : Bool) → Shape closed (turn ∷ more) → (saved : Saved) (past : List (ℕ × List ℕ)) (d : Doing)
+      → Tracks plan each closed saved past d → (after : Bool) × TurnTo after plan d (on_turn d turn) × Shape after more
+  turn_to At more closed shape saved past d t = (closed, stays_to plan d t.head_is t.rows t.counted closed _ t.shut_is, shape)
+  turn_to (Line line) more closed shape saved past d t = (false, line_to plan d t.head_is t.rows t.counted line, shape.1)
+  turn_to (Past refusal) more closed shape saved past d t = (closed, tt, shape)
+  turn_to Close more closed shape saved past d t = (true, close_to plan d t.head_is t.rows t.counted, shape)
+  turn_to Drain more closed shape saved past d t = (true, drain_to plan d t.head_is t.rows t.counted (t.shut_is shape.0), shape.1)
+  turn_to Listed more closed shape saved past d t = (closed, stays_to plan d t.head_is t.rows t.counted closed _ t.shut_is, shape)
+
 module _ (plan : Plan) (each : Bool) (checkpoint : ℕ) where
-  abbrev IsReplayed : List Turn → Doing → Saved → List (ℕ × List ℕ) → Type 0
-  IsReplayed steps d saved past =
-      replies_behind each (saved_behind checkpoint steps d saved).c (saved_behind checkpoint steps d saved).later
-      ≡ later_than (saved_behind checkpoint steps d saved).c.head.batches (past ++ answers steps d)
-
-  abbrev Goal : Doing → Saved → (Doing → Saved → Saved) → (Doing → List (ℕ × List ℕ)) → List (ℕ × List ℕ) → Course Doing → Type 0
-  Goal d saved over rest past c =
-      replies_behind each (held_by_step on_turn (saved_then checkpoint) d saved over c).c (held_by_step on_turn (saved_then checkpoint) d saved over c).later
-      ≡ later_than (held_by_step on_turn (saved_then checkpoint) d saved over c).c.head.batches (past ++ answers_by d rest c)
-
-  nothing_more : (closed : Bool) (d : Doing) (saved : Saved) (past : List (ℕ × List ℕ)) → Tracks plan each closed saved past d
-      → replies_behind each saved.c saved.later ≡ later_than saved.c.head.batches (past ++ [])
-  nothing_more closed d saved past t = t.answered ∙ ap (λ (l : List (ℕ × List ℕ)). later_than saved.c.head.batches l) (sym (append-nil past))
-
-  by_course : (was closed : Bool) (steps : List Turn) (d : Doing) (saved : Saved) (past : List (ℕ × List ℕ)) → Tracks plan each was saved past d
-      → (c : Course Doing) → TurnTo closed plan d c
-      → ((next : Doing) (after : Saved) (more : List (ℕ × List ℕ)) → Tracks plan each closed after more next → IsReplayed steps next after more)
-      → Goal d saved (held_over on_turn (saved_then checkpoint) steps) (answers steps) past c
-  by_course was closed steps d saved past t (Stops bytes) to rest = nothing_more was d saved past t
-  by_course was closed steps d saved past t (Goes bytes next) (inl q) rest =
+  -- a turn and those behind it, where P holds of what stands behind all and of all answers
+  by_course : (P : Saved → List (ℕ × List ℕ) → Type 0) (was closed : Bool) (steps : List Turn) (d : Doing) (saved : Saved) (past : List (ℕ × List ℕ))
+      → Tracks plan each was saved past d → (c : Course Doing) → TurnTo closed plan d c
+      → ((bytes : List ℕ) → c ≡ Stops bytes → P saved (past ++ []))
+      → ((bytes : List ℕ) (next : Doing) → c ≡ Goes bytes next → (after : Saved) (more : List (ℕ × List ℕ)) → Tracks plan each closed after more next
+      → P (saved_behind checkpoint steps next after) (more ++ answers steps next))
+      → P (held_by_step on_turn (saved_then checkpoint) d saved (held_over on_turn (saved_then checkpoint) steps) c) (past ++ answers_by d (answers steps) c)
+  by_course P was closed steps d saved past t (Stops bytes) to stop rest = stop bytes refl
+  by_course P was closed steps d saved past t (Goes bytes next) (inl q) stop rest =
       let same : saved_then checkpoint saved d next ≡ saved =
       still_then saved (saved_more checkpoint saved (batch_of (onces.handed_in d)) next.state) d next q.batches in
       let quiet : answers_by d (answers steps) (Goes bytes next) ≡ answers steps next =
       still_then (answers steps next) ((next.state.batches, bytes) ∷ answers steps next) d next q.batches in
-      subst (λ (s : Saved). replies_behind each (saved_behind checkpoint steps next s).c (saved_behind checkpoint steps next s).later
-      ≡ later_than (saved_behind checkpoint steps next s).c.head.batches (past ++ answers_by d (answers steps) (Goes bytes next))) (sym same)
-      (subst (λ (l : List (ℕ × List ℕ)). replies_behind each (saved_behind checkpoint steps next saved).c (saved_behind checkpoint steps next saved).later
-      ≡ later_than (saved_behind checkpoint steps next saved).c.head.batches (past ++ l)) (sym quiet)
-      (rest next saved past (quiet_tracks plan each saved past d was closed next t q)))
-  by_course was closed steps d saved past t (Goes bytes next) (inr r) rest =
+      subst (λ (s : Saved). P (saved_behind checkpoint steps next s) (past ++ answers_by d (answers steps) (Goes bytes next))) (sym same)
+      (subst (λ (l : List (ℕ × List ℕ)). P (saved_behind checkpoint steps next saved) (past ++ l)) (sym quiet)
+      (rest bytes next refl saved past (quiet_tracks plan each saved past d was closed next t q)))
+  by_course P was closed steps d saved past t (Goes bytes next) (inr r) stop rest =
       let more = saved_more checkpoint saved (batch_of (onces.handed_in d)) next.state in
       let counted = counts plan each saved past d was closed bytes next t r in
       let is : saved_then checkpoint saved d next ≡ more = ran_then saved more d next counted in
       let told : answers_by d (answers steps) (Goes bytes next) ≡ (next.state.batches, bytes) ∷ answers steps next =
       ran_then (answers steps next) ((next.state.batches, bytes) ∷ answers steps next) d next counted in
-      subst (λ (s : Saved). replies_behind each (saved_behind checkpoint steps next s).c (saved_behind checkpoint steps next s).later
-      ≡ later_than (saved_behind checkpoint steps next s).c.head.batches (past ++ answers_by d (answers steps) (Goes bytes next))) (sym is)
-      (subst (λ (l : List (ℕ × List ℕ)). replies_behind each (saved_behind checkpoint steps next more).c (saved_behind checkpoint steps next more).later
-      ≡ later_than (saved_behind checkpoint steps next more).c.head.batches l)
+      subst (λ (s : Saved). P (saved_behind checkpoint steps next s) (past ++ answers_by d (answers steps) (Goes bytes next))) (sym is)
+      (subst (λ (l : List (ℕ × List ℕ)). P (saved_behind checkpoint steps next more) l)
       (append_assoc past ((next.state.batches, bytes) ∷ []) (answers steps next) ∙ ap (λ (l : List (ℕ × List ℕ)). past ++ l) (sym told))
-      (rest next more (past ++ (next.state.batches, bytes) ∷ []) (ran_tracks plan each saved past d was closed bytes next t r checkpoint)))
+      (rest bytes next refl more (past ++ (next.state.batches, bytes) ∷ [])
+      (ran_tracks plan each saved past d was closed bytes next t r checkpoint)))
+
+  abbrev IsReplayed : Saved → List (ℕ × List ℕ) → Type 0
+  IsReplayed saved answered = replies_behind each saved.c saved.later ≡ later_than saved.c.head.batches answered
+
+  nothing_more : (closed : Bool) (d : Doing) (saved : Saved) (past : List (ℕ × List ℕ)) → Tracks plan each closed saved past d → IsReplayed saved (past ++ [])
+  nothing_more closed d saved past t = t.answered ∙ ap (λ (l : List (ℕ × List ℕ)). later_than saved.c.head.batches l) (sym (append-nil past))
 
   pub is_replayed : (steps : List Turn) (closed : Bool) → Shape closed steps → (d : Doing) (saved : Saved) (past : List (ℕ × List ℕ))
-      → Tracks plan each closed saved past d → IsReplayed steps d saved past
+      → Tracks plan each closed saved past d → IsReplayed (saved_behind checkpoint steps d saved) (past ++ answers steps d)
   is_replayed [] closed shape d saved past t = nothing_more closed d saved past t
-  is_replayed (At ∷ steps) closed shape d saved past t =
-      by_course closed closed steps d saved past t (on_turn d At) (stays_to plan d t.head_is t.rows t.counted closed _ t.shut_is)
-      (λ next after more k. is_replayed steps closed shape next after more k)
-  is_replayed (Line line ∷ steps) closed shape d saved past t =
-      by_course closed false steps d saved past t (on_line d line) (line_to plan d t.head_is t.rows t.counted line)
-      (λ next after more k. is_replayed steps false shape.1 next after more k)
-  is_replayed (Past refusal ∷ steps) closed shape d saved past t =
-      by_course closed closed steps d saved past t (on_turn d (Past refusal)) tt (λ next after more k. is_replayed steps closed shape next after more k)
-  is_replayed (Close ∷ steps) closed shape d saved past t =
-      by_course closed true steps d saved past t (on_turn d Close) (close_to plan d t.head_is t.rows t.counted)
-      (λ next after more k. is_replayed steps true shape next after more k)
-  is_replayed (Drain ∷ steps) closed shape d saved past t =
-      by_course closed true steps d saved past t (on_drain d) (drain_to plan d t.head_is t.rows t.counted (t.shut_is shape.0))
-      (λ next after more k. is_replayed steps true shape.1 next after more k)
-  is_replayed (Listed ∷ steps) closed shape d saved past t =
-      by_course closed closed steps d saved past t (on_turn d Listed) (stays_to plan d t.head_is t.rows t.counted closed _ t.shut_is)
-      (λ next after more k. is_replayed steps closed shape next after more k)
+  is_replayed (turn ∷ steps) closed shape d saved past t =
+      let to = turn_to plan each turn steps closed shape saved past d t in
+      by_course IsReplayed closed to.0 steps d saved past t (on_turn d turn) to.1 (λ bytes e. nothing_more closed d saved past t)
+      (λ bytes next e after more k. is_replayed steps to.0 to.2 next after more k)
+
+  -- the catalogue stays
+  pub plan_stays : (steps : List Turn) (closed : Bool) → Shape closed steps → (d : Doing) (saved : Saved) (past : List (ℕ × List ℕ))
+      → Tracks plan each closed saved past d → (saved_behind checkpoint steps d saved).c.plan ≡ plan
+  plan_stays [] closed shape d saved past t = t.under
+  plan_stays (turn ∷ steps) closed shape d saved past t =
+      let to = turn_to plan each turn steps closed shape saved past d t in
+      by_course (λ s answered. s.c.plan ≡ plan) closed to.0 steps d saved past t (on_turn d turn) to.1 (λ bytes e. t.under)
+      (λ bytes next e after more k. plan_stays steps to.0 to.2 next after more k)
+
+  -- ---- where they go on
+
+  -- and the turns behind them
+  pub record TracksOn (rest : List Turn) (here : Doing) (saved : Saved) (answered : List (ℕ × List ℕ)) : Type 0 where
+    pub closed : Bool
+    pub shape : Shape closed rest
+    pub tracks : Tracks plan each closed saved answered here
+
+  pub tracks_on : (steps rest : List Turn) (closed : Bool) → Shape closed (steps ++ rest) → (d here : Doing) (saved : Saved) (past : List (ℕ × List ℕ))
+      (printed : List ℕ) → Tracks plan each closed saved past d → over on_turn steps d ≡ Goes printed here
+      → TracksOn rest here (saved_behind checkpoint steps d saved) (past ++ answers steps d)
+  tracks_on [] rest closed shape d here saved past printed t goes = record {
+    closed = closed;
+    shape = shape;
+    tracks = subst (λ (l : List (ℕ × List ℕ)). Tracks plan each closed saved l here) (sym (append-nil past))
+        (subst (λ (x : Doing). Tracks plan each closed saved past x) (same_state [] printed d here goes) t);
+  }
+  tracks_on (turn ∷ steps) rest closed shape d here saved past printed t goes =
+      let to = turn_to plan each turn (steps ++ rest) closed shape saved past d t in
+      by_course (TracksOn rest here) closed to.0 steps d saved past t (on_turn d turn) to.1
+      (λ bytes e. not_both bytes printed here (sym (ap (λ (c : Course Doing). onward (over on_turn steps) c) e) ∙ goes))
+      (λ bytes next e after more k.
+      let g = goes_behind bytes printed here (over on_turn steps next) (sym (ap (λ (c : Course Doing). onward (over on_turn steps) c) e) ∙ goes) in
+      tracks_on steps rest to.0 to.2 next here after more g.more k g.goes)
+
+-- a turn that runs a batch prints its answer
+pub at_work : (plan : Plan) (d next : Doing) (closed : Bool) (bytes : List ℕ) (c : Course Doing) → TurnTo closed plan d c → c ≡ Goes bytes next
+    → next.state.batches ≡ d.state.batches + 1 → d.place.head ≡ head.Ready plan → text_of d ≡ bytes
+at_work plan d next closed bytes c to is counted ready =
+    by_to (subst (λ (x : Course Doing). TurnTo closed plan d x) is to)
+  where
+    by_to : TurnTo closed plan d (Goes bytes next) → text_of d ≡ bytes
+    by_to (inl q) = absurd (let same = q.batches in omega (arith, same, counted))
+    by_to (inr r) = ap (λ (h : Head). batch_text (plan_in h) d.each d.state (onces.handed_in d)) ready ∙ sym r.bytes_are

@@ -1,5 +1,5 @@
 -- What stands behind a run answers what the run printed, by the states and by the files.
-use Rattle.std.proofs.Common.{◌≡◌, ◌∙◌, sym, ap, subst, refl, ℕ, zero, suc, Bool, true, false, List, [], ◌∷◌, ◌++◌, map, replicate, Option, Some, None, append-nil, arith}
+use Rattle.std.proofs.Common.{◌≡◌, ◌⊎◌, inl, inr, ◌∙◌, ◌+◌, sym, ap, subst, refl, ℕ, zero, suc, Bool, true, false, List, [], ◌∷◌, ◌++◌, map, replicate, Option, Some, None, append-nil, arith}
 use Rattle.aria_store.specs.Reopens.{Found, Reopened, Reopens}
 use Rattle.aria_store.proofs.Founds.{reopens_once}
 use Rattle.batch_core.specs.Steps.{State}
@@ -13,18 +13,20 @@ use Rattle.script_course.specs.Courses.{Course, Goes, Out, Stops, out_behind, to
 use Rattle.script_text.specs.Lines.{Scan, last_line, scan}
 use Rattle.script_text.specs.declared.refusals.Refusal.{Refusal}
 use Rattle.serving.proofs.Storing.{batches_behind}
-use Rattle.serving.specs.Stored.{crowded, state_at, state_behind}
+use Rattle.script_places.specs.Places.{plan_in}
+use Rattle.serving.specs.Stored.{batch_of, crowded, state_at, state_behind}
 use Rattle.slot_images.specs.Images.{Checkpoint}
 use Rattle.store_openings.specs.Openings.{log_in}
 use Rattle.store_openings.specs.Saved.{Saved, is_full, laid_where, saved_in}
-use Rattle.run_commands.specs.Onces.{Doing, listed, on_line}
+use Rattle.run_commands.specs.Onces.{Doing, handed_in, listed, on_line, text_of}
 use Rattle.run_commands.specs.Outs.{is_each, no_line, text_turns}
-use Rattle.run_commands.specs.Passes.{At, Close, Drain, Line, Listed, Past, Turn, ending, ending_behind, ending_of, last, past, turns, turns_whole}
-use Rattle.run_commands.specs.Resumes.{HoldsOver, held_over_all, saved_first, saved_over_all, start_over, turns_over}
+use Rattle.run_commands.specs.Passes.{At, Close, Drain, Line, Listed, Past, Turn, ending, ending_behind, ending_of, last, on_turn, over, past, turns, turns_whole}
+use Rattle.run_commands.specs.Saves.{HasFront, HasLogged, ReadsAs}
+use Rattle.run_commands.specs.Resumes.{HoldsOver, IsLeftOver, held_over_all, saved_first, saved_over_all, start_over, turns_over}
 use Rattle.resume_laws.specs.Resumptions.{answers, later_than}
 use Rattle.store_commands.specs.Replays.{crowded_out, out_of}
-use Rattle.store_laws.proofs.Replied.{Shape, Tracks, UpTo, holds_own, is_replayed, none_later, replayed_as, replies_later, replies_up}
-use Rattle.store_laws.specs.Replies.{joined, replies_behind, run_answers, saved_by_turns}
+use Rattle.store_laws.proofs.Replied.{Shape, Tracks, at_work, holds_own, is_replayed, none_later, plan_stays, replayed_as, replies_later, replies_up, tracks_on, turn_to, would_print}
+use Rattle.store_laws.specs.Replies.{Prints, PrintsStopped, StandsOver, answers_behind, joined, replies_behind, run_answers, saved_by_turns}
 
 -- ---- the turns of a run
 
@@ -168,3 +170,77 @@ module _ (settings : Run) (images : ℕ → List ℕ) (c : Checkpoint) (later : 
         let h = holds left may in
         ap (λ (f : Reopened). out_of again left f) (reopens_once left found (Found After.c After.later) reads h.reopens)
         ∙ prints left h.roomy h.plan_is h.state_is
+
+    -- ---- a run that was stopped
+
+    abbrev Start : Doing
+    Start = start_over settings c later
+
+    abbrev By : List Turn → Saved
+    By front = saved_by_turns settings images c later front
+
+    abbrev Answers : List Turn → List (ℕ × List ℕ)
+    Answers front = answers_behind settings images c later front
+
+    -- files that read as that checkpoint with those batches
+    as_read : (left : ℕ → List ℕ) (k : Checkpoint) (more : List Batch) (answered : List (ℕ × List ℕ)) → ReadsAs k more left → k.plan ≡ c.plan
+        → replies_behind Each k more ≡ answered → (found : Reopened) → Reopens left found
+        → Prints again settings left found c.plan answered (state_behind k more)
+    as_read left k more answered reads under are found reopens =
+        ap (λ (f : Reopened). out_of again left f) (reopens_once left found (Found k more) reopens reads.0)
+        ∙ replayed_as k.plan (is_each again.listing) (crowded_out (log_in k) (left (log_in k))) 0 (state_at k) more reads.1
+        ∙ ap (λ (l : Listing). out_behind (joined (replies_behind (is_each l) k more)) (listed k.plan (is_each l) (state_behind k more))) same
+        ∙ (λ i. out_behind (joined (are i)) (listed (under i) Each (state_behind k more)))
+
+    abbrev Steps : List Turn
+    Steps = turns_over settings.drain Start text
+
+    shape_of : (front rest : List Turn) → Steps ≡ front ++ rest → Shape false (front ++ rest)
+    shape_of front rest are = subst (λ (steps : List Turn). Shape false steps) are (turns_shape settings.drain Start text)
+
+    plan_kept : (front rest : List Turn) → Steps ≡ front ++ rest → (By front).c.plan ≡ c.plan
+    plan_kept front rest are =
+        plan_stays c.plan Each settings.checkpoint front false (front_shape front rest false (shape_of front rest are)) Start
+        (saved_first images c later) (replies_behind Each c later) (begun_by (is_full (saved_in images c later)))
+
+    pub stop_prints : (left : ℕ → List ℕ) → IsLeftOver settings images c later text left → (found : Reopened) → Reopens left found
+        → PrintsStopped settings again images c later text left found
+    stop_prints left l found reopens = by l.reads
+      where
+        by : HasFront settings.checkpoint l.front Start (saved_first images c later) left
+            ⊎ HasLogged settings.checkpoint l.front l.rest Start (saved_first images c later) left
+            → PrintsStopped settings again images c later text left found
+        by (inl reads) = record {
+          front = l.front;
+          rest = l.rest;
+          are = l.are;
+          state = state_behind (By l.front).c (By l.front).later;
+          prints = inl (as_read left (By l.front).c (By l.front).later (Answers l.front) reads (plan_kept l.front l.rest l.are)
+              (run_replayed text l.front l.rest l.are) found reopens);
+        }
+        by (inr h) =
+            let on = tracks_on c.plan Each settings.checkpoint l.front l.rest false (shape_of l.front l.rest l.are) Start h.here (saved_first images c later)
+            (replies_behind Each c later) h.printed (begun_by (is_full (saved_in images c later))) h.goes in
+            let t = on.tracks in
+            let shape = subst (λ (steps : List Turn). Shape on.closed steps) h.rest_is on.shape in
+            let to = turn_to c.plan Each h.turn h.more on.closed shape (By l.front) (replies_behind Each c later ++ answers l.front Start) h.here t in
+            let answer = at_work c.plan h.here h.next to.0 h.text (on_turn h.here h.turn) to.1 h.runs h.counted t.head_is in
+            let batch = batch_of (handed_in h.here) in
+            let stands : StandsOver (By l.front).c (By l.front).later h.here =
+            record { plan_is = ap plan_in t.head_is ∙ sym t.under; holds = t.holds } in
+            let own : replies_behind Each (By l.front).c ((By l.front).later ++ batch ∷ [])
+            ≡ replies_behind Each (By l.front).c (By l.front).later ++ (h.here.state.batches + 1, text_of h.here) ∷ [] =
+            subst (λ (e : Bool). replies_behind e (By l.front).c ((By l.front).later ++ batch ∷ [])
+            ≡ replies_behind e (By l.front).c (By l.front).later ++ (h.here.state.batches + 1, text_of h.here) ∷ []) t.each_is
+            (would_print (By l.front).c (By l.front).later h.here stands) in
+            let all : replies_behind Each (By l.front).c ((By l.front).later ++ batch ∷ []) ≡ Answers l.front ++ (h.next.state.batches, h.text) ∷ [] =
+            own ∙ (λ i. t.answered i ++ (sym h.counted i, answer i) ∷ []) in
+            record {
+              front = l.front;
+              rest = l.rest;
+              are = l.are;
+              state = state_behind (By l.front).c ((By l.front).later ++ batch ∷ []);
+              prints = inr (h.here, h.next, h.turn, h.more, h.printed, h.text, h.rest_is, h.goes, h.runs,
+                  as_read left (By l.front).c ((By l.front).later ++ batch ∷ []) (Answers l.front ++ (h.next.state.batches, h.text) ∷ []) h.reads t.under all
+                  found reopens);
+            }

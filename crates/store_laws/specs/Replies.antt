@@ -1,5 +1,5 @@
 -- What `replay` prints of a store beside what `run` printed, answer by answer.
-use Rattle.std.specs.Prelude.{◌≡◌, ℕ, ◌+◌, Bool, List, [], ◌∷◌, ◌++◌, None}
+use Rattle.std.specs.Prelude.{◌≡◌, ◌⊎◌, ℕ, ◌+◌, Bool, List, [], ◌∷◌, ◌++◌, None}
 use Rattle.aria_store.specs.Reopens.{Found, Reopened, Reopens}
 use Rattle.batch_core.specs.Steps.{State, step}
 use Rattle.command_words.specs.declared.settings.Replay.{Replay}
@@ -7,7 +7,7 @@ use Rattle.command_words.specs.declared.settings.Run.{Run}
 use Rattle.disk_model.specs.Histories.{History, MayLeave}
 use Rattle.image_text.specs.Payloads.{Batch}
 use Rattle.proc_lang.specs.Catalogs.{Plan, run_of}
-use Rattle.script_course.specs.Courses.{out_behind}
+use Rattle.script_course.specs.Courses.{Goes, out_behind}
 use Rattle.script_places.specs.Places.{plan_in}
 use Rattle.serving.specs.Lives.{batch_text}
 use Rattle.serving.specs.Stored.{batch_of, crowded, handed_in, state_at, state_behind}
@@ -15,8 +15,8 @@ use Rattle.slot_images.specs.Images.{Checkpoint}
 use Rattle.run_commands.specs.Onces.{Doing, listed, text_of}
 use Rattle.run_commands.specs.Onces as onces
 use Rattle.run_commands.specs.Outs.{is_each}
-use Rattle.run_commands.specs.Passes.{Turn}
-use Rattle.run_commands.specs.Resumes.{HoldsOver, held_over_all, saved_first, saved_over_all, start_over, turns_over}
+use Rattle.run_commands.specs.Passes.{Turn, on_turn, over}
+use Rattle.run_commands.specs.Resumes.{HoldsOver, IsLeftOver, held_over_all, saved_first, saved_over_all, start_over, turns_over}
 use Rattle.run_commands.specs.Saves.{saved_behind}
 use Rattle.store_openings.specs.Saved.{Saved}
 use Rattle.resume_laws.specs.Resumptions.{answers, later_than}
@@ -97,3 +97,39 @@ ReplayPrintsRun =
     ≡ out_behind (joined (later_than (saved_over_all settings images c later text).c.head.batches
     (replies_behind (is_each settings.listing) c later ++ run_answers settings c later text)))
     (listed c.plan (is_each settings.listing) (held_over_all settings.drain (start_over settings c later) text))
+
+-- ---- a run that was stopped
+
+-- what `replay` prints: these answers, and then the listing of this state
+abbrev pub Prints : Replay → Run → (ℕ → List ℕ) → Reopened → Plan → List (ℕ × List ℕ) → State → Type 0
+Prints again settings images found plan answered state =
+    out_of again images found ≡ out_behind (joined answered) (listed plan (is_each settings.listing) state)
+
+-- the answers from before and those that these turns printed, as far as they are behind the checkpoint that then stands
+abbrev pub answers_behind : Run → (ℕ → List ℕ) → Checkpoint → List Batch → List Turn → List (ℕ × List ℕ)
+answers_behind settings files c later front =
+    later_than (saved_by_turns settings files c later front).c.head.batches
+    (replies_behind (is_each settings.listing) c later ++ answers front (start_over settings c later))
+
+-- Between two turns `replay` prints just these. Where a batch is at work, it prints the answer of that one as well, which the run was about
+-- to print, or had printed in part.
+pub record PrintsStopped (settings : Run) (again : Replay) (files : ℕ → List ℕ) (c : Checkpoint) (later : List Batch) (text : List ℕ)
+    (images : ℕ → List ℕ) (found : Reopened) : Type 0 where
+  pub front : List Turn
+  pub rest : List Turn
+  pub are : turns_over settings.drain (start_over settings c later) text ≡ front ++ rest
+  pub state : State
+  pub prints : Prints again settings images found c.plan (answers_behind settings files c later front) state
+      ⊎ ((here next : Doing) × (turn : Turn) × (more : List Turn) × (printed answer : List ℕ) × (rest ≡ turn ∷ more)
+      × (over on_turn front (start_over settings c later) ≡ Goes printed here) × (on_turn here turn ≡ Goes answer next)
+      × Prints again settings images found c.plan
+      (answers_behind settings files c later front ++ (next.state.batches, answer) ∷ []) state)
+
+-- So every answer can be had: of a batch before the stop it was printed by the run, and until a checkpoint stands behind it by `replay` too;
+-- and of the batch at work by `replay`.
+abbrev pub StopIsReplayed : Type 0
+StopIsReplayed =
+    (settings : Run) (again : Replay) → again.listing ≡ settings.listing
+    → (files : ℕ → List ℕ) (c : Checkpoint) (later : List Batch) (text : List ℕ) (images : ℕ → List ℕ)
+    → IsLeftOver settings files c later text images → (found : Reopened) → Reopens images found
+    → PrintsStopped settings again files c later text images found

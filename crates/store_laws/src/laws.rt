@@ -1,5 +1,5 @@
 // The laws. Each is the contract of a function that does nothing, or only calls a law: a caller has it after the call.
-ghost use Rattle.store_laws.specs.Replies.{ReplayAnswers, ReplayPrintsRun, RunIsReplayed, RunWouldPrint};
+ghost use Rattle.store_laws.specs.Replies.{ReplayAnswers, ReplayPrintsRun, RunIsReplayed, RunWouldPrint, StopIsReplayed};
 ghost use Rattle.store_laws.specs.OneRuns.{FilesAreOneRun, LeftRunsOn, RunIsRight, ScriptIsOneRun, StoppedRunsAreOneRun};
 
 use resume_laws::every_stop_resumes;
@@ -77,4 +77,12 @@ pub fn run_is_replayed()
 /// stop then leaves just those answers, one after the other, and then the listing of what the run left.
 pub fn replay_prints_run()
     ensures { ReplayPrintsRun }
+{}
+
+/// A run may be stopped at any moment, and every answer can still be had. Whatever of its store `run` says that a
+/// stop leaves, once it was opened, `replay` prints of it the answers from before and those that the run had printed
+/// to the end, as far as they are behind the checkpoint that stands; and where a batch is in the log that was not
+/// answered, or not to the end, the answer that the run was about to print.
+pub fn stop_is_replayed()
+    ensures { StopIsReplayed }
 {}
