@@ -72,7 +72,8 @@ pub(crate) fn drain<K: Sink, D: Disk, P: Pace + Sync, R: Threads + Sync>(
     ensures store { start.store ≡ None → IfOk result (λ live. live.store ≡ None) }
     ensures untouched { start.store ≡ None → disk.new ≡ disk.old }
     ensures sink { K.faults out.old ≤ K.faults out.new }
-    ensures cause { IfErr result (λ stop. IsCause stop (Rose (K.faults out.old) (K.faults out.new)) (IsSomeAnd start.store (λ _. Rose (D.history disk.old).faults (D.history disk.new).faults))) }
+    ensures cause { IfErr result (λ stop. IsCause stop (Rose (K.faults out.old) (K.faults out.new)) (IsSomeAnd start.store
+        (λ _. Rose (D.history disk.old).faults (D.history disk.new).faults))) }
 {
     let mut live = start;
     for _ in 0..live.waiting() {
@@ -116,13 +117,15 @@ fn drain_one<K: Sink, D: Disk, P: Pace + Sync, R: Threads + Sync>(
         → HoldsLive first saved (D.history disk.old) live
         → LeavesAll (D.history disk.old) (D.history disk.new) (IsLeft live.checkpoint (Drain ∷ []) d saved) }
     ensures holds { (first : ℕ) (saved : Saved) → HoldsLive first saved (D.history disk.old) live
-        → IfOk result (λ next. HoldsLive first (saved_more live.checkpoint saved (batch_of (no_calls (state_of live))) (state_of next)) (D.history disk.new) next) }
+        → IfOk result (λ next. HoldsLive first (saved_more live.checkpoint saved (batch_of (no_calls (state_of live))) (state_of next))
+        (D.history disk.new) next) }
     ensures refused { result ≡ Err stop.Refused → disk.new ≡ disk.old }
     ensures store { live.store ≡ None → IfOk result (λ next. next.store ≡ None) }
     ensures untouched { live.store ≡ None → disk.new ≡ disk.old }
     ensures disk { IfOk result (λ _. (D.history disk.old).faults ≤ (D.history disk.new).faults) }
     ensures sink { K.faults out.old ≤ K.faults out.new }
-    ensures cause { IfErr result (λ stop. IsCause stop (Rose (K.faults out.old) (K.faults out.new)) (IsSomeAnd live.store (λ _. Rose (D.history disk.old).faults (D.history disk.new).faults))) }
+    ensures cause { IfErr result (λ stop. IsCause stop (Rose (K.faults out.old) (K.faults out.new)) (IsSomeAnd live.store
+        (λ _. Rose (D.history disk.old).faults (D.history disk.new).faults))) }
 {
     if GREATEST_NUMBER <= live.batches() {
         let kind = RefusalKind::Numbers;

@@ -62,7 +62,8 @@ pub(crate) fn end_of<K: Sink, D: Disk, P: Pace + Sync, R: Threads + Sync>(
         (held_behind (ending_of drains script.doing) script.doing (held_of script)) }
     ensures untouched { script.store ≡ None → disk.new ≡ disk.old }
     ensures sink { K.faults out.old ≤ K.faults out.new }
-    ensures cause { IfErr result (λ stop. IsCause stop (Rose (K.faults out.old) (K.faults out.new)) (IsSomeAnd script.store (λ _. Rose (D.history disk.old).faults (D.history disk.new).faults))) }
+    ensures cause { IfErr result (λ stop. IsCause stop (Rose (K.faults out.old) (K.faults out.new)) (IsSomeAnd script.store
+        (λ _. Rose (D.history disk.old).faults (D.history disk.new).faults))) }
 {
     closes();
     let Script { place, work } = script;
@@ -107,7 +108,8 @@ fn close<K: Sink, D: Disk, P: Pace + Sync, R: Threads + Sync>(
         (D.history disk.new) (plan_in head.now) (held_behind (closing_turns drains (state_in work.base)) d (held_in work.base)) }
     ensures untouched { store_in work.base ≡ None → disk.new ≡ disk.old }
     ensures sink { K.faults out.old ≤ K.faults out.new }
-    ensures cause { IfErr result (λ stop. IsCause stop (Rose (K.faults out.old) (K.faults out.new)) (IsSomeAnd (store_in work.base) (λ _. Rose (D.history disk.old).faults (D.history disk.new).faults))) }
+    ensures cause { IfErr result (λ stop. IsCause stop (Rose (K.faults out.old) (K.faults out.new)) (IsSomeAnd (store_in work.base)
+        (λ _. Rose (D.history disk.old).faults (D.history disk.new).faults))) }
 {
     let each = work.each;
     if !drains {
@@ -156,7 +158,8 @@ fn drained<K: Sink, D: Disk, P: Pace + Sync, R: Threads + Sync>(
         (plan_in head.now) (held_behind (drains_of (state_in base)) d (held_in base)) }
     ensures untouched { store_in base ≡ None → disk.new ≡ disk.old }
     ensures sink { K.faults out.old ≤ K.faults out.new }
-    ensures cause { IfErr result (λ stop. IsCause stop (Rose (K.faults out.old) (K.faults out.new)) (IsSomeAnd (store_in base) (λ _. Rose (D.history disk.old).faults (D.history disk.new).faults))) }
+    ensures cause { IfErr result (λ stop. IsCause stop (Rose (K.faults out.old) (K.faults out.new)) (IsSomeAnd (store_in base)
+        (λ _. Rose (D.history disk.old).faults (D.history disk.new).faults))) }
 {
     match base {
         Base::Rows(tables, config) => Ok(Base::Rows(tables, config)),

@@ -86,7 +86,13 @@ impl Script {
     pub fn resume(alloc: Global, live: Live, replicas: u32) -> Result<Script, Memory>
         requires runnable { IsRunnable live }
         requires engines { (1 ≤ replicas) × (replicas ≤ MOST_REPLICAS) }
-        ensures doing { IfOk result (λ script. script.doing ≡ record { place = start_with mode.Run (plan_of live); calls = []; state = state_of live; each = live.each }) }
+        ensures doing { IfOk result (λ script. script.doing ≡ record {
+          place = start_with mode.Run
+              (plan_of live);
+          calls = [];
+          state = state_of live;
+          each = live.each;
+        }) }
         ensures store { IfOk result (λ script. script.store ≡ live.store) }
         ensures checkpoint { IfOk result (λ script. script.checkpoint ≡ live.checkpoint) }
     {
@@ -177,7 +183,8 @@ impl Work {
         // The state behind it is held by the script that goes on, by the last checkpoint that was due.
         ensures stays { (first : ℕ) (saved : Saved) → HoldsScript first saved (D.history disk.old) (running_of place self)
             → (before : Doing) → before.state ≡ state_in self.base → before.calls ≡ self.calls.items
-            → IfOk result (λ next. Stays first (saved_then (checkpoint_in self.base) saved before next.doing) (D.history disk.new) (running_of place self) next) }
+            → IfOk result (λ next. Stays first (saved_then (checkpoint_in self.base) saved before next.doing) (D.history disk.new)
+            (running_of place self) next) }
         ensures held { (first : ℕ) (saved : Saved) → HoldsScript first saved (D.history disk.old) (running_of place self)
             → (before : Doing) → before.state ≡ state_in self.base
             → IfOk result (λ next. held_of next ≡ held_then (held_of (running_of place self)) before next.doing) }
@@ -337,7 +344,8 @@ impl Work {
     ) -> Result<Script, Stop>
         requires may { MayRun place self }
         requires open { IsOpen (D.history disk.old) (running_of place self) }
-        ensures serves { Serves (Goes (text_of (doing_of place self)) (behind_batch (doing_of place self))) (K.given out.old) (K.given out.new) (doing_result result) }
+        ensures serves { Serves (Goes (text_of (doing_of place self)) (behind_batch (doing_of place self))) (K.given out.old) (K.given out.new)
+            (doing_result result) }
         ensures open { IfOk result (IsOpen (D.history disk.new)) }
 
         // A stop at any moment leaves the state before or behind it; and a stop now, what was given of its text.
@@ -356,7 +364,8 @@ impl Work {
         // The state behind it is held by the script that goes on, by the last checkpoint that was due.
         ensures stays { (first : ℕ) (saved : Saved) → HoldsScript first saved (D.history disk.old) (running_of place self)
             → (before : Doing) → before.state ≡ state_in self.base → before.calls ≡ self.calls.items
-            → IfOk result (λ next. Stays first (saved_then (checkpoint_in self.base) saved before next.doing) (D.history disk.new) (running_of place self) next) }
+            → IfOk result (λ next. Stays first (saved_then (checkpoint_in self.base) saved before next.doing) (D.history disk.new)
+            (running_of place self) next) }
         ensures held { (first : ℕ) (saved : Saved) → HoldsScript first saved (D.history disk.old) (running_of place self)
             → (before : Doing) → before.state ≡ state_in self.base
             → IfOk result (λ next. held_of next ≡ held_then (held_of (running_of place self)) before next.doing) }

@@ -38,7 +38,8 @@ pub(crate) fn run_text<S: Source, K: Sink, D: Disk, P: Pace + Sync, R: Threads +
     pace: &P,
 ) -> Result<u8, Stop>
     requires open { IsOpen (D.history disk.old) start }
-    ensures completes { Completes (told on_line no_line start.doing) (whole on_line (on_end drains) no_line start.doing) (S.left input.old) (S.left input.new) (K.given out.old) (K.given out.new) result }
+    ensures completes { Completes (told on_line no_line start.doing) (whole on_line (on_end drains) no_line start.doing) (S.left input.old)
+        (S.left input.new) (K.given out.old) (K.given out.new) result }
     ensures zero { IfOk result (λ status. status ≡ DONE) }
     ensures end { IfOk result (λ _. IsAtEnd (S.left input.new)) }
 
@@ -55,7 +56,8 @@ pub(crate) fn run_text<S: Source, K: Sink, D: Disk, P: Pace + Sync, R: Threads +
     ensures untouched { start.store ≡ None → disk.new ≡ disk.old }
     ensures source { S.faults input.old ≤ S.faults input.new }
     ensures sink { K.faults out.old ≤ K.faults out.new }
-    ensures cause { IfErr result (λ stop. IsReadCause stop (Rose (S.faults input.old) (S.faults input.new)) (Rose (K.faults out.old) (K.faults out.new)) (IsSomeAnd start.store (λ _. Rose (D.history disk.old).faults (D.history disk.new).faults))) }
+    ensures cause { IfErr result (λ stop. IsReadCause stop (Rose (S.faults input.old) (S.faults input.new))
+        (Rose (K.faults out.old) (K.faults out.new)) (IsSomeAnd start.store (λ _. Rose (D.history disk.old).faults (D.history disk.new).faults))) }
 {
     match read_script(rt, alloc, start, input, out, disk, pace) {
         Ok(last) => end_of(rt, alloc, last, drains, out, disk, pace),

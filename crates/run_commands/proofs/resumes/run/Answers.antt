@@ -23,7 +23,7 @@ returns-in-Ok-clause-leaves g c images found reads reopens =
     let gb = g.K.Sink.given c.run_over.new.out in
     let is = c.in-Ok.ensures.opened images found reads reopens in
     let P : Reopened → Type 0 = λ what. Opening c.args.settings.now old what mid
-        → IfSome (g.S.Source.left c.args.input.now) (λ text. LeavesOver c.args.settings.now what text old new ga gb) in
+    → IfSome (g.S.Source.left c.args.input.now) (λ text. LeavesOver c.args.settings.now what text old new ga gb) in
     by_found images live P (λ k later as_found opens leaves.
     leaves_opened c.args.settings.now old live each (Found k later) (g.S.Source.left c.args.input.now) mid new ga gb opens c.in-Ok.ensures.settings leaves
     (c.run_over.ensures.keeps (state_of live).batches (saved_first images k later)
@@ -70,7 +70,7 @@ returns-in-Ok-clause-stands g c images found reads reopens =
     let ga = g.K.Sink.given c.args.out.now in
     let gb = g.K.Sink.given c.run_over.new.out in
     let P : Reopened → Type 0 = λ what. Opening c.args.settings.now old what mid
-        → IfSome left (λ text. StandsOver c.args.settings.now images what text old new ga gb) in
+    → IfSome left (λ text. StandsOver c.args.settings.now images what text old new ga gb) in
     by_found images live P (λ k later as_found opens leaves.
     stands_opened c.args.settings.now images live (c.in-Ok.ensures.each ∙ c.is_each.ensures) left ga gb old mid new k later opens c.in-Ok.ensures.checkpoint
     (c.open.ensures.fresh images k later reads as_found) leaves

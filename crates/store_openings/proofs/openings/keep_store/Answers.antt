@@ -1,4 +1,5 @@
 use Rattle.std.proofs.Common.{ap}
+use Rattle.serving.specs.Lives.{state_of}
 use Rattle.serving.specs.declared.lives.Live.{Live}
 use Rattle.store_openings.proofs.Keeping.{kept, may_renew, not_kept, rotating_of}
 use Rattle.store_openings.proofs.openings.keep_store.Goals as goal

@@ -8,7 +8,9 @@ use Rattle.slot_images.specs.Said.{checkpoint_in}
 use Rattle.store_files.specs.Stores.{Rests, slot_in}
 use Rattle.store_openings.specs.Openings.{LeavesUnwritten}
 use Rattle.store_openings.specs.Runs.{IsNotKept, saved_by}
-use Rattle.store_openings.specs.Saved.{renewed}
+use Rattle.store_openings.specs.Saved.{HoldsSaved, renewed}
+use Rattle.serving.specs.declared.lives.Live.{Live}
+use Rattle.std.specs.Prelude.{IfOk}
 use Rattle.store_openings.proofs.Fits.{ready_of, runnable}
 use Rattle.store_openings.proofs.Keeping.{err_more, held_found, kept_unwritten, left_leaves, looked_leaves, not_kept_found, not_run_found, ok_both, ok_more, opened_from, run_leaves, store_of, unwritten_of}
 use Rattle.store_openings.proofs.Savings.{renewed_saved, saved_on}
@@ -44,12 +46,14 @@ returns-in-Ok-clause-holds g c =
     let live = c.in-Ok.live in
     let found = c.in-Ok.ensures.found in
     let same : mid ≡ g.D.Disk.history c.args.disk.now = ap g.D.Disk.history c.in-Ok.ensures.untouched in
-    ok_both c.keep_store.result (λ next k both stands.
+    let Own : Live → Type 0 = λ next. Stands mid c.args.store image later
+        → HoldsSaved new (plan_of live) (state_of live) next.store (renewed (saved_by c.args.store image later)) in
+    let own : IfOk c.keep_store.result Own = ok_both c.keep_store.result (λ next kept h stands.
+    renewed_saved new (plan_of live) (state_of live) c.args.store image later next.store c.requires.known.head (sym found.plan) (sym found.state) kept
+    (h image later (held_found mid c.args.store c.args.engines.now image later live found stands))) c.keep_store.ensures.store c.keep_store.ensures.holds in
+    ok_both c.keep_store.result (λ next k h stands.
     saved_on new c.args.engines.now.checkpoint live next (renewed (saved_by c.args.store image later)) k
-    (renewed_saved new (plan_of live) (state_of live) c.args.store image later next.store c.requires.known.head (sym found.plan) (sym found.state) both.0
-    (both.1 image later (held_found mid c.args.store c.args.engines.now image later live found
-    (subst (λ (d : History). Stands d c.args.store image later) (sym same) stands))))) c.keep_store.ensures.kept
-    (ok_both c.keep_store.result (λ next s h. (s, h)) c.keep_store.ensures.store c.keep_store.ensures.holds)
+    (h (subst (λ (d : History). Stands d c.args.store image later) (sym same) stands))) c.keep_store.ensures.kept own
 
 pub returns-in-Ok-clause-fresh : goal.returns-in-Ok-clause-fresh
 returns-in-Ok-clause-fresh g c off =
