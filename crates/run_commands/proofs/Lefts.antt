@@ -8,7 +8,7 @@ use Rattle.disk_model.proofs.Spans.{leaves_more}
 use Rattle.image_text.specs.Payloads.{Batch}
 use Rattle.script_course.specs.Courses.{Goes}
 use Rattle.serving.specs.Lives.{next_state, plan_of}
-use Rattle.serving.specs.Stored.{ReopensOnWay, batch_of, is_due, laid_behind, next_batch, next_due, stored_state}
+use Rattle.serving.specs.Stored.{ReopensOnWay, batch_of, next_batch, next_due, stored_state}
 use Rattle.serving.specs.declared.lives.Live.{Live}
 use Rattle.store_openings.specs.Saved.{HoldsSaved, Saved, laid, laid_where}
 use Rattle.run_commands.specs.Onces.{Doing, handed_in}

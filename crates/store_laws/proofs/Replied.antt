@@ -1,5 +1,5 @@
 -- What `replay` prints of a log is what `run` printed.
-use Rattle.std.proofs.Common.{◌≡◌, ◌⊎◌, inl, inr, ◌∙◌, sym, ap, subst, refl, ℕ, zero, suc, ◌+◌, ◌≤◌, ◌==◌, nat_lt, Bool, true, false, cond, List, [], ◌∷◌, ◌++◌, length, map, replicate, Option, Some, None, append_assoc, append-nil, length-append, arith}
+use Rattle.std.proofs.Common.{◌≡◌, ◌⊎◌, inl, inr, ◌∙◌, sym, ap, subst, refl, ℕ, ◌+◌, ◌≤◌, ◌==◌, nat_lt, Bool, true, false, List, [], ◌∷◌, ◌++◌, length, map, Option, Some, None, append_assoc, append-nil, length-append, arith}
 use Rattle.std.specs.Prelude.{if◌then◌else◌, Result, Ok, Err}
 use Rattle.std.proofs.lemmas.Bool.{cond-true, cond-false}
 use Rattle.std.proofs.lemmas.Bool.Decides.{nat_tests}
@@ -28,14 +28,13 @@ use Rattle.serving.proofs.Storing.{batches_behind}
 use Rattle.slot_images.specs.Images.{Checkpoint}
 use Rattle.store_openings.specs.Saved.{Saved, laid_where}
 use Rattle.run_commands.specs.Bases.{counts_of}
-use Rattle.run_commands.specs.Onces.{Doing, behind_batch, done, done_by, listed, on_line, text_of, with_call, with_settings, without_calls}
+use Rattle.run_commands.specs.Onces.{Doing, done, done_by, listed, on_line, text_of, with_call, with_settings, without_calls}
 use Rattle.run_commands.specs.Onces as onces
 use Rattle.run_commands.specs.Passes.{At, Close, Drain, Line, Listed, Past, Turn, as_doing, held_by_step, held_over, on_close, on_drain, on_turn, onward, over}
 use Rattle.run_commands.specs.Saves.{saved_behind, saved_more, saved_then, with_batch}
 use Rattle.run_commands.proofs.Endings.{ran_then, still_then}
 use Rattle.run_commands.proofs.Turns.{not_both}
 use Rattle.store_laws.proofs.Ended.{goes_behind, same_state}
-use Rattle.run_commands.proofs.Overs.{IfGoes}
 use Rattle.resume_laws.specs.Resumptions.{answers, answers_by, later_than}
 use Rattle.store_commands.specs.Replays.{replayed}
 use Rattle.store_laws.specs.OneRuns.{HoldsAs}

@@ -8,8 +8,8 @@ use Rattle.command_words.specs.declared.settings.Replay.{Replay}
 use Rattle.command_words.specs.declared.settings.Run.{Run}
 use Rattle.disk_model.specs.Histories.{History, MayLeave}
 use Rattle.image_text.specs.Payloads.{Batch}
-use Rattle.proc_lang.specs.Catalogs.{Plan, run_of}
-use Rattle.script_course.specs.Courses.{Course, Goes, Out, Stops, out_behind, told_whole}
+use Rattle.proc_lang.specs.Catalogs.{run_of}
+use Rattle.script_course.specs.Courses.{Course, Goes, Stops, out_behind, told_whole}
 use Rattle.script_text.specs.Lines.{Scan, last_line, scan}
 use Rattle.script_text.specs.declared.refusals.Refusal.{Refusal}
 use Rattle.serving.proofs.Storing.{batches_behind}
@@ -19,8 +19,8 @@ use Rattle.slot_images.specs.Images.{Checkpoint}
 use Rattle.store_openings.specs.Openings.{log_in}
 use Rattle.store_openings.specs.Saved.{Saved, is_full, laid_where, saved_in}
 use Rattle.run_commands.specs.Onces.{Doing, handed_in, listed, on_line, text_of}
-use Rattle.run_commands.specs.Outs.{is_each, no_line, text_turns}
-use Rattle.run_commands.specs.Passes.{At, Close, Drain, Line, Listed, Past, Turn, ending, ending_behind, ending_of, last, on_turn, over, past, turns, turns_whole}
+use Rattle.run_commands.specs.Outs.{is_each, no_line}
+use Rattle.run_commands.specs.Passes.{At, Close, Drain, Line, Listed, Past, Turn, ending_behind, last, on_turn, past, turns, turns_whole}
 use Rattle.run_commands.specs.Saves.{HasFront, HasLogged, ReadsAs}
 use Rattle.run_commands.specs.Resumes.{HoldsOver, IsLeftOver, held_over_all, saved_first, saved_over_all, start_over, turns_over}
 use Rattle.resume_laws.specs.Resumptions.{answers, later_than}
