@@ -67,8 +67,10 @@ module _ (plan : Plan) (each : Bool) (crowd : ℕ → Out) where
 
 module _ (plan : Plan) (each : Bool) where
   replies_more : (state : State) (before : List Batch) (batch : Batch) → replies plan each state (before ++ batch ∷ [])
-      ≡ replies plan each state before ++ ((run (run_of plan) state (map handed_in before)).batches + 1,
-      batch_text plan each (run (run_of plan) state (map handed_in before)) (handed_in batch)) ∷ []
+      ≡ replies plan each state before ++ (
+        (run (run_of plan) state (map handed_in before)).batches + 1,
+        batch_text plan each (run (run_of plan) state (map handed_in before)) (handed_in batch),
+      ) ∷ []
   replies_more state [] batch = refl
   replies_more state (b ∷ before) batch =
       ap (λ (l : List (ℕ × List ℕ)). (state.batches + 1, batch_text plan each state (handed_in b)) ∷ l)

@@ -240,7 +240,17 @@ module _ (settings : Run) (images : ℕ → List ℕ) (c : Checkpoint) (later : 
               rest = l.rest;
               are = l.are;
               state = state_behind (By l.front).c ((By l.front).later ++ batch ∷ []);
-              prints = inr (h.here, h.next, h.turn, h.more, h.printed, h.text, h.rest_is, h.goes, h.runs,
-                  as_read left (By l.front).c ((By l.front).later ++ batch ∷ []) (Answers l.front ++ (h.next.state.batches, h.text) ∷ []) h.reads t.under all
-                  found reopens);
+              prints = inr (
+                h.here,
+                h.next,
+                h.turn,
+                h.more,
+                h.printed,
+                h.text,
+                h.rest_is,
+                h.goes,
+                h.runs,
+                as_read left (By l.front).c ((By l.front).later ++ batch ∷ []) (Answers l.front ++ (h.next.state.batches, h.text) ∷ []) h.reads t.under all
+                    found reopens,
+              );
             }
