@@ -1,4 +1,7 @@
-use Rattle.std.proofs.Common.{◌∙◌, take, arith}
+use Rattle.std.proofs.Common.{◌∙◌, ◌≤◌, sym, refl, subst, length, take, arith}
+use Rattle.aria_base.specs.declared.limits.TheConstants.{LONGEST_LINE}
+use Rattle.script_course.specs.Courses.{told, told_whole}
+use Rattle.script_course.specs.Served.{Carries}
 use Rattle.std.specs.Prelude.{Err}
 use Rattle.aria_base.specs.Faults.{Rose}
 use Rattle.std.proofs.lemmas.List.{length-take-le}
@@ -8,12 +11,39 @@ use Rattle.script_course.proofs.Measures.{gone}
 use Rattle.run_commands.specs.Onces.{doing_result, on_line}
 use Rattle.run_commands.proofs.Causes.{read_since, reads_since}
 use Rattle.run_commands.proofs.Feeds.{taken_begun, taken_longest}
-use Rattle.run_commands.proofs.Pieces.{any_kept, cut_kept, end_kept, piece_kept}
+use Rattle.run_commands.proofs.Pieces.{CarriesText, any_kept, cut_kept, end_kept, piece_kept}
 use Rattle.run_commands.proofs.Turns.{none_kept}
+use Rattle.run_commands.specs.Outs.{no_line}
 use Rattle.run_commands.specs.Passes.{turns}
 use Rattle.run_commands.specs.Turns.{saved_over}
-use Rattle.script_text.specs.Lines.{scan}
+use Rattle.script_text.specs.Lines.{Feed, scan}
 use Rattle.run_commands.proofs.loops.read_script.Goals as goal
+
+pub loop-count-init : goal.loop-count-init
+loop-count-init g c =
+    let start = c.args.start in
+    let disk = g.D.Disk.history c.args.disk.now in
+    let left = g.S.Source.left c.args.input.now in
+    let given = g.K.Sink.given c.args.out.now in
+    let is = sym c.new-lines.ensures in
+    record {
+      opens = c.requires.open;
+      store = λ none. none;
+      untouched = λ none. refl;
+      source = omega arith;
+      sink = omega arith;
+      faults = omega arith;
+      within = subst (λ (l : Feed). l.taken ≤ l.limit) is (omega arith);
+      longest = subst (λ (l : Feed). l.longest ≤ LONGEST_LINE) is (omega arith);
+      begun = subst (λ (l : Feed). length l.begun ≤ l.longest) is (omega arith);
+      leads = subst (λ (l : Feed). Carries (told on_line l start.doing) (told_whole on_line l start.doing) left given
+          (told on_line no_line start.doing) (told_whole on_line no_line start.doing) left given) is (λ rest new result h. h);
+      kept = λ first saved h. (
+        saved,
+        h,
+        subst (λ (l : Feed). CarriesText first saved l start disk left given saved no_line start disk left given) is (λ new given_new result k. k),
+      );
+    }
 
 pub returns-in_default-clause-comes : goal.returns-in_default-clause-comes
 returns-in_default-clause-comes g c =
