@@ -2,7 +2,7 @@ use Rattle.std.proofs.Common.{◌≡◌, ◌∙◌, ◌<◌, ◌≤◌, ℕ, Lis
 use Rattle.aria_base.specs.Shares.{all_shares}
 use Rattle.baton_crew.specs.Hands.{HasShares, HasEnded}
 use Rattle.work_claim.specs.Seats.{IsEachOnce}
-use Rattle.work_crew.specs.Gathered.{AreGiven}
+use Rattle.work_crew.specs.Gathered.{AreGiven, places}
 use Rattle.work_crew.proofs.Fills.{given_by}
 use Rattle.baton_crew.proofs.Relayed.{begins, first_hand, rows_end, once_end}
 use Rattle.baton_crew.proofs.relays.relay.Goals as goal
@@ -57,7 +57,7 @@ in_order-requires g c =
     (sym c.deref-2.ensures.value) c.in_ok-words.ensures.counts) c.requires.rows
     c.in_ok-table.ensures.counts.0 c.in_ok-table.ensures.counts.1 c.in_ok-nexts.ensures.nexts
     c.in_ok-table.ensures.seat.0 c.in_ok-table.ensures.seat.1 c.in_ok-words.ensures.ready c.new.ensures.items) in
-    subst (IsEachOnce _) (sym c.items.ensures)
+    subst (IsEachOnce (places c.in_ok-seat.field-0.done.items)) (sym c.items.ensures)
     (once_end g.W.Course.plan g.W.Course.gives c.in_ok-table.table.shared.key c.args.work.now c.in_ok-table.ensures.key c.in_ok-table.table.shared.table_id
     c.in_ok-nexts.nexts
     c.in_ok-seat.field-0 ended _ c.in_ok-rows.rows.items c.in_ok-rows.ensures.1.1)
@@ -72,4 +72,4 @@ returns-clause-given g c =
     c.in_ok-table.ensures.counts.0 c.in_ok-table.ensures.counts.1 c.in_ok-nexts.ensures.nexts
     c.in_ok-table.ensures.seat.0 c.in_ok-table.ensures.seat.1 c.in_ok-words.ensures.ready c.new.ensures.items) in
     subst (λ n. AreGiven (g.W.Course.gives c.args.work.now) n c.in_ok-outputs.outputs.items) c.items.ensures
-    (given_by (g.W.Course.gives c.args.work.now) _ ended.at_board.is.given _ c.in_ok-outputs.outputs.items c.in_ok-outputs.ensures)
+    (given_by (g.W.Course.gives c.args.work.now) c.in_ok-seat.field-0.done.items ended.at_board.is.given _ c.in_ok-outputs.outputs.items c.in_ok-outputs.ensures)
