@@ -12,6 +12,9 @@ begins an answer.
 Then the disk is full: a store on a small file system of its own, `run` until it ends with 5, more room, and `run` again. Where none
 can be mounted, that is said and skipped.
 
+Last what docs/replication.md says beside that: a listing by `run` without input, a copy of a folder, a checkpoint's body as a
+head, another log of the same numbers, a reader of answers that goes away, and a log that is cut within a batch.
+
 The seed of the draws is printed, and gives the same script and delays again, though not the same kills. Ends with 0
 exactly where all is as said, and within about the seconds that are given (60).
 """
@@ -23,6 +26,7 @@ import os
 import pathlib
 import random
 import re
+import shutil
 import signal
 import subprocess
 import sys
@@ -305,6 +309,56 @@ def room(disk, kilobytes):
     subprocess.run(["mount", "-o", f"remount,size={kilobytes}k", str(disk)], check=True)
 
 
+def body_of(folder):
+    """The body of the newest checkpoint: what stands behind the 40 bytes of its head, as long as these say."""
+    slots = [(folder / "aria-store" / name).read_bytes() for name in ("ckpt0", "ckpt1")]
+    text = max((slot for slot in slots if slot[:1] == b"\x01"), key=lambda slot: int.from_bytes(slot[8:16], "little"))
+    return text[40 : 40 + int.from_bytes(text[32:40], "little")]
+
+
+def claim(program, top):
+    """A store of a bank by hand, and what the page says of it."""
+    head = b"catalog bank\nrow acct 1 = 10\nrow acct 2 = 20\n"
+    first, second = b"tx add 1 5\ntx add 1 7\nend 1\n", b"tx add 2 1\nend 2\n"
+    one, other, third = (top / name for name in ("one", "other", "third"))
+    one.mkdir()
+
+    def run(folder, given, *options):
+        text, status = call(program, ["run", *options], given, folder)
+        expect(status == 0, f"run ends with {status}")
+        return Printed(text)
+
+    expect(call(program, ["init"], head, one) == (b"ready\n", 0), "init makes no store")
+    begun = run(one, first, "--checkpoint", "1")
+    expect(b"2 wait waw 1\n" in begun.answers[1], "request 2 waits")
+    listed = run(one, b"")
+    expect((listed.at, listed.listing) == (1, begun.listing), "run without input lists the store")
+    expect(body_of(one).endswith(b"held 2 add 1 7\n"), "the body ends with what waits")
+    third.mkdir()
+    text, status = call(program, ["init"], body_of(one), third)
+    expect(status == 1 and text.endswith(b" word\n"), "a head takes no requests that wait")
+    shutil.copytree(one, other)
+    expect(run(one, first + second).answers == run(other, second).answers, "a copy gives other answers")
+    expect(run(one, b"").listing == run(other, b"").listing, "a copy comes to other rows")
+    kept = run(other, b"tx set 1 0\nend 1\ntx set 1 0\nend 2\n")
+    expect((kept.kept, kept.listing) == ([1, 2], run(one, b"").listing), "a batch is kept by its number alone")
+    ended = run(one, b"end 3\n", "--checkpoint", "1")
+    expect(call(program, ["init"], body_of(one), third) == (b"ready\n", 0), "a body is a head where nothing waits")
+    begins = run(third, b"")
+    expect((begins.at, begins.listing) == (0, ended.listing.replace(b"state 3", b"state 0")), "the head of a body has its rows")
+    reads, writes = os.pipe()
+    os.close(reads)
+    with open(writes, "wb") as gone:
+        ran = subprocess.run([program, "run"], input=b"end 4\n", stdout=gone, stderr=subprocess.DEVNULL, cwd=one, check=False)
+    expect(ran.returncode == 4, "run ends with 4 where nobody reads")
+    expect(run(one, b"").at == 3, "nothing was run behind a first line that could not be written")
+    text, status = call(program, ["run"], b"tx add 1 1\nend 4\ntx add 1 1\n", one)
+    expect(status == 1 and text.endswith(b"refused 4 unfinished\n"), "a log that is cut within a batch")
+    again = run(one, b"tx add 1 1\nend 4\ntx add 1 1\nend 5\n")
+    expect((again.kept, list(again.answers)) == ([4], [5]), "the batch that was cut is run when it is whole")
+    print("what the page says beside it: as it says")
+
+
 def main():
     parser = argparse.ArgumentParser(description=__doc__, formatter_class=argparse.RawDescriptionHelpFormatter)
     parser.add_argument("program")
@@ -319,6 +373,7 @@ def main():
             follow(program, pathlib.Path(folder), seed, options.seconds)
             fill(program, pathlib.Path(folder), seed, [])
             fill(program, pathlib.Path(folder), seed, ["--checkpoint", "5"])
+            claim(program, pathlib.Path(folder))
         except Fault as fault:
             print(f"fault: {fault}")
             return 1
