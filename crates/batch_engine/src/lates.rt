@@ -2,7 +2,7 @@
 ghost use Rattle.std.specs.Prelude.{◌≡◌, ◌≤◌, length, map, drop, All, IfOk};
 ghost use Rattle.aria_base.specs.declared.limits.TheConstants.{MOST_PERCENT, MOST_REQUESTS, MOST_WORKERS};
 ghost use Rattle.proc_lang.specs.Catalogs.{run_of};
-ghost use Rattle.proc_exec.specs.Lates.{fate_of};
+ghost use Rattle.proc_exec.specs.Lates.{IsLateFold, fate_of};
 ghost use Rattle.dep_rules.specs.Sheets.{IsTid};
 ghost use Rattle.fallback_locks.specs.Numbers.{StandFor};
 ghost use Rattle.batch_engine.specs.Answers.{still_waiting, first_ended};
@@ -13,6 +13,7 @@ use dep_rules::{Config, Numbered};
 use fallback_locks::rerun_numbered;
 use proc_exec::{Late, Waiting};
 use proc_lang::Catalog;
+use row_batons::rerun_batons_numbered;
 use std::alloc::Global;
 use std::thread::Threads;
 use tbl_rows::Tables;
@@ -52,16 +53,37 @@ pub(crate) fn run_late<P: Pace + Sync, R: Threads + Sync>(
     if !is_due(config.fallback, waiting.len(), size) {
         return Ok((tables, Vec::new(alloc)));
     }
+    rerun_all(
+        rt, alloc, catalog, tables, waiting, numbered, tids, config, pace,
+    )
+}
+
+/// Runs all that wait again, in the way that the settings say.
+fn rerun_all<P: Pace + Sync, R: Threads + Sync>(
+    rt: &R,
+    alloc: Global,
+    catalog: &Catalog,
+    tables: Tables,
+    waiting: &[Waiting],
+    numbered: &Numbered,
+    tids: &[u32],
+    config: &Config,
+    pace: &P,
+) -> Result<(Tables, Vec<Late>), Memory>
+    requires waiting { length waiting.now ≤ MOST_REQUESTS }
+    requires tids { All (λ tid. IsTid numbered.now tid) tids.now }
+    requires numbered { StandFor numbered.now tids.now waiting.now }
+    requires workers { (1 ≤ config.now.workers) × (config.now.workers ≤ MOST_WORKERS) }
+    ensures { IfOk result (λ r. IsLateFold (run_of catalog.now) tables waiting.now r.1.items r.0) }
+{
+    let workers = config.workers;
+    if config.batons {
+        return rerun_batons_numbered(
+            rt, alloc, catalog, tables, waiting, numbered, tids, workers, pace,
+        );
+    }
     rerun_numbered(
-        rt,
-        alloc,
-        catalog,
-        tables,
-        waiting,
-        numbered,
-        tids,
-        config.workers,
-        pace,
+        rt, alloc, catalog, tables, waiting, numbered, tids, workers, pace,
     )
 }
 

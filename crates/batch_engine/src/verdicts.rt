@@ -9,10 +9,10 @@ use batch_rules::verdicts::{Rule, Verdict};
 use dep_rules::{Numbered, decide};
 use std::alloc::Global;
 use std::thread::Threads;
-use work_crew::{Task, gather};
+use work_crew::{Task, gather, workers_for};
 
 /// To start a thread takes longer than to decide so many requests.
-const LEAST_A_WORKER: u32 = 256;
+const LEAST_A_WORKER: usize = 256;
 
 /// The requests of a batch, whose keys are numbered and marked.
 #[derive(Drop)]
@@ -73,6 +73,6 @@ pub(crate) fn decide_all<R: Threads + Sync>(
         rule,
         count,
     };
-    let most = count / LEAST_A_WORKER + 1;
-    gather(rt, alloc, &decisions, workers.min(most), &Free)
+    let workers = workers_for(count as usize, LEAST_A_WORKER, workers);
+    gather(rt, alloc, &decisions, workers, &Free)
 }

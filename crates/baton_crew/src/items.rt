@@ -5,13 +5,14 @@ ghost use Rattle.baton_crew.specs.Seats.{IsBoard};
 ghost use Rattle.baton_crew.specs.Hands.{IsHand, IsApart, IsStand, IsHandAt};
 
 use crate::courses::Course;
-use crate::hands::{Done, hand_on, lift};
+use crate::hands::{hand_on, lift};
 use crate::lists::Lists;
 use crate::rules::View;
 use crate::steps::{Board, split, take, unite};
 use aria_base::{Memory, Pace, Place as Step};
 use atomic_table::Seat;
 use std::alloc::Global;
+use work_crew::Done;
 
 /// From so many ready items on a worker shares them with another one. Two is the least that can be shared. More
 /// would save the start of a thread where runs are short, and leave workers idle where they are long.

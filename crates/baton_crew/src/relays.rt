@@ -3,7 +3,6 @@ ghost use Rattle.std.specs.Prelude.{◌≡◌, ◌<◌, ◌≤◌, ◌+◌, ◌-
 ghost use Rattle.aria_base.specs.Shares.{all_shares};
 ghost use Rattle.aria_base.specs.declared.limits.TheConstants.{MOST_WORKERS};
 ghost use Rattle.atomic_table.specs.Table.{Final, Seen, opening};
-ghost use Rattle.work_claim.specs.Seats.{IsEachOnce};
 ghost use Rattle.work_crew.specs.Gathered.{AreGiven};
 ghost use Rattle.baton_crew.specs.Courses.{IsCourse, AreRows};
 ghost use Rattle.baton_crew.specs.Rule.{Kept, first_view};
@@ -11,10 +10,8 @@ ghost use Rattle.baton_crew.specs.Hands.{HasShares, HasEnded};
 
 use crate::courses::Course;
 use crate::crews::{Bench, spread};
-use crate::hands::Done;
 use crate::items::{Hand, HandOf, labour, part, whole};
 use crate::lists::Lists;
-use crate::outputs::{all_of, empty_slots, fill};
 use crate::plans::{counts, queues};
 use crate::rules::{Batons, View};
 use crate::steps::{Board, Place};
@@ -22,6 +19,7 @@ use aria_base::{Memory, Pace};
 use atomic_table::{Refused, Table};
 use std::alloc::Global;
 use std::thread::Threads;
+use work_crew::in_order;
 
 /// Where workers stand that run the items of a course.
 #[derive(Drop)]
@@ -105,23 +103,8 @@ where
         done,
     } = spread(rt, &stand, hand, 0, workers)?;
     let rows = taken_down(alloc, table, seat, work.slots())?;
-    let outputs = in_order(alloc, work, done)?;
+    let outputs = in_order(alloc, work.items(), done)?;
     Ok((rows, outputs))
-}
-
-/// The outputs in the order of the items.
-fn in_order<W: Course>(
-    alloc: Global,
-    work: &W,
-    done: Vec<Done<W::Output>>,
-) -> Result<Vec<W::Output>, Memory>
-    requires once { IsEachOnce (map (λ d. d.place) done.items) (W.plan work.now).items }
-    requires given { All (λ d. W.gives work.now d.place d.output) done.items }
-    ensures { IfOk result (λ outputs. AreGiven (W.gives work.now) (W.plan work.now).items outputs.items) }
-{
-    let mut slots = empty_slots(alloc, work.items() as usize)?;
-    fill(&mut slots, done);
-    all_of(alloc, slots)
 }
 
 /// The slots and counts as workers share them.

@@ -81,6 +81,7 @@ fn run<P: Pace + Sync, R: Threads + Sync>(
         rule: settings.rule,
         fallback: settings.fallback,
         workers: settings.workers,
+        batons: settings.batons,
     };
     let live = begin(alloc, generator, config, settings.replicas)?;
     let start = Turn { live, tally: BLANK };

@@ -11,4 +11,7 @@ pub struct Config {
     pub fallback: u32,
     /// How many workers run a batch's phases, 1 to 64. No answer depends on it.
     pub workers: u32,
+    /// How what waits is run again: by rows that are handed from request to request where this is true,
+    /// else wave after wave. No answer depends on it.
+    pub batons: bool,
 }

@@ -35,6 +35,7 @@ const CONFIG: Config = Config {
     rule: Rule::Reorder,
     fallback: 101,
     workers: 2,
+    batons: false,
 };
 
 /// Why the program stops.

@@ -47,6 +47,7 @@ const BATCHES: [&str; 3] = [
 const ENGINES: Engines = Engines {
     replicas: 3,
     workers: 2,
+    batons: false,
     each: false,
     checkpoint: 2,
 };

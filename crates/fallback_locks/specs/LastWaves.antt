@@ -45,6 +45,14 @@ last_toucher table keys = highest (λ q. max (table q).reader (table q).writer) 
 abbrev pub wave_by : {K : Type 0} → (K → Last) → Declared K → ℕ
 wave_by table declared = suc (max (last_writer table declared.reads) (last_toucher table declared.writes))
 
+-- two tables have the same of each key
+abbrev pub AreSame : {K : Type 0} → (K → Last) → (K → Last) → Type 0
+AreSame {K} one other = (q : K) → one q ≡ other q
+
+-- a key that has a place in the one table has one in the other
+abbrev pub HasPlacesOf : {K : Type 0} → (K → Type 0) → (K → Type 0) → Type 0
+HasPlacesOf {K} one other = (q : K) → one q → other q
+
 abbrev pub IsBelow : ℕ → Last → Type 0
 IsBelow n last = (last.reader < n) × (last.writer < n)
 

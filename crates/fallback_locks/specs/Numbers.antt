@@ -1,12 +1,11 @@
 -- Waiting requests by the numbers of the keys that they declare.
-use Rattle.std.specs.Prelude.{◌≡◌, ℕ, List, [], map, true}
-use Rattle.std.specs.List.{All}
+use Rattle.std.specs.Prelude.{◌≡◌, ℕ, List, [], map}
 use Rattle.std.specs.Ordering.{nat_cmp}
 use Rattle.aria_base.specs.Orders.{key_cmp}
 use Rattle.aria_base.specs.declared.keys.Key.{Key}
 use Rattle.batch_rules.specs.Numberings.{IsOneToOneOn, HasKeysOf}
 use Rattle.batch_rules.specs.Touches.{Declared}
-use Rattle.batch_rules.specs.Waves.{Waved, waved}
+use Rattle.batch_rules.specs.Waves.{waved}
 use Rattle.dep_rules.specs.Sheets.{Sheet, reads_at, writes_at}
 use Rattle.proc_exec.specs.declared.outcomes.Waiting.{Waiting}
 

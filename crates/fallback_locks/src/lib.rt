@@ -25,13 +25,12 @@
 
 mod dones;
 mod groups;
-mod key_table;
 mod lasts;
 mod levels;
-mod number_table;
 mod reruns;
 mod rounds;
 mod settlements;
+mod tables;
 
 pub use levels::{waves, waves_numbered};
 pub use reruns::{rerun, rerun_numbered};

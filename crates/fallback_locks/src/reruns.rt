@@ -11,7 +11,7 @@ ghost use Rattle.fallback_locks.specs.Reruns.{AllFit, waves_of};
 use crate::groups::groups;
 use crate::levels::{waves, waves_numbered};
 use crate::rounds::run_wave;
-use crate::settlements::{all_of, empty_slots, settle};
+use crate::settlements::settle;
 use aria_base::{Memory, Pace};
 use dep_rules::Numbered;
 use proc_exec::{Late, Waiting};
@@ -20,6 +20,7 @@ use std::alloc::Global;
 use std::thread::Threads;
 use tbl_rows::Tables;
 use tbl_snapshot::Snapshot;
+use work_crew::{all_of, empty_slots};
 
 /// Runs the waiting requests, at most 10,000, again within the keys that they declared: what becomes of
 /// each, in the order of the list, and the tables that they leave. Both are as if the requests ran one after

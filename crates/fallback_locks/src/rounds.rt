@@ -12,11 +12,11 @@ use proc_lang::Catalog;
 use std::alloc::Global;
 use std::thread::Threads;
 use tbl_snapshot::Snapshot;
-use work_crew::{Task, gather};
+use work_crew::{Task, gather, workers_for};
 
 /// How many requests of a wave there are for each further worker at least: to start a thread takes longer than
 /// to run fewer again.
-const LEAST_A_WORKER: u32 = 8;
+const LEAST_A_WORKER: usize = 8;
 
 /// The requests at some places of the list of all that wait, on the rows that their wave finds.
 #[derive(Drop)]
@@ -80,8 +80,8 @@ pub(crate) fn run_wave<P: Pace + Sync, R: Threads + Sync>(
         places,
         count: places.len() as u32,
     };
-    let most = round.count / LEAST_A_WORKER + 1;
-    gather(rt, alloc, &round, workers.min(most), pace)
+    let workers = workers_for(places.len(), LEAST_A_WORKER, workers);
+    gather(rt, alloc, &round, workers, pace)
 }
 
 /// Runs the request that stands at this place of the list within the keys that it declared. One that

@@ -1,5 +1,6 @@
 -- Writes that are made shard by shard leave, at each key, what they leave in the whole map.
 use Rattle.std.proofs.Common.{◌≡◌, refl, sym, ap, subst, ◌∙◌, ◌≢◌, ℕ, ◌<◌, List, [], ◌∷◌, ◌++◌, ◌+◌, map, reverse, flat_map, length, get_or, true, false, cond, Option, nat_eq, All}
+use Rattle.std.specs.Prelude.{if◌then◌else◌}
 use Rattle.std.specs.Ordering.{eq_by_cmp}
 use Rattle.std.specs.FinMap as fin
 use Rattle.std.proofs.Math.ListN.{get_or-map}
@@ -14,6 +15,7 @@ use Rattle.aria_base.proofs.Orders.{key_cmp_total, key_cmp-IsAntisymmetric}
 use Rattle.batch_rules.specs.Trees.{set_at}
 use Rattle.batch_rules.specs.Touches.{overwritten, installed}
 use Rattle.batch_rules.proofs.Maps.{get-set_at, same_key}
+use Rattle.batch_rules.specs.Verdicts.{finishes}
 use Rattle.batch_rules.specs.declared.verdicts.Verdict.{Verdict}
 use Rattle.batch_rules.specs.declared.verdicts.Verdict.TheVariants.{Finish, Wait}
 use Rattle.batch_rules.specs.Batches.{Judged, decided, finishing}
@@ -52,6 +54,37 @@ same_changes tid rows [] verdicts = refl
 same_changes tid rows (outcome ∷ outcomes) [] = refl
 same_changes tid rows (outcome ∷ outcomes) (Finish raw ∷ verdicts) = same_changes (tid + 1) (overwritten rows outcome.writes) outcomes verdicts
 same_changes tid rows (outcome ∷ outcomes) (Wait cause ∷ verdicts) = same_changes (tid + 1) rows outcomes verdicts
+
+-- the last change may be made first
+overwritten-push : (db : Database) (ws : Written) (w : Key × Option Cells) → overwritten db (ws ++ w ∷ []) ≡ overwritten (set_at db w.0 w.1) ws
+overwritten-push db [] w = refl
+overwritten-push db (v ∷ vs) w = ap (λ m. set_at m v.0 v.1) (overwritten-push db vs w)
+
+pub last_put : (db new all : Database) (ws rest : Written) (key : Key) (found row : Option Cells) → ws ≡ rest ++ (key, found) ∷ [] → found ≡ row
+    → new ≡ set_at db key row → overwritten db ws ≡ all
+    → overwritten new rest ≡ all
+last_put db new all ws rest key found row e f n was =
+    ap (λ m. overwritten m rest) n ∙ sym (ap (overwritten db) (e ∙ ap (λ r. rest ++ (key, r) ∷ []) f) ∙ overwritten-push db rest (key, row)) ∙ was
+
+-- ---- requests, one after the other
+
+-- the first request of those that are still to be installed
+pub first_put : (tid : ℕ) (rows new : Database) (changes : Written) (later list : List Written) (verdict : Verdict) (behind verdicts : List Verdict)
+    → list ≡ changes ∷ later → verdicts ≡ verdict ∷ behind → new ≡ (if finishes verdict then overwritten rows changes else rows)
+    → after_changes (tid + 1) new later behind ≡ after_changes tid rows list verdicts
+first_put tid rows new changes later list verdict behind verdicts e f n =
+    ap (λ m. after_changes (tid + 1) m later behind) n ∙ here verdict
+    ∙ sym (ap (λ os. after_changes tid rows os verdicts) e ∙ ap (after_changes tid rows (changes ∷ later)) f)
+  where
+    here : (v : Verdict)
+        → after_changes (tid + 1) (if finishes v then overwritten rows changes else rows) later behind ≡ after_changes tid rows (changes ∷ later) (v ∷ behind)
+    here (Finish raw) = refl
+    here (Wait cause) = refl
+
+-- without a verdict no request finishes
+pub none_put : (tid : ℕ) (rows : Database) (list : List Written) → after_changes tid rows list [] ≡ rows
+none_put tid rows [] = refl
+none_put tid rows (changes ∷ list) = refl
 
 -- ---- shard by shard
 

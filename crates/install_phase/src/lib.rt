@@ -5,7 +5,7 @@
 //! gets its list of each run, in the order of the runs. Then each worker gets some of the shards with
 //! their writes, and no worker touches another's. The shards together again are the tables with all
 //! writes, as if they had been made one after the other. Rows are moved and never copied, and lists of
-//! writes are moved whole.
+//! writes are moved whole. One worker deals nothing: it makes the writes one request after the other.
 //!
 //! ```text
 //! requests ------> run 0     ..   run w          one for each worker
@@ -24,6 +24,7 @@ mod deals;
 mod hands;
 mod installs;
 mod jobs;
+mod puts;
 mod shares;
 #[cfg(test)]
 mod tests;

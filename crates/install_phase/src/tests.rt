@@ -16,10 +16,10 @@ use std::thread::Threads;
 use tbl_rows::Tables;
 
 /// How many accounts there are, and requests, each of which writes one.
-const COUNT: i64 = 40;
+const COUNT: i64 = 400;
 
 /// How many requests there are in a crowd, in which five write each account.
-const CROWD: i64 = 200;
+const CROWD: i64 = 2_000;
 
 /// Asserts that what was found in this case is what is wanted.
 fn same<T: PartialEq + Debug>(rt: &impl Abort, case: &impl Debug, found: &T, wanted: &T) {
@@ -145,13 +145,13 @@ fn crowded<R: Threads + Sync>(rt: &R, alloc: Global, workers: u32) -> Result<Tab
     Ok(install_changes(rt, alloc, tables, list, &verdicts, workers, &Free)?)
 }
 
-/// What stands there then, worked out: the last request of an account is 160 behind its first, and
+/// What stands there then, worked out: the last request of an account is 1,600 behind its first, and
 /// waits where the account's number is one more than a multiple of three. Then the one before it counts,
-/// 40 earlier.
+/// 400 earlier.
 fn expected_of_crowd(alloc: Global) -> Result<Vec<(i64, i64)>, Memory> {
     let mut pairs = Vec::new(alloc);
     for account in 0..COUNT {
-        let last: i64 = if account % 3 == 1 { 1_120 } else { 1_160 };
+        let last: i64 = if account % 3 == 1 { 2_200 } else { 2_600 };
         if account % 4 != 3 {
             pairs.push((account, last.saturating_add(account)))?;
         }

@@ -47,6 +47,7 @@ pub fn once<S: Source, K: Sink, D: Disk, P: Pace + Sync, R: Threads + Sync>(
         rule: settings.rule,
         fallback: settings.fallback,
         workers: settings.workers,
+        batons: settings.batons,
     };
     let each = is_each(settings.listing);
     let Ok(start) = Script::start(alloc, config, settings.replicas, each) else {

@@ -70,6 +70,7 @@ pub fn run<S: Source, K: Sink, D: Disk, P: Pace + Sync, R: Threads + Sync>(
     let engines = Engines {
         replicas: settings.replicas,
         workers: settings.workers,
+        batons: settings.batons,
         each: is_each(settings.listing),
         checkpoint: settings.checkpoint,
     };

@@ -103,11 +103,12 @@ fn replay_found<K: Sink, D: Disk, P: Pace + Sync, R: Threads + Sync>(
 
 /// How the batches are run. No memory.
 fn engines_of(settings: &Replay) -> Engines
-    ensures { result ≡ record { replicas = settings.now.replicas; workers = settings.now.workers; each = is_each settings.now.listing; checkpoint = 0 } }
+    ensures { result ≡ record { replicas = settings.now.replicas; workers = settings.now.workers; batons = settings.now.batons; each = is_each settings.now.listing; checkpoint = 0 } }
 {
     Engines {
         replicas: settings.replicas,
         workers: settings.workers,
+        batons: settings.batons,
         each: is_each(settings.listing),
         checkpoint: 0,
     }

@@ -20,6 +20,8 @@ pub struct Engines {
     pub replicas: u32,
     /// In how many workers each of them, from 1 to 64.
     pub workers: u32,
+    /// Whether what waits is run again by rows that are handed on, or wave after wave.
+    pub batons: bool,
     /// Whether the rows are listed behind each answer.
     pub each: bool,
     /// Behind how many batches each a checkpoint is laid, 0 for never.
@@ -44,6 +46,7 @@ pub fn begin(alloc: Global, engines: &Engines, image: Image) -> Result<Live, Mem
         rule: image.rule,
         fallback: image.fallback,
         workers: engines.workers,
+        batons: engines.batons,
     };
     Live::begin(
         alloc,

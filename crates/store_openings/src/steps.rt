@@ -31,6 +31,7 @@ pub fn settings_with(config: Config, rule: Rule, fallback: u32) -> Config
         rule,
         fallback,
         workers: config.workers,
+        batons: config.batons,
     }
 }
 

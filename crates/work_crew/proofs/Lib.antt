@@ -1,3 +1,3 @@
 pub mod Draws
-mod Fills
+pub mod Fills
 pub mod Lists

@@ -4,7 +4,7 @@ ghost use Rattle.aria_base.specs.declared.limits.TheConstants.{MOST_WORKERS};
 ghost use Rattle.work_crew.specs.Gathered.{AreGiven, IsGathered};
 
 use crate::crews::carry_out;
-use crate::outputs::{Done, all_of, empty_slots, fill};
+use crate::outputs::{Done, in_order};
 use crate::works::Work;
 use aria_base::{Memory, Pace, Place};
 use std::alloc::Global;
@@ -87,7 +87,5 @@ pub fn gather<T: Task + Sync, P: Pace + Sync, R: Threads + Sync>(
 {
     let gathering = Gathering { alloc, task, pace };
     let done = carry_out(rt, alloc, &gathering, Vec::new(alloc), workers, pace)?;
-    let mut slots = empty_slots(alloc, task.len() as usize)?;
-    fill(&mut slots, done);
-    all_of(alloc, slots)
+    in_order(alloc, task.len(), done)
 }

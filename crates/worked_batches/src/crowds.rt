@@ -15,6 +15,7 @@ const CONFIG: Config = Config {
     rule: Rule::Reorder,
     fallback: 101,
     workers: 3,
+    batons: false,
 };
 
 /// So many times the same call.

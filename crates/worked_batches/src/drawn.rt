@@ -51,6 +51,7 @@ fn drawn_config(draws: &mut Draws) -> Config
         rule,
         fallback: drawn(draws, 102) - 1,
         workers,
+        batons: drawn(draws, 2) == 1,
     }
 }
 
@@ -107,6 +108,7 @@ fn by_one_worker<R: Abort + Threads + Sync>(
         rule: config.rule,
         fallback: config.fallback,
         workers: 1,
+        batons: false,
     };
     let copy = engine.copy(alloc).expect(rt, MEMORY);
     let (_copy, answer) = run(rt, alloc, copy, calls(rt, alloc, asks), &alone, &Free);

@@ -162,6 +162,7 @@ fn config_of(rt: &impl Abort, example: &Example, workers: u32) -> Config
         rule,
         fallback,
         workers,
+        batons: false,
     }
 }
 

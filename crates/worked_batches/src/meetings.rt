@@ -15,6 +15,7 @@ const CONFIG: Config = Config {
     rule: Rule::Plain,
     fallback: 0,
     workers: 2,
+    batons: false,
 };
 
 const ACCOUNTS: [Account; 3] = [(1, 10), (2, 20), (3, 30)];
@@ -80,10 +81,10 @@ fn each_replica_runs_each_request(rt: HostRuntime) {
     told(&rt, &steps, 9, 6);
 }
 
-/// Forty calls that each put an account of its own.
+/// Three hundred calls that each put an account of its own: so many that two workers mark them.
 fn apart(rt: &impl Abort, alloc: Global) -> Vec<Ask> {
     let mut asks = Vec::new(alloc);
-    for account in 0..40_i64 {
+    for account in 0..300_i64 {
         asks.push((SET, account, 7)).expect(rt, MEMORY);
     }
     asks
@@ -102,7 +103,7 @@ fn two_workers_meet_before_their_first_mark(rt: HostRuntime) {
     let gate = Gate::before(Place::Mark);
     let asks = apart(&rt, rt.alloc());
     let answer = run_at(&rt, rt.alloc(), &asks, &gate);
-    met(&rt, &gate, &answer, 40, 40);
+    met(&rt, &gate, &answer, 300, 300);
 }
 
 #[test]

@@ -66,6 +66,7 @@ fn drawn_config(draws: &mut Draws) -> Config {
         rule: drawn_rule(draws),
         fallback: drawn(draws, 102) - 1,
         workers: 1,
+        batons: false,
     }
 }
 

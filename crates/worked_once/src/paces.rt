@@ -6,10 +6,10 @@ use std::alloc::Global;
 use std::test::Fail;
 use test_paces::{Gate, Steps};
 
-/// Forty requests that each write an account of their own.
+/// Three hundred requests that each write an account of their own: so many that two workers mark them.
 fn apart(alloc: Global) -> Result<String, Memory> {
     let mut script = String::from_str(alloc, "catalog bank\n")?;
-    for account in 1..=40_u32 {
+    for account in 1..=300_u32 {
         script.push_str(&format!(in alloc; "tx set {account} 7\n")?)?;
     }
     script.push_str("end 1\n")?;
@@ -29,7 +29,7 @@ fn two_workers_mark_at_once(rt: HostRuntime) -> Result<(), Fail> {
     let gate = Gate::before(Place::Mark);
     let (status, _) = run(&rt, &case, &gate)?;
     let told = (status, gate.was_missed(), gate.steps());
-    assert_eq!(&rt; told, (DONE, false, 40));
+    assert_eq!(&rt; told, (DONE, false, 300));
     Ok(())
 }
 

@@ -58,19 +58,20 @@ fn execute_hundred<R: Threads + Sync, P: Pace + Sync>(
     Ok(())
 }
 
-/// A hundred requests: each reads one of ten accounts, and each from the 51st on writes one.
-fn hundred_sets(alloc: Global) -> Result<Vec<Sets>, Fail> {
+/// Six hundred requests, so many that three workers mark them: each reads one of ten accounts, and each from the
+/// 301st on writes one.
+fn many_sets(alloc: Global) -> Result<Vec<Sets>, Fail> {
     let mut list = Vec::new(alloc);
-    for place in 0..100_u32 {
+    for place in 0..600_u32 {
         let account = [place % 10];
-        let written = if place < 50 { 0 } else { 1 };
+        let written = if place < 300 { 0 } else { 1 };
         list.push(sets(alloc, &account, &account[..written])?)?;
     }
     Ok(list)
 }
 
 /// They are marked at this pace.
-fn mark_hundred<R: Abort + Threads + Sync, P: Pace + Sync>(
+fn mark_many<R: Abort + Threads + Sync, P: Pace + Sync>(
     rt: &R,
     alloc: Global,
     workers: u32,
@@ -78,7 +79,7 @@ fn mark_hundred<R: Abort + Threads + Sync, P: Pace + Sync>(
 ) -> Result<(), Fail>
     requires { (1 ≤ workers) × (workers ≤ MOST_WORKERS) }
 {
-    let sets = hundred_sets(alloc)?;
+    let sets = many_sets(alloc)?;
     if !may_be_numbered(&sets) {
         panic!(rt; "too many sets");
     }
@@ -124,8 +125,8 @@ fn two_workers_meet_before_their_first_run(rt: HostRuntime) -> Result<(), Fail> 
 #[test]
 fn two_workers_meet_before_their_first_mark(rt: HostRuntime) -> Result<(), Fail> {
     let gate = Gate::before(Place::Mark);
-    mark_hundred(&rt, rt.alloc(), 2, &gate)?;
-    met(&rt, &gate, 150);
+    mark_many(&rt, rt.alloc(), 2, &gate)?;
+    met(&rt, &gate, 900);
     Ok(())
 }
 
@@ -144,8 +145,8 @@ fn each_step_is_told(rt: HostRuntime) -> Result<(), Fail> {
     execute_hundred(&rt, alloc, 3, &steps)?;
     same(&rt, &"runs", &told(&steps), &[103, 100, 0, 0, 0]);
     let steps = Steps::new();
-    mark_hundred(&rt, alloc, 3, &steps)?;
-    same(&rt, &"marks", &told(&steps), &[103, 0, 150, 0, 0]);
+    mark_many(&rt, alloc, 3, &steps)?;
+    same(&rt, &"marks", &told(&steps), &[603, 0, 900, 0, 0]);
     let steps = Steps::new();
     install_hundred(&rt, alloc, 3, &steps)?;
     same(&rt, &"writes", &told(&steps), &[0, 0, 0, 75, 0]);

@@ -149,6 +149,7 @@ impl Base {
             rule,
             fallback,
             workers: 1,
+            batons: false,
         };
         let held: [Request; 0] = [];
         let batches = self.before + added;

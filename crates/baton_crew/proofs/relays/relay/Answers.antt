@@ -1,6 +1,9 @@
 use Rattle.std.proofs.Common.{◌≡◌, ◌∙◌, ◌<◌, ◌≤◌, ℕ, List, sym, ap, arith, length, map, subst}
 use Rattle.aria_base.specs.Shares.{all_shares}
 use Rattle.baton_crew.specs.Hands.{HasShares, HasEnded}
+use Rattle.work_claim.specs.Seats.{IsEachOnce}
+use Rattle.work_crew.specs.Gathered.{AreGiven, places}
+use Rattle.work_crew.proofs.Fills.{given_by}
 use Rattle.baton_crew.proofs.Relayed.{begins, first_hand, rows_end, once_end}
 use Rattle.baton_crew.proofs.relays.relay.Goals as goal
 
@@ -45,8 +48,8 @@ returns-clause-rows g c =
     c.in_ok-nexts.nexts
     c.in_ok-seat.field-0 ended _ c.in_ok-rows.rows.items c.in_ok-rows.ensures.1.1 c.slots.result c.in_ok-rows.ensures.0 c.slots.ensures
 
-pub in_order-requires-clause-once : goal.in_order-requires-clause-once
-in_order-requires-clause-once g c =
+pub in_order-requires : goal.in_order-requires
+in_order-requires g c =
     let ended = c.in_ok-seat.ensures all_shares (first_hand g.W.Course.plan g.W.Course.gives c.in_ok-table.table.shared.key c.args.work.now
     c.in_ok-table.ensures.key c.in_ok-table.table.shared.table_id c.in_ok-nexts.nexts
     c.requires.course c.deref-2.result.now c.args.rows.items _
@@ -54,16 +57,19 @@ in_order-requires-clause-once g c =
     (sym c.deref-2.ensures.value) c.in_ok-words.ensures.counts) c.requires.rows
     c.in_ok-table.ensures.counts.0 c.in_ok-table.ensures.counts.1 c.in_ok-nexts.ensures.nexts
     c.in_ok-table.ensures.seat.0 c.in_ok-table.ensures.seat.1 c.in_ok-words.ensures.ready c.new.ensures.items) in
-    once_end g.W.Course.plan g.W.Course.gives c.in_ok-table.table.shared.key c.args.work.now c.in_ok-table.ensures.key c.in_ok-table.table.shared.table_id
+    subst (IsEachOnce (places c.in_ok-seat.field-0.done.items)) (sym c.items.ensures)
+    (once_end g.W.Course.plan g.W.Course.gives c.in_ok-table.table.shared.key c.args.work.now c.in_ok-table.ensures.key c.in_ok-table.table.shared.table_id
     c.in_ok-nexts.nexts
-    c.in_ok-seat.field-0 ended _ c.in_ok-rows.rows.items c.in_ok-rows.ensures.1.1
+    c.in_ok-seat.field-0 ended _ c.in_ok-rows.rows.items c.in_ok-rows.ensures.1.1)
 
-pub in_order-requires-clause-given : goal.in_order-requires-clause-given
-in_order-requires-clause-given g c =
-    (c.in_ok-seat.ensures all_shares (first_hand g.W.Course.plan g.W.Course.gives c.in_ok-table.table.shared.key c.args.work.now c.in_ok-table.ensures.key
-    c.in_ok-table.table.shared.table_id c.in_ok-nexts.nexts
+pub returns-clause-given : goal.returns-clause-given
+returns-clause-given g c =
+    let ended = c.in_ok-seat.ensures all_shares (first_hand g.W.Course.plan g.W.Course.gives c.in_ok-table.table.shared.key c.args.work.now
+    c.in_ok-table.ensures.key c.in_ok-table.table.shared.table_id c.in_ok-nexts.nexts
     c.requires.course c.deref-2.result.now c.args.rows.items _
     (subst (λ ws. Rattle.baton_crew.specs.Plans.AreCounts (g.W.Course.plan c.args.work.now) (g.W.Course.plan c.args.work.now).items ws)
     (sym c.deref-2.ensures.value) c.in_ok-words.ensures.counts) c.requires.rows
     c.in_ok-table.ensures.counts.0 c.in_ok-table.ensures.counts.1 c.in_ok-nexts.ensures.nexts
-    c.in_ok-table.ensures.seat.0 c.in_ok-table.ensures.seat.1 c.in_ok-words.ensures.ready c.new.ensures.items)).at_board.is.given
+    c.in_ok-table.ensures.seat.0 c.in_ok-table.ensures.seat.1 c.in_ok-words.ensures.ready c.new.ensures.items) in
+    subst (λ n. AreGiven (g.W.Course.gives c.args.work.now) n c.in_ok-outputs.outputs.items) c.items.ensures
+    (given_by (g.W.Course.gives c.args.work.now) c.in_ok-seat.field-0.done.items ended.at_board.is.given _ c.in_ok-outputs.outputs.items c.in_ok-outputs.ensures)

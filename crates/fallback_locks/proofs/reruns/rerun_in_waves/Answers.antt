@@ -1,4 +1,4 @@
-use Rattle.std.proofs.Common.{◌≡◌, suc, map, length, ap, sym, ◌∙◌, ◌+◌, ◌<◌, refl, subst, arith}
+use Rattle.std.proofs.Common.{◌≡◌, suc, length, ap, sym, ◌∙◌, ◌+◌, ◌<◌, refl, subst, arith}
 use Rattle.std.specs.List.{All}
 use Rattle.std.proofs.lemmas.List.{length-map}
 use Rattle.proc_lang.specs.Catalogs.{run_of}

@@ -1,13 +1,14 @@
-use Rattle.std.proofs.Common.{◌∙◌}
-use Rattle.work_crew.proofs.Fills.{within_all, some_all, given_all}
+use Rattle.std.proofs.Common.{subst}
+use Rattle.std.specs.Result.{IfOk}
+use Rattle.work_crew.specs.Gathered.{AreGiven}
+use Rattle.work_crew.proofs.Fills.{each_once, given_of}
 use Rattle.work_crew.proofs.tasks.gather.Goals as goal
 
-pub fill-requires : goal.fill-requires
-fill-requires g c = within_all (g.T.Task.gives c.args.task.now) _ _ c.in_ok-done.ensures _ (c.in_ok-slots.ensures ∙ c.len.ensures)
-
-pub all_of-requires : goal.all_of-requires
-all_of-requires g c = some_all (g.T.Task.gives c.args.task.now) _ _ c.in_ok-done.ensures _ _ (c.in_ok-slots.ensures ∙ c.len.ensures) c.fill.ensures
+pub in_order-requires : goal.in_order-requires
+in_order-requires g c = each_once (g.T.Task.gives c.args.task.now) _ _ _ c.len.ensures c.in_ok-done.ensures
 
 pub returns : goal.returns
-returns g c = given_all (g.T.Task.gives c.args.task.now) _ _ c.in_ok-done.ensures (λ v. v.items) _ _ _ (c.in_ok-slots.ensures
-    ∙ c.len.ensures) c.fill.ensures c.all_of.ensures
+returns g c =
+    let gives = g.T.Task.gives c.args.task.now in
+    subst (λ n. IfOk c.in_order.result (λ v. AreGiven gives n v.items)) c.len.ensures
+    (given_of gives _ c.in_ok-done.ensures.2.each _ (λ v. v.items) c.in_order.result c.in_order.ensures)

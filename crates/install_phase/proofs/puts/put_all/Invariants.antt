@@ -1,0 +1,9 @@
+use Rattle.std.proofs.Common.{◌≡◌, vec_len}
+use Rattle.batch_rules.specs.Touches.{overwritten}
+use Rattle.install_phase.proofs.puts.put_all.Given as goal
+
+abbrev pub invariant-loop-key : goal.invariant-loop-key
+invariant-loop-key g l = (overwritten l.tables l.changes.items ≡ overwritten l.initial.tables l.initial.changes.items)
+
+abbrev pub decreases-loop-key : goal.decreases-loop-key
+decreases-loop-key g l = vec_len l.changes
