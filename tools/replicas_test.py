@@ -356,6 +356,16 @@ def claim(program, top):
     expect(status == 1 and text.endswith(b"refused 4 unfinished\n"), "a log that is cut within a batch")
     again = run(one, b"tx add 1 1\nend 4\ntx add 1 1\nend 5\n")
     expect((again.kept, list(again.answers)) == ([4], [5]), "the batch that was cut is run when it is whole")
+    log = first + second + b"settings plain 0\nend 3\n"
+    words = ["awk", "-v", "b=2", 'n >= b; $1 == "end" { n = $2 }']
+    behind = subprocess.run(words, input=log, stdout=subprocess.PIPE, check=True).stdout
+    expect(behind == b"settings plain 0\nend 3\n", "awk gives what stands behind a batch")
+    if shutil.which("flock"):
+        guarded = ["flock", "-n", "-E", "75", "store.lock", program, "run"]
+        holder = subprocess.Popen(guarded, cwd=one, stdin=subprocess.PIPE, stdout=subprocess.PIPE)
+        holder.stdout.readline()
+        expect(subprocess.run(guarded, cwd=one, input=b"", stdout=subprocess.PIPE, check=False).returncode == 75, "flock keeps two programs apart")
+        holder.communicate()
     print("what the page says beside it: as it says")
 
 
