@@ -4,7 +4,7 @@
 waits: how many lines a request said that it waits, by `bench` with each rule and with a late run, over the share of
 accesses that go to the hot keys. These counts are the same on every machine and in every build.
 sizes: what a request takes of one processor, over the number of rows, in microseconds; loading is taken off, and of
-five turns the least counts. It wants a machine that nothing else uses.
+three turns the least counts. It wants a machine that nothing else uses.
 """
 
 import os
@@ -16,8 +16,9 @@ HOT = range(0, 81, 10)
 WAYS = {"plain": "--rule plain", "reorder": "--rule reorder", "late": "--rule reorder --fallback 0"}
 LOAD = "--keys 10000 --batches 10 --size 100 --drain"
 ROWS = (100, 1_000, 10_000, 100_000, 1_000_000)
+TURNS = 3
 # New requests a batch, and how many batches the longer of two runs has.
-SIZES = {50: 401, 1_000: 21}
+SIZES = {50: 1_000, 1_000: 201}
 
 
 def run(program, words):
@@ -49,7 +50,7 @@ def sizes(program):
         cells = []
         for size, batches in SIZES.items():
             words = f"--reads 80 --updates 20 --fallback 0 --keys {rows} --size {size} --batches"
-            short, long = (min(run(program, f"{words} {number}")[1] for _ in range(5)) for number in (1, batches))
+            short, long = (min(run(program, f"{words} {number}")[1] for _ in range(TURNS)) for number in (1, batches))
             cells.append(f"{(long - short) / (batches - 1) / size * 1e6:.1f}")
         print(rows, *cells, flush=True)
 
