@@ -5,7 +5,13 @@ import shutil
 import subprocess
 import sys
 
-THINGS = ["rows", "numbers", "waves by keys", "waves by numbers"]
+# What is measured, and the functions of the program that are counted.
+THINGS = {
+    "rows": ["timed_puts", "timed_gets"],
+    "numbers": ["timed_numbers"],
+    "waves by keys": ["timed_waves"],
+    "waves by numbers": ["timed_numbered"],
+}
 # The largest groups of one hash that the tables still keep.
 GROUPS = {"rows": 8, "numbers": 16, "waves by keys": 16, "waves by numbers": 16}
 TURNS = 3
@@ -16,9 +22,10 @@ def took(*words):
     return min(int(one.stdout.split()[1]) for one in ran)
 
 
-def collected(*words):
-    tool = ["valgrind", "--tool=callgrind", "--callgrind-out-file=/dev/null", "--toggle-collect=*timed_*"]
-    ran = subprocess.run([*tool, sys.argv[1], *map(str, words)], stdout=subprocess.PIPE, stderr=subprocess.PIPE, check=True)
+def collected(place, *words):
+    counted = [f"--toggle-collect=*{name}*" for name in [*THINGS.values()][place]]
+    tool = ["valgrind", "--tool=callgrind", "--callgrind-out-file=/dev/null", *counted]
+    ran = subprocess.run([*tool, sys.argv[1], *map(str, (place, *words))], stdout=subprocess.PIPE, stderr=subprocess.PIPE, check=True)
     return int(re.search(rb"Collected : (\d+)", ran.stderr)[1])
 
 
