@@ -241,7 +241,7 @@ fn keys_of_all_kinds_are_told_apart(rt: HostRuntime) -> Result<(), Fail> {
 fn crowded_stretch_takes_no_more_keys(rt: HostRuntime) -> Result<(), Fail> {
     let alloc = rt.alloc();
     let hasher = BuildHasherDefault::<FoldHasher>::new();
-    let mut hashed = Hashed::new(alloc);
+    let mut hashed = Hashed::new(alloc, false);
     let mut chosen = 0_u32;
     let mut refused = 0_u32;
     for number in 0..40_000_u32 {
