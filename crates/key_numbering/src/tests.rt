@@ -4,7 +4,7 @@ ghost use Rattle.std.specs.Prelude.{◌≤◌, vec_len};
 ghost use Rattle.aria_base.specs.declared.limits.TheConstants.{MOST_WORKERS};
 
 use crate::hashed::{Hashed, stretch_of};
-use crate::{Kept, may_be_numbered, number};
+use crate::{Kept, may_be_numbered, number, number_ordered};
 use aria_base::{Draws, Key, Keys, Memory, Part, Parts, Txt};
 use dep_rules::{Numbered, Sets};
 use std::alloc::Global;
@@ -90,13 +90,15 @@ fn copy(alloc: Global, list: &[u32]) -> Result<Vec<u32>, Memory> {
     Ok(copy)
 }
 
-/// The lists by the numbers of these requests alone.
+/// The lists by the numbers of these requests alone, which are the same by the order of keys.
 fn alone(rt: &impl Abort, alloc: Global, sets: &[Sets]) -> Result<Vec<Vec<u32>>, Fail> {
     if !may_be_numbered(sets) {
         panic!(rt; "too many sets");
     }
-    let numbered = number(alloc, sets)?;
-    Ok(lists_of(alloc, &numbered)?)
+    let lists = lists_of(alloc, &number(alloc, sets)?)?;
+    let by_order = lists_of(alloc, &number_ordered(alloc, sets)?)?;
+    same(rt, &"by order", &by_order, &lists);
+    Ok(lists)
 }
 
 /// The lists by the numbers that are kept, and those that are kept then.
