@@ -80,8 +80,8 @@ fn changes_of(alloc: Global, outcomes: Vec<Outcome>) -> Result<Vec<Changes>, Mem
 /// writes are handed in, and nothing else. One worker makes them one after the other, also those of a short
 /// list by any number. Each of several, up to 64, deals the writes of some neighbours in the list, and then
 /// makes those to shards of its own. At no time are there more threads than shards, and none is started for
-/// one worker. A worker whose thread cannot be
-/// started does its part on the thread that was to start it. An error: there was no memory, and the tables are gone.
+/// one worker. A worker whose thread cannot be started does its part on the thread that was to start it. An
+/// error: there was no memory, and the tables are gone.
 pub fn install_changes<P: Pace + Sync, R: Threads + Sync>(
     rt: &R,
     alloc: Global,

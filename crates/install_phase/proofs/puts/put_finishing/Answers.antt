@@ -6,7 +6,7 @@ use Rattle.install_phase.proofs.Installing.{first_put, none_put}
 use Rattle.install_phase.proofs.puts.put_finishing.Goals as goal
 
 pub loop-changes-init : goal.loop-changes-init
-loop-changes-init g c = (tt, tt, 1, refl)
+loop-changes-init g c = (tt, tt, (1, refl))
 
 pub loop-changes-preserved : goal.loop-changes-preserved
 loop-changes-preserved g c =
@@ -16,8 +16,7 @@ loop-changes-preserved g c =
     let (next, all) = c.loop-changes.invariant.2 in (
       tt,
       tt,
-      next + 1,
-      first_put next c.loop-changes.tables _ c.in-Some.changes _ _ verdict _ _ steps behind c.in_ok-put_if.ensures ∙ all,
+      (next + 1, first_put next c.loop-changes.tables _ c.in-Some.changes _ _ verdict _ _ steps behind c.in_ok-put_if.ensures ∙ all),
     )
 
 pub returns-in_default : goal.returns-in_default
