@@ -51,3 +51,14 @@ lay_out() {
     fi
     cd "$own"
 }
+
+# make_program ARGUMENT..: leaves the benchmark's program as out/NAME in its crate. It is proved, built and run once with these
+# arguments. Where UNPROVED is set it is built without a proof, as tools/build says, in minutes.
+make_program() {
+    local name=${PWD##*/}
+    if [ -n "${UNPROVED:-}" ]; then
+        "$(dirname "${BASH_SOURCE[0]}")/../tools/build" --crate "$work" "$name" "out/$name" > build.log 2>&1 || { cat build.log; return 1; }
+    else
+        "${RT:-rt}" run -- "$@" > build.log 2>&1 < /dev/null || { cat build.log; return 1; }
+    fi
+}

@@ -18,8 +18,8 @@ import os
 import shutil
 import sys
 
-RT = os.path.realpath(shutil.which("rt") or "/opt/rattle/bin/rt")
-KIT = "/opt/rattle/bin"
+RT = os.path.realpath(shutil.which("rt") or sys.exit("take_proved: the kit's rt is not on the path"))
+KIT = os.path.dirname(RT)
 
 
 def kit():

@@ -1,11 +1,15 @@
 #!/usr/bin/env python3
-"""Lists the definitions that the clauses of a public function rest on: theorem.py [CRATE [FUNCTION]].
+"""Lists the definitions that the clauses of a public function rest on: theorem.py [CRATE [FUNCTION]], theorem.py --test|--untold.
 
 What a contract promises is what its definitions say, so this is what has to be read to believe it; the
 default is the program's call, `aria` of `aria_top`. The list is made from the sources: the clauses name
 definitions, these name others, and so on down to the kit's own library. Files come in the order in which
 they build on each other, lowest first, each with the definitions that are used and the lines that they
 take. Names of Rust types are listed apart: their declarations are what contracts see of them.
+
+A function may be one of a type or a trait, as `Tables::get`; without the type every function of that name is listed.
+With --test the list of each public function of each crate is made, and one of each kind is held against what it has to be.
+With --untold the code is counted of whose bytes no clause speaks, without comments and empty lines.
 """
 
 import pathlib
@@ -18,7 +22,10 @@ IMPORT = re.compile(r"\buse (?P<path>[\w.+]+)(?:\.\{(?P<names>[^}]*)\}| as (?P<a
 HEAD = re.compile(r"(?P<indent> *)(?:abbrev |unfoldable |known )*(?:pub )?(?P<kind>record |data )?(?P<name>[^\s:({]+) *[:({]")
 CONSTRUCTOR = re.compile(r" +(?P<name>[^\s:]+) *:")
 BLOCK = re.compile(r"(?:abbrev |unfoldable )?(?:mutual|module)\b")
-CLAUSE = re.compile(r"\b(?:requires|ensures)\b[^{]*\{")
+FUNCTION = re.compile(r"^(?P<indent> *)(?P<public>pub )?(?:const )?(?:unsafe )?fn (?P<name>\w+)", re.M)
+OWNER = re.compile(r"^(?P<public>pub )?(?:unsafe )?(?P<kind>impl|trait)\b(?P<rest>[^{;]*)", re.M)
+BEFORE_CLAUSE = re.compile(r"\b(?:requires|ensures)(?:\s+\w+)?\s*$")
+COMMENT = re.compile(r"//[^\n]*")
 
 
 def balanced(text, start):
@@ -121,35 +128,137 @@ class Reading:
             self.order.append(file)
 
 
-def clauses_of(crate, function):
-    """The clauses of a public function, and what its file imports for them."""
+class Function:
+    """A public function: its name, with the type or trait that it belongs to, and its clauses with what their file imports."""
+
+    def __init__(self, crate, path, owner, match, text):
+        self.crate, self.path, self.name = crate, path, match["name"]
+        self.title = f"{owner}::{self.name}" if owner else self.name
+        self.clauses, self.imports = clauses_at(text, match.end()), imports_of(text, "ghost ")
+
+
+def clauses_at(text, start):
+    """The clauses between the name of a function and its body, or the semicolon where it has none."""
+    found, depth, at = [], 0, start
+    while True:
+        sign = text[at]
+        if sign == "/" and text.startswith("//", at):
+            at = text.index("\n", at)
+        elif sign == "{" and BEFORE_CLAUSE.search(text, start, at):
+            found.append(balanced(text, at))
+            at += len(found[-1]) + 1
+        elif depth == 0 and sign in "{;":
+            return found
+        else:
+            depth += {"(": 1, "[": 1, ")": -1, "]": -1}.get(sign, 0)
+        at += 1
+
+
+def owner_of(match):
+    """The name of the type of an `impl`, or of the trait."""
+    rest = match["rest"]
+    if match["kind"] == "impl":
+        rest = re.sub(r"^<(?:[^<>]|<[^<>]*>)*>", "", rest).split(" for ")[-1]
+    return re.search(r"\w+", rest)[0]
+
+
+def functions_of(crate):
+    """The public functions of a crate, those of its public traits among them; not those of its tests."""
     for path in sorted((CRATES / crate / "src").rglob("*.rt")):
         text = path.read_text(encoding="utf-8")
-        start = re.search(rf"^(?: *)pub fn {function}\b", text, re.M)
-        if not start:
-            continue
-        body = re.search(r"^ *\{$", text[start.start() :], re.M)
-        head = text[start.start() : start.start() + body.start()]
-        clauses = [balanced(head, at.end() - 1) for at in CLAUSE.finditer(head)]
-        return clauses, imports_of(text, "ghost ")
-    sys.exit(f"there is no public function {function} in {crate}")
+        owners = [(match.start(), match["kind"], bool(match["public"]), owner_of(match)) for match in OWNER.finditer(text)]
+        for match in FUNCTION.finditer(text):
+            start, kind, is_public, owner = next((it for it in reversed(owners) if it[0] < match.start()), (0, "", False, ""))
+            owner = owner if match["indent"] else ""
+            if match["public"] or (owner and kind == "trait" and is_public):
+                yield Function(crate, path, owner, match, text)
+
+
+def find(crate, name):
+    found = [it for it in functions_of(crate) if name in (it.name, it.title)]
+    return found or sys.exit(f"there is no public function {name} in {crate}")
+
+
+def reading_of(function):
+    reading = Reading()
+    for clause in function.clauses:
+        reading.follow(clause, function.imports)
+    return reading
+
+
+def lines_in(reading, file):
+    return sum(len(file.definitions[name]) for name in reading.used[file.crate, file.name])
+
+
+def show(function):
+    reading = reading_of(function)
+    if not function.clauses:
+        print(f"{function.crate}::{function.title} has no clause ({function.path.relative_to(CRATES.parent)}).")
+        return
+    what = "clause of {} rests" if len(function.clauses) == 1 else f"{len(function.clauses)} clauses of {{}} rest"
+    print(f"The {what.format(f'{function.crate}::{function.title}')} on these definitions, lowest first:\n")
+    for file in reading.order:
+        print(f"{lines_in(reading, file):4} lines  crates/{file.crate}/specs/{file.name}.antt  ({file.first_comment()})")
+        print(f"            {' '.join(name for name in file.definitions if name in reading.used[file.crate, file.name])}")
+    print(f"\n{sum(lines_in(reading, file) for file in reading.order)} lines of {len(reading.order)} files.")
+    print("Rust types that they name: " + " ".join(f"{crate}::{name}" for crate, name in sorted(reading.types)))
+
+
+# A function of each kind, how many clauses it has, and a definition that it has to lead to.
+KINDS = [
+    ("resume_laws", "every_stop_resumes", 1, ("resume_laws", "Resumptions", "EveryStopResumes")),
+    ("batch_rules", "serial_law", 1, ("batch_rules", "Laws", "SerialLaw")),
+    ("output_laws", "passes_check", 1, ("output_laws", "Outputs", "PassesCheck")),
+    ("aria_base", "Source::take", 4, ("aria_base", "Streams", "Takes")),
+    ("dir_disk", "DirDisk::new", 1, None),
+    ("dir_disk", "Folder::new", 0, None),
+    ("aria_top", "aria", 21, ("aria_top", "Out", "IsToldFor")),
+]
+
+
+def test():
+    """Makes the list of every public function, and says what is wrong."""
+    faults, count, told = [], 0, 0
+    for folder in sorted(CRATES.iterdir()):
+        for function in functions_of(folder.name):
+            count += 1
+            told += bool(function.clauses)
+            words = len(re.findall(r"\b(?:requires|ensures)\b", COMMENT.sub("", "\n".join(function.clauses))))
+            if words:
+                faults.append(f"{folder.name}::{function.title}: a clause has another one within it")
+            reading_of(function)
+    for crate, name, number, wanted in KINDS:
+        function = find(crate, name)[0]
+        used = reading_of(function).used
+        if len(function.clauses) != number:
+            faults.append(f"{crate}::{name}: {len(function.clauses)} clauses, wanted {number}")
+        if wanted and wanted[2] not in used.get(wanted[:2], ()):
+            faults.append(f"{crate}::{name}: it does not lead to {wanted[2]}")
+    print("\n".join([*faults, f"{count} public functions, {told} of them with clauses, {len(faults)} faults"]))
+    sys.exit(1 if faults else 0)
+
+
+# Where bytes pass between the contract and the machine.
+UNTOLD = ("aria_cli/src/*.rt", "aria_base/src/standard_streams.rt", "dir_disk/src/dir_disks.rt", "dir_disk/src/folders.rt")
+
+
+def count_untold():
+    total = 0
+    for file in sorted(file for pattern in UNTOLD for file in CRATES.glob(pattern)):
+        lines = sum(bool(COMMENT.sub("", line).strip()) for line in file.read_text(encoding="utf-8").splitlines())
+        print(f"{lines:4} lines  crates/{file.relative_to(CRATES)}")
+        total += lines
+    print(f"{total} lines of code")
 
 
 def main(crate="aria_top", function="aria"):
-    clauses, imports = clauses_of(crate, function)
-    reading = Reading()
-    for clause in clauses:
-        reading.follow(clause, imports)
-    total = 0
-    print(f"The {len(clauses)} clauses of {crate}::{function} rest on these definitions, lowest first:\n")
-    for file in reading.order:
-        used = reading.used[file.crate, file.name]
-        lines = sum(len(file.definitions[name]) for name in used)
-        total += lines
-        print(f"{lines:4} lines  crates/{file.crate}/specs/{file.name}.antt  ({file.first_comment()})")
-        print(f"            {' '.join(name for name in file.definitions if name in used)}")
-    print(f"\n{total} lines of {len(reading.order)} files.")
-    print("Rust types that they name: " + " ".join(f"{crate}::{name}" for crate, name in sorted(reading.types)))
+    if crate == "--test":
+        test()
+    if crate == "--untold":
+        return count_untold()
+    for number, found in enumerate(find(crate, function)):
+        print(end="\n" if number else "")
+        show(found)
 
 
 if __name__ == "__main__":

@@ -12,7 +12,7 @@ uses='exec_phase cat_builtin tbl_snapshot tbl_rows proc_lang aria_base'
 # build TOP NAME: the program over the crates that lie in TOP.
 build() (
     lay_out "$1/benches/execute" Threads "execute_bench: anyhow $uses" $(below "$1" $uses)
-    "${RT:-rt}" run -- 0 1 1 > build.log 2>&1 || { cat build.log; exit 1; }
+    make_program 0 1 1
     cp out/execute_bench "$built/$2"
 )
 

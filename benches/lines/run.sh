@@ -6,7 +6,7 @@ source "$here/../workspace.sh"
 
 uses='answer_text cat_builtin script_text batch_core proc_lang aria_base'
 lay_out "$here" none "lines_bench: anyhow $uses" $(below "$here/../.." $uses)
-"${RT:-rt}" run -- read 100 > build.log 2>&1 || { cat build.log; exit 1; }
+make_program read 100
 if command -v rustc > plain.log; then
     rustc -O -o out/plain "$here/split.rs"
 fi

@@ -6,5 +6,5 @@ source "$here/../workspace.sh"
 
 uses='tpcc_audit tpcc_load tbl_rows proc_lang aria_base'
 lay_out "$here" none "orders_bench: anyhow $uses" $(below "$here/../.." $uses)
-"${RT:-rt}" run -- 1 30 100 > build.log 2>&1 || { cat build.log; exit 1; }
+make_program 1 30 100
 python3 "$here/measure.py" out/orders_bench

@@ -6,5 +6,5 @@ source "$here/../workspace.sh"
 
 uses=$(below "$here/../.." aria_top serial_check)
 lay_out "$here" Threads "reports_bench: anyhow $uses" $uses
-"${RT:-rt}" run -- 1 100 1000 > build.log 2>&1 || { cat build.log; exit 1; }
+make_program 1 100 1000
 python3 "$here/measure.py" out/reports_bench

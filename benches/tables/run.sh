@@ -4,7 +4,7 @@ set -euo pipefail
 here=$(cd "$(dirname "$0")" && pwd)
 source "$here/../workspace.sh"
 lay_out "$here" none 'tables_bench: anyhow tbl_rows aria_base' aria_base tbl_rows
-"${RT:-rt}" run -- 1 1 0 > build.log || { cat build.log; exit 1; }
+make_program 1 1 0
 python3 - out/tables_bench <<'END'
 import os, subprocess, sys
 

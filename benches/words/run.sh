@@ -4,4 +4,5 @@ set -euo pipefail
 here=$(cd "$(dirname "$0")" && pwd)
 source "$here/../workspace.sh"
 lay_out "$here" Threads 'words_bench: anyhow aria_base resv_words' aria_base resv_words
-"${RT:-rt}" run
+make_program
+out/words_bench
