@@ -6,8 +6,8 @@
 The cases are the files of crates/worked_cases/data, which the program `worked_cases` runs in the gate; CONTRIBUTING.md says
 how one is written. Here each step is a run of PROGRAM over pipes, in a folder of the case's own, whose folder `aria-store`
 has the four files. A NAME is a folder or a case: `stores`, `stores/life` or the path of its file. Without one all are run.
-Each case is run with its input in pieces of 1, of 7 and of 4,096 bytes, on 1 and on 3 workers and on 1 and on 2 replicas where
-a command has these. Every byte of the output is compared, the status, and what the case says of the files.
+Each case is run with its input in pieces of 1, of 7 and of 4,096 bytes, on 1 and on 3 workers, on 1 and on 2 replicas and with
+`--batons` where a command has these. Every byte of the output is compared, the status, and what the case says of the files.
 
 For each folder a line is printed with its numbers of cases and steps: where all are run, these are the lines that
 crates/worked_cases/stdout has to have. The first thing that differs of a case is told on the standard error, and the status
@@ -25,7 +25,7 @@ import threading
 DATA = os.path.join(os.path.dirname(os.path.dirname(os.path.abspath(__file__))), "crates", "worked_cases", "data")
 FILES = ["ckpt0", "ckpt1", "log0", "log1"]
 PIECES = [1, 7, 4096]
-CREWS = [(1, 1), (1, 2), (3, 1), (3, 2)]
+CREWS = [(1, 1, False), (1, 2, False), (3, 1, False), (3, 2, False), (1, 1, True), (3, 1, True)]
 CREWED = ["once", "run", "replay", "bench"]
 MOST_SECONDS = 120
 
@@ -328,14 +328,16 @@ def run(program, words, data, piece, folder):
     return printed, started.returncode
 
 
-def in_way(words, workers, replicas):
-    """The words, with the workers and the replicas behind a command that has them, where they are not among the words."""
+def in_way(words, workers, replicas, batons):
+    """The words, with the workers, the replicas and the flag behind a command that has them, where they are not among the words."""
     if not words or words[0] not in CREWED:
         return words
     more = []
     for option, value in (("--workers", workers), ("--replicas", replicas)):
         if not any(word.startswith(option) for word in words):
             more += [option, str(value)]
+    if batons and "--batons" not in words:
+        more.append("--batons")
     return words[:1] + more + words[1:]
 
 
@@ -355,12 +357,12 @@ def check_left(wanted, before, after):
 
 def check_step(program, step, way, folder, printed):
     """Runs a step, and tells what differs, or None."""
-    piece, (workers, replicas) = way
+    piece, crew = way
     for made in step.changes:
         if not folder.change(made):
             return "a change that does not lie within its file"
     before = folder.files()
-    found, status = run(program, in_way(step.words, workers, replicas), wanted_of(step.input, printed), piece, folder.path)
+    found, status = run(program, in_way(step.words, *crew), wanted_of(step.input, printed), piece, folder.path)
     if isinstance(step.output, list):
         what = difference("the output", wanted_of(step.output, printed), found)
     else:
@@ -381,7 +383,9 @@ def check_way(program, steps, way):
         for place, step in enumerate(steps, 1):
             what = check_step(program, step, way, folder, printed)
             if what is not None:
-                return "%d: step %d with pieces of %d, %d workers and %d replicas: %s" % (step.line, place, way[0], *way[1], what)
+                workers, replicas, batons = way[1]
+                crew = "%d workers, %d replicas%s" % (workers, replicas, " and batons" if batons else "")
+                return "%d: step %d with pieces of %d, %s: %s" % (step.line, place, way[0], crew, what)
     return None
 
 

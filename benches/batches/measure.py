@@ -18,18 +18,21 @@ wanted = [word for word in sys.argv[5:] if "=" not in word]
 
 
 class Load:
-    """What is run: `size` is the keys of ycsb or the warehouses of tpcc, `share` its reads or whether they are full."""
+    """What is run: `size` is the keys of ycsb, the warehouses of tpcc, or how many chains there are. `share` is the reads of
+    ycsb, whether warehouses are full, or how many rows the longest run of a chain reads. `hot` is of ycsb alone."""
 
-    def __init__(self, kind, size, share, requests, batches):
-        self.kind, self.size, self.share, self.requests, self.batches = kind, size, share, requests, batches
+    def __init__(self, kind, size, share, requests, batches, hot=0):
+        self.kind, self.size, self.share, self.requests, self.batches, self.hot = kind, size, share, requests, batches, hot
 
-    def words(self, workers, touched):
-        kind = ["ycsb", "tpcc"].index(self.kind)
-        return [kind, self.size, self.share, touched, self.requests, self.batches, workers]
+    def words(self, workers, touched, batons):
+        kind = ["ycsb", "tpcc", "chains"].index(self.kind)
+        return [kind, self.size, self.share, touched, self.requests, self.batches, workers, batons, self.hot]
 
     def title(self):
         if self.kind == "ycsb":
-            return f"ycsb {self.size:,} {self.share}%"
+            return f"ycsb {self.size:,} {self.share}%" + (f" hot {self.hot}" if self.hot else "")
+        if self.kind == "chains":
+            return f"{self.size} chains"
         return f"tpcc {self.size} {'full' if self.share else 'small'}"
 
     # The script of this load, which is written once.
@@ -47,8 +50,8 @@ class Load:
             os.rename(file + ".part", file)
         return file
 
-    def by_engine(self, name, workers, touched=0):
-        return [os.path.abspath(engines[name]), *map(str, self.words(workers, touched))]
+    def by_engine(self, name, workers, touched=0, batons=0):
+        return [os.path.abspath(engines[name]), *map(str, self.words(workers, touched, batons))]
 
     def by_plain(self):
         return [os.path.abspath(plain), f"{folder}/{self.kind}.json", self.script()]
@@ -139,14 +142,16 @@ def sizes():
             row(load.title(), f"{size:,}", name, *(f"{nanos / 1e3:.1f}" for nanos in whole))
 
 
+# What a finished request costs one worker in instructions.
+def count(command):
+    tool = ["valgrind", "--tool=callgrind", "--callgrind-out-file=/dev/null", "--toggle-collect=*timed_batch*"]
+    ran = subprocess.run([*tool, *command], input=b"\n\n", capture_output=True, check=True)
+    told = dict(line.split() for line in ran.stdout.splitlines()[2:])
+    return int(re.search(rb"Collected : (\d+)", ran.stderr)[1]) / int(told[b"ended"])
+
+
 # What a finished request costs one worker in instructions, and what it costs the plain engine.
 def instructions():
-    def count(command):
-        tool = ["valgrind", "--tool=callgrind", "--callgrind-out-file=/dev/null", "--toggle-collect=*timed_batch*"]
-        ran = subprocess.run([*tool, *command], input=b"\n\n", capture_output=True, check=True)
-        told = dict(line.split() for line in ran.stdout.splitlines()[2:])
-        return int(re.search(rb"Collected : (\d+)", ran.stderr)[1]) / int(told[b"ended"])
-
     row("instructions", "requests", "plain", *engines, *(f"{name}/plain" for name in engines))
     counted = [Load("ycsb", 100_000, reads, *both) for reads in (80, 50) for both in ((50, 20), (1_000, 2), (10_000, 2))]
     counted += [Load("tpcc", 1, 0, 50, 20), Load("tpcc", 1, 1, 50, 20)]
@@ -155,7 +160,44 @@ def instructions():
         row(load.title(), f"{load.requests:,}", *(f"{one:,.0f}" for one in each), *(f"{one / each[0]:.2f}" for one in each[1:]))
 
 
-tables = {"rates": rates, "sizes": sizes, "instructions": instructions}
+# What waits, run again in waves and by handed rows.
+def both_ways(few):
+    yield Load("tpcc", 1, 0, 50, 20 if few else 60)
+    yield Load("tpcc", 4, 0, 50, 20 if few else 120)
+    for hot in (0, 20, 50, 80):
+        yield Load("ycsb", 100_000, 80, 1_000, 2 if few else 40, hot)
+    for chains in (8, 64):
+        yield Load("chains", chains, 200, 1_000, 2 if few else 10)
+
+
+# Finished requests a second by the clock, and what one costs in microseconds of all processors.
+def batons():
+    ways = [(kind, w) for kind in (0, 1) for w in WORKERS]
+    names = [f"{('waves', 'batons')[kind]} {w}" for kind, w in ways]
+    row("finished a second", "requests", "way", *names, *(f"us {name}" for name in names), "batons/waves 1", "of 4")
+    for load in both_ways(False):
+        for name in engines:
+            told = least({way: load.by_engine(name, way[1], 0, way[0]) for way in ways})
+            assert len({(one["ended"], one["waits"]) for one in told.values()}) == 1, "all ways end the same requests"
+            rate = {way: one["ended"] / one["whole"] * 1e9 for way, one in told.items()}
+            cost = {way: one["processor"] / one["ended"] / 1e3 for way, one in told.items()}
+            row(load.title(), f"{load.requests:,}", name, *(f"{rate[way]:,.0f}" for way in ways),
+                *(f"{cost[way]:.1f}" for way in ways), *(f"{rate[1, w] / rate[0, w]:.2f}" for w in (1, 4)))
+
+
+# The same in instructions of one worker.
+def batons_instructions():
+    row("instructions", "requests", "way", "waves", "batons", "batons/waves")
+    for load in both_ways(True):
+        for name in engines:
+            each = [count(load.by_engine(name, 1, 0, kind)) for kind in (0, 1)]
+            row(load.title(), f"{load.requests:,}", name, *(f"{one:,.0f}" for one in each), f"{each[1] / each[0]:.2f}")
+
+
+tables = {
+    "rates": rates, "sizes": sizes, "instructions": instructions,
+    "batons": batons, "batons_instructions": batons_instructions,
+}
 os.makedirs(folder, exist_ok=True)
 cut_catalogs()
 for name in wanted or ("rates", "sizes"):

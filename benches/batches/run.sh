@@ -14,7 +14,7 @@ case "${words[*]}" in
     *=*) work=$(mktemp -d) && trap 'rm -rf "$work"' EXIT ;;
     *)
         lay_out "$here" Threads "batches_bench: anyhow $uses" $(below "$here/../.." $uses)
-        make_program 0 100 50 0 10 1 1
+        make_program 0 100 50 0 10 1 1 0 0
         words=("engine=out/batches_bench" "${words[@]}")
         ;;
 esac

@@ -6,7 +6,7 @@ use Rattle.checkpoint.specs.Slots.{is_open}
 use Rattle.command_words.specs.declared.settings.Init.{Init}
 use Rattle.command_words.specs.declared.settings.Run.{Run}
 use Rattle.disk_model.specs.Histories.{History, LeavesAll, MayLeave, Still}
-use Rattle.run_commands.specs.Resumes.{HoldsOver, LeavesOver}
+use Rattle.run_commands.specs.Resumes.{HoldsOver, LeavesOver, StandsOver}
 use Rattle.script_course.specs.declared.statuses.TheConstants.{DONE, READ_FAULT, REFUSED, STORE_REFUSED}
 use Rattle.store_commands.specs.Inits as init
 use Rattle.store_openings.specs.Openings.{ReadsAs, opened}
@@ -38,11 +38,12 @@ pub record InitLeaves (settings : Init) (taken : Bool) (left : Option (List ℕ)
   pub made : status ≡ DONE → init.IsMade settings left is
 
 -- What a stop leaves of a script over a store at any moment, and now; and what the disk holds of a script that was read to its end or to
--- a refused line.
-pub record RunLeaves (settings : Run) (found : Reopened) (left : Option (List ℕ)) (was is : History) (old new : Option (List ℕ))
-    (status : ℕ) : Type 0 where
-  pub leaves : IfSome left (λ text. LeavesOver settings found text was is old new)
-  pub holds : (status ≡ DONE) ⊎ (status ≡ REFUSED) → IfSome left (λ text. HoldsOver settings found text is)
+-- a refused line, by which checkpoint. What was found goes by what the files read as.
+pub record RunLeaves (settings : Run) (images : ℕ → List ℕ) (found : Reopened) (left : Option (List ℕ)) (was is : History)
+    (old new : Option (List ℕ)) (status : ℕ) : Type 0 where
+  pub leaves : IfSome left (λ text. LeavesOver settings (opened images found) text was is old new)
+  pub stands : IfSome left (λ text. StandsOver settings images (opened images found) text was is old new)
+  pub holds : (status ≡ DONE) ⊎ (status ≡ REFUSED) → IfSome left (λ text. HoldsOver settings images (opened images found) text is)
 
 -- Of the disk is asked what each of these needs to know of it, and of `replay` nothing. A task that does not use the disk has a clause of
 -- its own.
@@ -51,6 +52,6 @@ LeavesDisk (Some (task.Init settings)) left was is old new status =
     (images : ℕ → List ℕ) → ReadsAs was images → InitLeaves settings (is_taken images) left was is old new status
 LeavesDisk (Some (task.Run settings)) left was is old new status =
     (images : ℕ → List ℕ) (found : Reopened) → ReadsAs was images → Reopens images found
-    → RunLeaves settings (opened images found) left was is old new status
+    → RunLeaves settings images found left was is old new status
 LeavesDisk (Some (task.Replay settings)) left was is old new status = LeavesAll was is (MayLeave was was.now)
 LeavesDisk other left was is old new status = Unit {0}

@@ -76,7 +76,8 @@ pub fn run_bench<K: Sink, P: Pace + Sync, R: Threads + Sync>(
     pace: &P,
 ) -> u8
     requires { benches.IsInRange settings.now }
-    ensures answered { IsAnswered result → (result ≡ (bench_out settings.now).status) × Appends (K.given out.old) (K.given out.new) (bench_out settings.now).bytes }
+    ensures answered { IsAnswered result → (result ≡ (bench_out settings.now).status)
+        × Appends (K.given out.old) (K.given out.new) (bench_out settings.now).bytes }
     ensures front { AppendsFront (K.given out.old) (K.given out.new) (bench_out settings.now).bytes }
     ensures others { IsEnded result ⊎ (result ≡ WRITE_FAULT) ⊎ (result ≡ NO_MEMORY) }
     ensures write { result ≡ WRITE_FAULT → Rose (K.faults out.old) (K.faults out.new) }

@@ -34,9 +34,12 @@ pub fn run_init<S: Source, K: Sink, D: Disk>(
 ) -> u8
     requires { settings.now.fallback ≤ MOST_PERCENT }
     ensures answered { (images : ℕ → List ℕ) → ReadsAs (D.history disk.old) images → IsAnswered result → IfSome (S.left input.old)
-        (λ text. (result ≡ (init.out_of settings.now (is_taken images) text).status) × Appends (K.given out.old) (K.given out.new) (init.out_of settings.now (is_taken images) text).bytes) }
-    ensures front { (images : ℕ → List ℕ) → ReadsAs (D.history disk.old) images → IfSome (S.left input.old) (λ text. AppendsFront (K.given out.old) (K.given out.new) (init.out_of settings.now (is_taken images) text).bytes) }
-    ensures others { (result ≡ DONE) ⊎ (result ≡ STORE_REFUSED) ⊎ (result ≡ REFUSED) ⊎ (result ≡ READ_FAULT) ⊎ (result ≡ WRITE_FAULT) ⊎ (result ≡ DISK_FAULT) ⊎ (result ≡ NO_MEMORY) }
+        (λ text. (result ≡ (init.out_of settings.now (is_taken images) text).status)
+        × Appends (K.given out.old) (K.given out.new) (init.out_of settings.now (is_taken images) text).bytes) }
+    ensures front { (images : ℕ → List ℕ) → ReadsAs (D.history disk.old) images
+        → IfSome (S.left input.old) (λ text. AppendsFront (K.given out.old) (K.given out.new) (init.out_of settings.now (is_taken images) text).bytes) }
+    ensures others { (result ≡ DONE) ⊎ (result ≡ STORE_REFUSED) ⊎ (result ≡ REFUSED) ⊎ (result ≡ READ_FAULT) ⊎ (result ≡ WRITE_FAULT)
+        ⊎ (result ≡ DISK_FAULT) ⊎ (result ≡ NO_MEMORY) }
     ensures read { result ≡ READ_FAULT → Rose (S.faults input.old) (S.faults input.new) }
     ensures write { result ≡ WRITE_FAULT → Rose (K.faults out.old) (K.faults out.new) }
     ensures device { result ≡ DISK_FAULT → Rose (D.history disk.old).faults (D.history disk.new).faults }
@@ -64,17 +67,22 @@ pub fn run_batches<S: Source, K: Sink, D: Disk, P: Pace + Sync, R: Threads + Syn
 ) -> u8
     requires workers { (1 ≤ settings.now.workers) × (settings.now.workers ≤ MOST_WORKERS) }
     requires replicas { (1 ≤ settings.now.replicas) × (settings.now.replicas ≤ MOST_REPLICAS) }
-    ensures answered { (images : ℕ → List ℕ) (found : Reopened) → ReadsAs (D.history disk.old) images → Reopens images found → IsAnswered result → IfSome (out_over settings.now (opened images found) (S.left input.old))
+    ensures answered { (images : ℕ → List ℕ) (found : Reopened) → ReadsAs (D.history disk.old) images → Reopens images found → IsAnswered result
+        → IfSome (out_over settings.now (opened images found) (S.left input.old))
         (λ o. (result ≡ o.status) × Appends (K.given out.old) (K.given out.new) o.bytes) }
-    ensures front { (images : ℕ → List ℕ) (found : Reopened) → ReadsAs (D.history disk.old) images → Reopens images found → IfSome (out_over settings.now (opened images found) (S.left input.old)) (λ o. AppendsFront (K.given out.old) (K.given out.new) o.bytes) }
-    ensures others { (result ≡ DONE) ⊎ (result ≡ STORE_REFUSED) ⊎ (result ≡ REFUSED) ⊎ (result ≡ READ_FAULT) ⊎ (result ≡ WRITE_FAULT) ⊎ (result ≡ DISK_FAULT) ⊎ (result ≡ NO_MEMORY) }
+    ensures front { (images : ℕ → List ℕ) (found : Reopened) → ReadsAs (D.history disk.old) images → Reopens images found
+        → IfSome (out_over settings.now (opened images found) (S.left input.old)) (λ o. AppendsFront (K.given out.old) (K.given out.new) o.bytes) }
+    ensures others { (result ≡ DONE) ⊎ (result ≡ STORE_REFUSED) ⊎ (result ≡ REFUSED) ⊎ (result ≡ READ_FAULT) ⊎ (result ≡ WRITE_FAULT)
+        ⊎ (result ≡ DISK_FAULT) ⊎ (result ≡ NO_MEMORY) }
     ensures read { result ≡ READ_FAULT → Rose (S.faults input.old) (S.faults input.new) }
     ensures write { result ≡ WRITE_FAULT → Rose (K.faults out.old) (K.faults out.new) }
     ensures device { result ≡ DISK_FAULT → Rose (D.history disk.old).faults (D.history disk.new).faults }
     ensures end { result ≡ DONE → IsAtEnd (S.left input.new) }
     ensures unread { result ≡ STORE_REFUSED → input.new ≡ input.old }
-    ensures told { (images : ℕ → List ℕ) (found : Reopened) → ReadsAs (D.history disk.old) images → Reopens images found → result ≡ READ_FAULT → IsToldOver settings.now (opened images found) (S.left input.old) (S.left input.new) (K.given out.old) (K.given out.new) }
-    ensures leaves { (images : ℕ → List ℕ) (found : Reopened) → ReadsAs (D.history disk.old) images → Reopens images found → RunLeaves settings.now (opened images found) (S.left input.old) (D.history disk.old) (D.history disk.new) (K.given out.old) (K.given out.new) result }
+    ensures told { (images : ℕ → List ℕ) (found : Reopened) → ReadsAs (D.history disk.old) images → Reopens images found → result ≡ READ_FAULT
+        → IsToldOver settings.now (opened images found) (S.left input.old) (S.left input.new) (K.given out.old) (K.given out.new) }
+    ensures leaves { (images : ℕ → List ℕ) (found : Reopened) → ReadsAs (D.history disk.old) images → Reopens images found
+        → RunLeaves settings.now images found (S.left input.old) (D.history disk.old) (D.history disk.new) (K.given out.old) (K.given out.new) result }
 {
     match run(rt, alloc, settings, input, out, disk, pace) {
         Ok(status) => status,
@@ -94,8 +102,10 @@ pub fn run_replay<K: Sink, D: Disk, P: Pace + Sync, R: Threads + Sync>(
     requires workers { (1 ≤ settings.now.workers) × (settings.now.workers ≤ MOST_WORKERS) }
     requires replicas { (1 ≤ settings.now.replicas) × (settings.now.replicas ≤ MOST_REPLICAS) }
     ensures answered { (images : ℕ → List ℕ) (found : Reopened) → ReadsAs (D.history disk.old) images → Reopens images found → IsAnswered result
-        → (result ≡ (replay.out_of settings.now images found).status) × Appends (K.given out.old) (K.given out.new) (replay.out_of settings.now images found).bytes }
-    ensures front { (images : ℕ → List ℕ) (found : Reopened) → ReadsAs (D.history disk.old) images → Reopens images found → AppendsFront (K.given out.old) (K.given out.new) (replay.out_of settings.now images found).bytes }
+        → (result ≡ (replay.out_of settings.now images found).status)
+        × Appends (K.given out.old) (K.given out.new) (replay.out_of settings.now images found).bytes }
+    ensures front { (images : ℕ → List ℕ) (found : Reopened) → ReadsAs (D.history disk.old) images → Reopens images found
+        → AppendsFront (K.given out.old) (K.given out.new) (replay.out_of settings.now images found).bytes }
     ensures others { (result ≡ DONE) ⊎ (result ≡ STORE_REFUSED) ⊎ (result ≡ WRITE_FAULT) ⊎ (result ≡ DISK_FAULT) ⊎ (result ≡ NO_MEMORY) }
     ensures write { result ≡ WRITE_FAULT → Rose (K.faults out.old) (K.faults out.new) }
     ensures device { result ≡ DISK_FAULT → Rose (D.history disk.old).faults (D.history disk.new).faults }

@@ -50,9 +50,11 @@ pub fn aria<S: Source, K: Sink, D: Disk, P: Pace + Sync, R: Threads + Sync>(
 ) -> u8
     // Where the answer is 0, 1, 2, 6 or 8, it is the defined one, and all of the output is written; else a
     // prefix of it.
-    ensures answered { (images : ℕ → List ℕ) (found : Reopened) → Sees (task_in (map string_bytes words.now)) (D.history disk.old) images found → IsAnswered result → IfSome (out_for (map string_bytes words.now) (S.left input.old) images found)
+    ensures answered { (images : ℕ → List ℕ) (found : Reopened) → Sees (task_in (map string_bytes words.now)) (D.history disk.old) images found
+        → IsAnswered result → IfSome (out_for (map string_bytes words.now) (S.left input.old) images found)
         (λ o. (result ≡ o.status) × Appends (K.given out.old) (K.given out.new) o.bytes) }
-    ensures front { (images : ℕ → List ℕ) (found : Reopened) → Sees (task_in (map string_bytes words.now)) (D.history disk.old) images found → IfSome (out_for (map string_bytes words.now) (S.left input.old) images found)
+    ensures front { (images : ℕ → List ℕ) (found : Reopened) → Sees (task_in (map string_bytes words.now)) (D.history disk.old) images found
+        → IfSome (out_for (map string_bytes words.now) (S.left input.old) images found)
         (λ o. AppendsFront (K.given out.old) (K.given out.new) o.bytes) }
 
     // Nothing but the source, the sink, the disk and memory is in the way.
@@ -64,7 +66,9 @@ pub fn aria<S: Source, K: Sink, D: Disk, P: Pace + Sync, R: Threads + Sync>(
     // The input was read to its end; or the source failed, and what was written is all that the bytes
     // taken so far tell, of which no line was refused; or it is not read, and was not touched.
     ensures end { IsEnded result → reads (task_in (map string_bytes words.now)) ≡ true → IsAtEnd (S.left input.new) }
-    ensures told { (images : ℕ → List ℕ) (found : Reopened) → Sees (task_in (map string_bytes words.now)) (D.history disk.old) images found → result ≡ READ_FAULT → IsToldFor (task_in (map string_bytes words.now)) images found (S.left input.old) (S.left input.new) (K.given out.old) (K.given out.new) }
+    ensures told { (images : ℕ → List ℕ) (found : Reopened) → Sees (task_in (map string_bytes words.now)) (D.history disk.old) images found
+        → result ≡ READ_FAULT → IsToldFor (task_in (map string_bytes words.now)) images found (S.left input.old) (S.left input.new) (K.given out.old)
+        (K.given out.new) }
     ensures untouched { reads (task_in (map string_bytes words.now)) ≡ false → input.new ≡ input.old }
     ensures usage { result ≡ USAGE → task_in (map string_bytes words.now) ≡ None }
 
@@ -116,16 +120,19 @@ fn run_task<S: Source, K: Sink, D: Disk, P: Pace + Sync, R: Threads + Sync>(
     pace: &P,
 ) -> u8
     requires { IsInRange task.now }
-    ensures answered { (images : ℕ → List ℕ) (found : Reopened) → Sees (Some task.now) (D.history disk.old) images found → IsAnswered result → IfSome (out_of_task task.now (S.left input.old) images found)
+    ensures answered { (images : ℕ → List ℕ) (found : Reopened) → Sees (Some task.now) (D.history disk.old) images found → IsAnswered result
+        → IfSome (out_of_task task.now (S.left input.old) images found)
         (λ o. (result ≡ o.status) × Appends (K.given out.old) (K.given out.new) o.bytes) }
-    ensures front { (images : ℕ → List ℕ) (found : Reopened) → Sees (Some task.now) (D.history disk.old) images found → IfSome (out_of_task task.now (S.left input.old) images found) (λ o. AppendsFront (K.given out.old) (K.given out.new) o.bytes) }
+    ensures front { (images : ℕ → List ℕ) (found : Reopened) → Sees (Some task.now) (D.history disk.old) images found
+        → IfSome (out_of_task task.now (S.left input.old) images found) (λ o. AppendsFront (K.given out.old) (K.given out.new) o.bytes) }
     ensures others { IsAnswered result ⊎ (result ≡ READ_FAULT) ⊎ (result ≡ WRITE_FAULT) ⊎ (result ≡ DISK_FAULT) ⊎ (result ≡ NO_MEMORY) }
     ensures usage { result ≡ USAGE → ⊥ }
     ensures read { result ≡ READ_FAULT → Rose (S.faults input.old) (S.faults input.new) }
     ensures write { result ≡ WRITE_FAULT → Rose (K.faults out.old) (K.faults out.new) }
     ensures device { result ≡ DISK_FAULT → Rose (D.history disk.old).faults (D.history disk.new).faults }
     ensures end { IsEnded result → reads (Some task.now) ≡ true → IsAtEnd (S.left input.new) }
-    ensures told { (images : ℕ → List ℕ) (found : Reopened) → Sees (Some task.now) (D.history disk.old) images found → result ≡ READ_FAULT → IsToldFor (Some task.now) images found (S.left input.old) (S.left input.new) (K.given out.old) (K.given out.new) }
+    ensures told { (images : ℕ → List ℕ) (found : Reopened) → Sees (Some task.now) (D.history disk.old) images found → result ≡ READ_FAULT
+        → IsToldFor (Some task.now) images found (S.left input.old) (S.left input.new) (K.given out.old) (K.given out.new) }
     ensures untouched { reads (Some task.now) ≡ false → input.new ≡ input.old }
     ensures refuses { result ≡ REFUSED → reads (Some task.now) ≡ true }
     ensures fails { result ≡ FAILS → finds (Some task.now) ≡ true }

@@ -1,10 +1,12 @@
 -- The end of the input, and what follows it, over a store.
-use Rattle.std.proofs.Common.{◌≡◌, ◌∙◌, sym, ap, subst, refl, ℕ, Bool, true, false, List, [], ◌∷◌, Option}
+use Rattle.std.proofs.Common.{◌≡◌, ◌∙◌, sym, ap, subst, refl, ℕ, Bool, true, false, List, [], ◌∷◌, ◌++◌, Option}
 use Rattle.std.specs.Prelude.{Result, Ok, Err}
 use Rattle.std.proofs.KnownBytes.{Appends-nil}
 use Rattle.aria_base.specs.Streams.{AppendsFront}
 use Rattle.batch_core.specs.Steps.{State}
-use Rattle.disk_model.specs.Histories.{History}
+use Rattle.aria_store.specs.Stands.{Kept}
+use Rattle.disk_model.specs.Histories.{History, LeavesAll}
+use Rattle.disk_model.proofs.Spans.{leaves_more}
 use Rattle.proc_lang.specs.Catalogs.{Plan}
 use Rattle.script_course.proofs.Turns.{front_all}
 use Rattle.script_course.specs.Courses.{Course, Goes, Out, Stops, printed, refused_after}
@@ -16,14 +18,17 @@ use Rattle.script_places.specs.declared.places.Place.{Place}
 use Rattle.script_text.specs.declared.refusals.RefusalKind.{RefusalKind}
 use Rattle.serving.specs.Drains.{drains}
 use Rattle.serving.specs.Stored.{LeavesState}
+use Rattle.store_openings.specs.Saved.{Saved}
 use Rattle.run_commands.specs.Endings.{IsEnd, closing_turns, drains_of}
-use Rattle.run_commands.specs.Keeps.{Keeps, LeavesLaid}
+use Rattle.run_commands.specs.Keeps.{HoldsState, Keeps, LeavesLaid}
 use Rattle.run_commands.specs.Onces.{Doing, listed}
-use Rattle.run_commands.specs.Passes.{Close, Listed, PassesTurns, Turn, as_doing, held_behind, held_by_step, held_over, held_then, on_close, on_turn}
+use Rattle.run_commands.specs.Passes.{Close, Listed, PassesTurns, Turn, as_doing, held_behind, held_by_step, held_over, held_then, on_close, on_turn, over}
+use Rattle.run_commands.specs.Saves.{IsLeft, saved_behind, saved_then}
 use Rattle.run_commands.proofs.Draining.{going_is}
-use Rattle.run_commands.proofs.Endings.{drains_are, held_listed, held_still}
+use Rattle.run_commands.proofs.Endings.{drains_are, held_listed, held_still, laid_as, saved_listed, saved_still}
 use Rattle.run_commands.proofs.Kept.{keeps_cut, keeps_none, keeps_on, keeps_quiet}
-use Rattle.run_commands.proofs.Overs.{keeps_append, keeps_front, over}
+use Rattle.run_commands.proofs.Overs.{keeps_append, keeps_front}
+use Rattle.run_commands.proofs.Turns.{held_one, left_both, left_more, left_still, onward_none}
 
 -- ---- the listing behind all
 
@@ -62,18 +67,31 @@ module _ (plan : Plan) (each : Bool) (line : ℕ) (state : State) (d : Doing) (e
   quiet_keeps true off disk ga gb result finishes leaves = absurd cc
   quiet_keeps false off disk ga gb result finishes leaves = listed_keeps disk ga gb result finishes leaves
 
-  pub quiet_laid : (drain : Bool) → drain ≡ false → (first checkpoint : ℕ) (disk : History) → LeavesLaid first checkpoint disk plan held
-      → LeavesLaid first checkpoint disk plan (held_behind (closing_turns drain state) d held)
-  quiet_laid true off first checkpoint disk laid = absurd cc
-  quiet_laid false off first checkpoint disk laid = subst (λ (s : State). LeavesLaid first checkpoint disk plan s) (sym (held_listed [] d held)) laid
+  pub quiet_laid : (drain : Bool) → drain ≡ false → (first : ℕ) (saved : Saved) (checkpoint : ℕ) (disk : History)
+      → LeavesLaid first saved checkpoint disk plan held
+      → LeavesLaid first (saved_behind checkpoint (closing_turns drain state) d saved) checkpoint disk plan (held_behind (closing_turns drain state) d held)
+  quiet_laid true off first saved checkpoint disk laid = absurd cc
+  quiet_laid false off first saved checkpoint disk laid =
+      laid_as first checkpoint disk plan saved (saved_behind checkpoint (Listed ∷ []) d saved) held (held_behind (Listed ∷ []) d held)
+      (sym (saved_listed checkpoint [] d saved)) (sym (held_listed [] d held)) laid
+
+  -- what a stop leaves where all was drained, the listing included
+  pub drained_left : (drain : Bool) → drain ≡ true → (saved : Saved) (checkpoint : ℕ) (a b : History)
+      → LeavesAll a b (IsLeft checkpoint (drains_of state) d saved) → LeavesAll a b (IsLeft checkpoint (closing_turns drain state) d saved)
+  drained_left false on saved checkpoint a b h = absurd cc
+  drained_left true on saved checkpoint a b h =
+      leaves_more a b (IsLeft checkpoint (drains_of state) d saved) (IsLeft checkpoint (drains_of state ++ Listed ∷ []) d saved) h
+      (left_more checkpoint (drains_of state) (Listed ∷ []) d saved)
 
   -- where all was drained
-  pub drained_laid : (drain : Bool) → drain ≡ true → (first checkpoint : ℕ) (disk : History)
-      → LeavesLaid first checkpoint disk plan (held_behind (drains_of state) d held)
-      → LeavesLaid first checkpoint disk plan (held_behind (closing_turns drain state) d held)
-  drained_laid false on first checkpoint disk laid = absurd cc
-  drained_laid true on first checkpoint disk laid = subst (λ (s : State). LeavesLaid first checkpoint disk plan s)
-      (sym (held_listed (drains_of state) d held)) laid
+  pub drained_laid : (drain : Bool) → drain ≡ true → (first : ℕ) (saved : Saved) (checkpoint : ℕ) (disk : History)
+      → LeavesLaid first (saved_behind checkpoint (drains_of state) d saved) checkpoint disk plan (held_behind (drains_of state) d held)
+      → LeavesLaid first (saved_behind checkpoint (closing_turns drain state) d saved) checkpoint disk plan (held_behind (closing_turns drain state) d held)
+  drained_laid false on first saved checkpoint disk laid = absurd cc
+  drained_laid true on first saved checkpoint disk laid =
+      laid_as first checkpoint disk plan (saved_behind checkpoint (drains_of state) d saved) (saved_behind checkpoint (drains_of state ++ Listed ∷ []) d saved)
+      (held_behind (drains_of state) d held) (held_behind (drains_of state ++ Listed ∷ []) d held)
+      (sym (saved_listed checkpoint (drains_of state) d saved)) (sym (held_listed (drains_of state) d held)) laid
 
   pub drained_stop : (drain : Bool) → drain ≡ true → (a b : History) (ga gb : Option (List ℕ)) → Keeps (PassesTurns (drains_of state) d held) plan a b ga gb
       → Keeps (PassesTurns (closing_turns drain state) d held) plan a b ga gb
@@ -91,12 +109,24 @@ module _ (plan : Plan) (each : Bool) (line : ℕ) (state : State) (d : Doing) (e
       let went = going_is (drains plan each line state) next ga gb goes in
       let printed_is : over on_turn (drains_of state) d ≡ Goes went.0 Next = drains_are plan each line state d end
       ∙ ap (λ (c : Course State). as_doing d c) went.1.0 in
-      let end_next : IsEnd plan each line next Next = record { plan_is = end.plan_is; each_is = end.each_is; line_is = end.line_is; state_is = refl } in
+      let end_next : IsEnd plan each line next Next = record { plan_is = end.plan_is; each_is = end.each_is; line_is = end.line_is; state_is = refl; calls_none = end.calls_none } in
       keeps_append on_turn held_then plan (drains_of state) (Listed ∷ []) d held Next went.0 a b b ga gb gc printed_is went.1.1 k
       (subst (λ (s : State). Keeps (PassesTurns (Listed ∷ []) Next s) plan b b gb gc) (sym is)
       (listed_keeps plan each line next Next end_next kept b gb gc result finishes leaves))
 
 -- ---- the end of the input
+
+-- what a stop leaves of it and of what follows
+module _ (d : Doing) (steps : List Turn) (q : Place) (is : closing d.place ≡ Ok q) (first : ℕ) (saved : Saved) (checkpoint : ℕ) (a b : History) where
+  pub close_left : (plan : Plan) (state : State) (store : Option Kept) → HoldsState first saved checkpoint a plan state store
+      → LeavesAll a b (IsLeft checkpoint steps (record d { place = q }) saved) → LeavesAll a b (IsLeft checkpoint (Close ∷ steps) d saved)
+  close_left plan state store h l =
+      let goes : on_turn d Close ≡ Goes [] (record d { place = q }) = ap (λ (r : Result Place RefusalKind). on_close d r) is in
+      let behind : saved_behind checkpoint (Close ∷ []) d saved ≡ saved =
+      held_one on_turn (saved_then checkpoint) Close d (record d { place = q }) saved [] goes ∙ saved_still checkpoint saved d (record d { place = q }) refl in
+      left_both checkpoint (Close ∷ []) steps d (record d { place = q }) saved [] (onward_none on_turn (on_turn d Close) ∙ goes) a a b
+      (left_still checkpoint first (Close ∷ []) d saved a plan state store h)
+      (subst (λ (s : Saved). LeavesAll a b (IsLeft checkpoint steps (record d { place = q }) s)) (sym behind) l)
 
 module _ (d : Doing) (held : State) (steps : List Turn) where
   module _ (q : Place) (is : closing d.place ≡ Ok q) where
@@ -111,15 +141,20 @@ module _ (d : Doing) (held : State) (steps : List Turn) where
         (keeps_none on_turn held_then plan (Close ∷ []) d held a ga (Appends-nil ga) leaves)
         (subst (λ (s : State). Keeps (PassesTurns steps (record d { place = q }) s) plan a b ga gb) (sym (held_still held d (record d { place = q }) refl)) k)
 
-    close_held : held_behind (Close ∷ steps) d held ≡ held_behind steps (record d { place = q }) held
-    close_held =
-        ap (λ (c : Course Doing). held_by_step on_turn held_then d held (held_over on_turn held_then steps) c) closes_on
-        ∙ ap (λ (s : State). held_behind steps (record d { place = q }) s) (held_still held d (record d { place = q }) refl)
+    close_over : {H : Type 0} (held_by : H → Doing → Doing → H) (kept : H) → held_by kept d (record d { place = q }) ≡ kept
+        → held_over on_turn held_by (Close ∷ steps) d kept ≡ held_over on_turn held_by steps (record d { place = q }) kept
+    close_over held_by kept same =
+        ap (λ (c : Course Doing). held_by_step on_turn held_by d kept (held_over on_turn held_by steps) c) closes_on
+        ∙ ap (λ h. held_over on_turn held_by steps (record d { place = q }) h) same
 
-    pub close_laid : (first checkpoint : ℕ) (disk : History) (plan : Plan)
-        → LeavesLaid first checkpoint disk plan (held_behind steps (record d { place = q }) held)
-        → LeavesLaid first checkpoint disk plan (held_behind (Close ∷ steps) d held)
-    close_laid first checkpoint disk plan laid = subst (λ (s : State). LeavesLaid first checkpoint disk plan s) (sym close_held) laid
+    pub close_laid : (first : ℕ) (saved : Saved) (checkpoint : ℕ) (disk : History) (plan : Plan)
+        → LeavesLaid first (saved_behind checkpoint steps (record d { place = q }) saved) checkpoint disk plan (held_behind steps (record d { place = q }) held)
+        → LeavesLaid first (saved_behind checkpoint (Close ∷ steps) d saved) checkpoint disk plan (held_behind (Close ∷ steps) d held)
+    close_laid first saved checkpoint disk plan laid =
+        laid_as first checkpoint disk plan (saved_behind checkpoint steps (record d { place = q }) saved) (saved_behind checkpoint (Close ∷ steps) d saved)
+        (held_behind steps (record d { place = q }) held) (held_behind (Close ∷ steps) d held)
+        (sym (close_over (saved_then checkpoint) saved (saved_still checkpoint saved d (record d { place = q }) refl)))
+        (sym (close_over held_then held (held_still held d (record d { place = q }) refl))) laid
 
   module _ (kind : RefusalKind) (is : closing d.place ≡ Err kind) where
     stops_on : on_turn d Close ≡ Stops (refused_after d.place.lines kind)
@@ -134,8 +169,11 @@ module _ (d : Doing) (held : State) (steps : List Turn) where
         (λ bytes next e. absurd (let no : Stops (refused_after d.place.lines kind) ≡ Goes bytes next = sym stops_on ∙ e in cc))
         (subst (λ (c : Course Doing). AppendsFront ga gb (printed c)) (sym stops_on) front) leaves)
 
-    pub refused_laid : (first checkpoint : ℕ) (disk : History) (plan : Plan) → LeavesLaid first checkpoint disk plan held
-        → LeavesLaid first checkpoint disk plan (held_behind (Close ∷ steps) d held)
-    refused_laid first checkpoint disk plan laid =
-        subst (λ (s : State). LeavesLaid first checkpoint disk plan s)
-        (sym (ap (λ (c : Course Doing). held_by_step on_turn held_then d held (held_over on_turn held_then steps) c) stops_on)) laid
+    refused_over : {H : Type 0} (held_by : H → Doing → Doing → H) (kept : H) → held_over on_turn held_by (Close ∷ steps) d kept ≡ kept
+    refused_over held_by kept = ap (λ (c : Course Doing). held_by_step on_turn held_by d kept (held_over on_turn held_by steps) c) stops_on
+
+    pub refused_laid : (first : ℕ) (saved : Saved) (checkpoint : ℕ) (disk : History) (plan : Plan) → LeavesLaid first saved checkpoint disk plan held
+        → LeavesLaid first (saved_behind checkpoint (Close ∷ steps) d saved) checkpoint disk plan (held_behind (Close ∷ steps) d held)
+    refused_laid first saved checkpoint disk plan laid =
+        laid_as first checkpoint disk plan saved (saved_behind checkpoint (Close ∷ steps) d saved) held (held_behind (Close ∷ steps) d held)
+        (sym (refused_over (saved_then checkpoint) saved)) (sym (refused_over held_then held)) laid

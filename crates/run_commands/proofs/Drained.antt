@@ -109,7 +109,7 @@ like_on start live next a b = record {
 -- ---- one batch
 
 module _ (live : Live) (calls : List Call) (none : calls ≡ []) where
-  handed_none : next_handed live calls ≡ no_calls (state_of live)
+  pub handed_none : next_handed live calls ≡ no_calls (state_of live)
   handed_none = handed_is live calls ∙ ap (λ (l : List Call). handed_at (state_of live) l) none
 
   abbrev Refused : ℕ → Course State

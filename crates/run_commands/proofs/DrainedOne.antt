@@ -1,33 +1,38 @@
 -- One batch without new calls, as a part of a script.
-use Rattle.std.proofs.Common.{◌≡◌, ◌≢◌, ◌∙◌, inl, inr, sym, ap, subst, refl, ℕ, ◌+◌, ◌<◌, ◌==◌, false, List, [], ◌∷◌, length, Option, Some, None, option_map, arith}
+use Rattle.std.proofs.Common.{◌≡◌, ◌≢◌, ◌∙◌, inl, inr, sym, ap, subst, refl, ℕ, ◌+◌, ◌<◌, ◌==◌, Bool, false, List, [], ◌∷◌, length, Option, Some, None, option_map, arith}
 use Rattle.std.specs.Prelude.{Err}
 use Rattle.aria_base.specs.declared.calls.Call.{Call}
 use Rattle.aria_base.specs.declared.limits.TheConstants.{GREATEST_NUMBER}
 use Rattle.aria_store.specs.Stands.{Kept, added}
-use Rattle.batch_core.specs.Steps.{State}
-use Rattle.disk_model.specs.Histories.{History, LeavesAll}
+use Rattle.batch_core.specs.Steps.{State, Handed}
+use Rattle.disk_model.specs.Histories.{History, LeavesAll, MayLeave}
+use Rattle.disk_model.proofs.Spans.{leaves_more}
 use Rattle.image_text.specs.Payloads.{Batch}
 use Rattle.script_course.specs.Courses.{Course}
 use Rattle.script_course.specs.Served.{IsGoing, Serves}
 use Rattle.script_course.specs.declared.stops.Stop.{Stop}
 use Rattle.script_course.specs.declared.stops.Stop.TheVariants as stop
-use Rattle.serving.specs.Drains.{one_drained}
+use Rattle.serving.specs.Drains.{no_calls, one_drained}
 use Rattle.serving.specs.Deliveries.{IfTold, IsAnswered, Tells}
-use Rattle.serving.specs.Lives.{IsLike, IsNext, next_state, next_text, plan_of, state_of}
-use Rattle.serving.specs.Stored.{Holds, HoldsTurned, LeavesState, ReopensToEither, next_batch, next_due, next_store, stored_state, turned_by, with_logged}
+use Rattle.serving.proofs.Storing.{by_state, way_states}
+use Rattle.serving.specs.Lives.{IsLike, IsNext, handed_at, next_state, next_text, plan_of, state_of}
+use Rattle.serving.specs.Stored.{Holds, HoldsTurned, LeavesState, ReopensBy, ReopensOnWay, ReopensToEither, batch_of, next_batch, next_due, next_store, stored_state, turned_by, with_logged}
 use Rattle.serving.specs.declared.batches.Delivery.{Delivery}
 use Rattle.serving.specs.declared.batches.Delivery.TheVariants as delivery
 use Rattle.serving.specs.declared.lives.Live.{Live}
 use Rattle.slot_images.specs.Images.{Checkpoint}
+use Rattle.store_openings.specs.Saved.{Saved}
 use Rattle.run_commands.specs.Endings.{HoldsLive, IsEnd}
 use Rattle.run_commands.specs.Keeps.{Keeps}
-use Rattle.run_commands.specs.Onces.{Doing}
+use Rattle.run_commands.specs.Onces.{Doing, handed_in}
 use Rattle.run_commands.specs.Passes.{Drain, PassesTurns}
+use Rattle.run_commands.specs.Saves.{IsLeft, saved_more}
 use Rattle.run_commands.specs.Stops.{IsStopFor}
-use Rattle.run_commands.proofs.Drained.{one_is}
-use Rattle.run_commands.proofs.Endings.{drain_cut, drain_told}
+use Rattle.run_commands.proofs.Drained.{handed_none, one_is}
+use Rattle.run_commands.proofs.Endings.{drain_cut, drain_goes, drain_told}
+use Rattle.run_commands.proofs.Lefts.{batch_left}
 use Rattle.run_commands.proofs.Told.{cut_front, cut_serves, if_told, told_all, told_is}
-use Rattle.run_commands.proofs.Turned.{told_next, turned, turned_next}
+use Rattle.run_commands.proofs.Turned.{told_next, turned_next, turned_on}
 
 -- something waits
 pub some_waits : (n : ℕ) → 0 < n → (n == 0) ≡ false
@@ -87,18 +92,54 @@ module _ (live : Live) (calls : List Call) (none : calls ≡ []) (line : ℕ) (b
           store_is ∙ ap (λ (s : Option Kept). turned_by (next_due live calls) (next_state live calls)
           (option_map (with_logged (plan_of live) (next_batch live calls)) s)) off
 
-      pub holds_next : (first : ℕ) (old new : History)
+      -- what stands behind the batch
+      saved_one : (saved : Saved) → saved_more live.checkpoint saved (next_batch live calls) (next_state live calls)
+          ≡ saved_more live.checkpoint saved (batch_of (no_calls (state_of live))) (state_of next)
+      saved_one saved =
+          ap (λ (h : Handed). saved_more live.checkpoint saved (batch_of h) (next_state live calls)) (handed_none live calls none)
+          ∙ ap (λ (s : State). saved_more live.checkpoint saved (batch_of (no_calls (state_of live))) s) (sym next_here.state)
+
+      pub holds_next : (first : ℕ) (saved : Saved) (old new : History)
           → IfTold r (λ (n : Live). (c : Checkpoint) (later : List Batch) → Holds old (plan_of live) (stored_state live) live.store c later
           → HoldsTurned (next_due live calls) new (plan_of live) (next_state live calls) n.store c (added later live.config.rule live.config.fallback calls))
-          → HoldsLive first old live → HoldsLive first new next
-      holds_next first old new turns h =
-          turned_next first live next calls new next_here store_is
-          (turned first live calls old new next.store h
+          → HoldsLive first saved old live
+          → HoldsLive first (saved_more live.checkpoint saved (batch_of (no_calls (state_of live))) (state_of next)) new next
+      holds_next first saved old new turns h =
+          subst (λ (x : Saved). HoldsLive first x new next) (saved_one saved)
+          (turned_next first (saved_more live.checkpoint saved (next_batch live calls) (next_state live calls)) live next calls new next_here store_is
+          (turned_on first saved live calls old new next.store store_is h
           (told_here (λ (n : Live). (c : Checkpoint) (later : List Batch) → Holds old (plan_of live) (stored_state live) live.store c later
           → HoldsTurned (next_due live calls) new (plan_of live) (next_state live calls) n.store c (added later live.config.rule live.config.fallback calls))
-          turns))
+          turns)))
 
   -- ---- what is kept
+
+  -- what is left, as states
+  module _ (due : Bool) (c : Checkpoint) (later more : List Batch) where
+    pub as_either : (a b : History) → LeavesAll a b (ReopensOnWay due c later more (plan_of live) (stored_state live) (next_state live calls))
+        → LeavesAll a b (ReopensToEither (plan_of live) (stored_state live) (next_state live calls))
+    as_either a b all =
+        leaves_more a b (ReopensOnWay due c later more (plan_of live) (stored_state live) (next_state live calls))
+        (ReopensToEither (plan_of live) (stored_state live) (next_state live calls)) all
+        (way_states due c later more (plan_of live) (stored_state live) (next_state live calls))
+
+    pub as_after : (answered : Type 0) (b : History)
+        → (answered → (images : ℕ → List ℕ) → MayLeave b b.now images → ReopensBy due c more (plan_of live) (next_state live calls) images)
+        → answered → LeavesState b (plan_of live) (next_state live calls)
+    as_after answered b given told images left = by_state due c more (plan_of live) (next_state live calls) images (given told images left)
+
+  pub drain_left : (some : (length (state_of live).waiting == 0) ≡ false) (first : ℕ) (saved : Saved) (d : Doing)
+      → IsEnd (plan_of live) live.each line (state_of live) d → (a b : History) → HoldsLive first saved a live
+      → LeavesAll a b (ReopensOnWay (next_due live calls) saved.c saved.later (added saved.later live.config.rule live.config.fallback calls)
+      (plan_of live) (stored_state live) (next_state live calls))
+      → LeavesAll a b (IsLeft live.checkpoint (Drain ∷ []) d saved)
+  drain_left some first saved d end a b h all =
+      let is = drain_goes (plan_of live) live.each line (state_of live) d end some (stored_state live) (next_state live calls) (next_text live calls)
+      (one_is live calls none line below) refl a b ga gb in
+      let batch : next_batch live calls ≡ batch_of (handed_in d) =
+      ap batch_of (handed_none live calls none) ∙ (λ i. batch_of (handed_at (sym end.state_is i) (sym end.calls_none i))) in
+      batch_left live calls Drain d (record d { state = next_state live calls }) (next_text live calls) is refl
+      (ap (λ (s : State). s.batches + 1) (sym end.state_is)) batch a saved h.stands b all
 
   module _ (some : (length (state_of live).waiting == 0) ≡ false) (d : Doing) (end : IsEnd (plan_of live) live.each line (state_of live) d) (a b : History)
       (all : LeavesAll a b (ReopensToEither (plan_of live) (stored_state live) (next_state live calls)))

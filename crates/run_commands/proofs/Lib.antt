@@ -23,5 +23,6 @@ pub mod Lengths
 pub mod Feeds
 pub mod Causes
 pub mod Pieces
+pub mod Lefts
 pub mod Lined
 pub mod Resumed

@@ -5,10 +5,10 @@ use Rattle.aria_base.specs.declared.calls.Call.{Call}
 use Rattle.aria_store.specs.Stands.{Kept, added}
 use Rattle.batch_core.specs.Steps.{State}
 use Rattle.batch_rules.specs.declared.verdicts.Rule.{Rule}
-use Rattle.disk_model.specs.Histories.{History}
+use Rattle.disk_model.specs.Histories.{History, LeavesAll}
 use Rattle.image_text.specs.Payloads.{Batch}
 use Rattle.proc_lang.specs.Catalogs.{Plan}
-use Rattle.script_course.specs.Courses.{Stops}
+use Rattle.script_course.specs.Courses.{Goes, Stops}
 use Rattle.script_course.specs.Served.{Serves}
 use Rattle.script_course.specs.declared.stops.Stop.{Stop}
 use Rattle.script_places.proofs.Allowed.{follows}
@@ -20,32 +20,37 @@ use Rattle.script_places.specs.declared.heads.Head.{Head}
 use Rattle.script_places.specs.declared.heads.Head.TheVariants as head
 use Rattle.script_places.specs.declared.places.Counts.{Counts}
 use Rattle.script_places.specs.declared.places.Place.{Place}
-use Rattle.serving.specs.Lives.{IsNext, next_state, plan_of}
-use Rattle.serving.specs.Stored.{HasLines, Holds, HoldsTurned, next_due, next_store, stored_state, told_by}
+use Rattle.serving.proofs.Nexts.{handed_is}
+use Rattle.serving.specs.Lives.{IsNext, handed_at, next_state, plan_of}
+use Rattle.serving.specs.Stored.{HasLines, Holds, HoldsTurned, ReopensOnWay, batch_of, next_batch, next_due, next_store, stored_state, told_by}
 use Rattle.serving.specs.declared.lives.Live.{Live}
 use Rattle.slot_images.specs.Images.{Checkpoint}
+use Rattle.store_openings.specs.Saved.{Saved}
 use Rattle.run_commands.specs.Bases.{IsBegun, IsHead, checkpoint_in, counts_of, state_in, store_in}
 use Rattle.run_commands.specs.Keeps.{HoldsState, IsOpen, Keeps, held_of}
-use Rattle.run_commands.specs.Onces.{Doing, Running, doing_result, done, on_line, with_call, with_settings, without_calls}
+use Rattle.run_commands.specs.Onces.{Doing, Running, behind_batch, doing_result, done, handed_in, text_of, on_line, with_call, with_settings, without_calls}
 use Rattle.run_commands.specs.Passes.{Line, PassesTurns, held_then, on_turn}
+use Rattle.run_commands.specs.Saves.{IsLeft, saved_more, saved_then}
 use Rattle.run_commands.specs.Standing.{IsOf, MayDo, Stands, doing_of, running_of, runs_batch}
 use Rattle.run_commands.specs.Turns.{HoldsScript, KeepsTurns, Stays}
 use Rattle.run_commands.specs.declared.bases.Base.{Base}
 use Rattle.run_commands.specs.declared.bases.Base.TheVariants as base
 use Rattle.run_commands.specs.declared.works.Work.{Work}
 use Rattle.run_commands.proofs.Asked.{line_is}
-use Rattle.run_commands.proofs.Endings.{held_after}
+use Rattle.run_commands.proofs.Deeds.{state_is}
+use Rattle.run_commands.proofs.Lefts.{batch_left}
+use Rattle.run_commands.proofs.Endings.{held_after, ran_then, still_then}
 use Rattle.run_commands.proofs.Ran.{held_is}
-use Rattle.run_commands.proofs.Stepped.{quiet_count, same_count, when_true}
-use Rattle.run_commands.proofs.Turned.{told_next, turned, turned_next}
+use Rattle.run_commands.proofs.Stepped.{quiet_count}
+use Rattle.run_commands.proofs.Turned.{told_next, turned_next, turned_on}
 use Rattle.run_commands.proofs.Turns.{goes_to, held_one, not_both, stop_in, stops_to}
 
 -- ---- only with a store something is held
 
-store_some : (first checkpoint : ℕ) (disk : History) (plan : Plan) (state : State) (store : Option Kept) → HoldsState first checkpoint disk plan state store
-    → store ≢ None
-store_some first checkpoint disk plan state None h = absurd h.holds
-store_some first checkpoint disk plan state (Some store) h = λ e. absurd cc
+store_some : (first : ℕ) (saved : Saved) (checkpoint : ℕ) (disk : History) (plan : Plan) (state : State) (store : Option Kept)
+    → HoldsState first saved checkpoint disk plan state store → store ≢ None
+store_some first saved checkpoint disk plan state None h = absurd h.stands.holds
+store_some first saved checkpoint disk plan state (Some store) h = λ e. absurd cc
 
 -- settings alone are in no store
 told_set : (store : Option Kept) (state : State) (rule : Rule) (percent : ℕ) → store ≢ None
@@ -89,36 +94,43 @@ module _ (place : Place) (work : Work) (ga gb : Option (List ℕ)) where
       quiet_as (with_settings Here.doing rule percent) next h.0 kept refl (told_set Store (state_in work.base) rule percent some)
   quiet_next (deed.Keep number) q may some next kept h = quiet_as (without_calls Here.doing) next h.0 kept refl refl
 
-  module _ (first : ℕ) (disk : History) (h : HoldsScript first disk Here) (asks : Deed) (quiet : runs_batch asks ≡ false) (may : MayDo place work asks) where
+  module _ (first : ℕ) (saved : Saved) (disk : History) (h : HoldsScript first saved disk Here) (asks : Deed) (quiet : runs_batch asks ≡ false)
+      (may : MayDo place work asks) where
     quiet_is : (next : Running) → next.store ≡ Store → Serves (done Here.doing asks) ga gb (Ok next.doing) → IsQuiet next
-    quiet_is next kept serves = quiet_next asks quiet may (store_some first Here.checkpoint disk (plan_in place.head) (held_of Here) Store h) next kept serves
+    quiet_is next kept serves = quiet_next asks quiet may (store_some first saved Here.checkpoint disk (plan_in place.head) (held_of Here) Store h)
+        next kept serves
 
-    stays_by : (next : Running) → IsQuiet next → next.store ≡ Store → next.checkpoint ≡ Here.checkpoint → Stays first disk Here next
+    stays_by : (next : Running) → IsQuiet next → next.store ≡ Store → next.checkpoint ≡ Here.checkpoint → Stays first saved disk Here next
     stays_by next q kept n = record {
       plan = q.0;
       checkpoint = n;
-      holds = subst (λ (k : ℕ). HoldsState first k disk (plan_in next.doing.place.head) (held_of next) next.store) (sym n)
-          (subst (λ (p : Plan). HoldsState first Here.checkpoint disk p (held_of next) next.store) (sym q.0)
-          (subst (λ (s : State). HoldsState first Here.checkpoint disk (plan_in place.head) s next.store) (sym q.1)
-          (subst (λ (k : Option Kept). HoldsState first Here.checkpoint disk (plan_in place.head) (held_of Here) k) (sym kept) h)));
+      holds = subst (λ (k : ℕ). HoldsState first saved k disk (plan_in next.doing.place.head) (held_of next) next.store) (sym n)
+          (subst (λ (p : Plan). HoldsState first saved Here.checkpoint disk p (held_of next) next.store) (sym q.0)
+          (subst (λ (s : State). HoldsState first saved Here.checkpoint disk (plan_in place.head) s next.store) (sym q.1)
+          (subst (λ (k : Option Kept). HoldsState first saved Here.checkpoint disk (plan_in place.head) (held_of Here) k) (sym kept) h)));
     }
 
-    pub quiet_stays : (result : Result Running Stop) → IfOk result (λ next. next.store ≡ Store)
-        → IfOk result (λ next. next.checkpoint ≡ checkpoint_in work.base)
-        → Serves (done Here.doing asks) ga gb (doing_result result) → IfOk result (Stays first disk Here)
-    quiet_stays (Ok next) kept n serves = stays_by next (quiet_is next kept serves) kept n
-    quiet_stays (Err why) kept n serves = tt
+    module _ (before : Doing) (same : before.state ≡ state_in work.base) where
+      count_is : (next : Running) → Serves (done Here.doing asks) ga gb (Ok next.doing) → next.doing.state.batches ≡ before.state.batches
+      count_is next serves =
+          let went = goes_to (done Here.doing asks) next.doing ga gb serves in
+          quiet_count Here.doing asks quiet went.0 next.doing went.1 ∙ ap (λ (s : State). s.batches) (sym same)
 
-    pub quiet_held : (before : Doing) → before.state ≡ state_in work.base → (result : Result Running Stop) → IfOk result (λ next. next.store ≡ Store)
-        → Serves (done Here.doing asks) ga gb (doing_result result) → IfOk result (λ next. held_of next ≡ held_then (held_of Here) before next.doing)
-    quiet_held before same (Ok next) kept serves =
-        let went = goes_to (done Here.doing asks) next.doing ga gb serves in
-        let count : next.doing.state.batches ≡ before.state.batches =
-        quiet_count Here.doing asks quiet went.0 next.doing went.1 ∙ ap (λ (s : State). s.batches) (sym same) in
-        (quiet_is next kept serves).1
-        ∙ sym (when_true (next.doing.state.batches == before.state.batches) (held_of Here) next.doing.state
-        (same_count next.doing.state.batches before.state.batches count))
-    quiet_held before same (Err why) kept serves = tt
+      pub quiet_stays : (result : Result Running Stop) → IfOk result (λ next. next.store ≡ Store)
+          → IfOk result (λ next. next.checkpoint ≡ checkpoint_in work.base)
+          → Serves (done Here.doing asks) ga gb (doing_result result)
+          → IfOk result (λ next. Stays first (saved_then Here.checkpoint saved before next.doing) disk Here next)
+      quiet_stays (Ok next) kept n serves =
+          subst (λ (s : Saved). Stays first s disk Here next)
+          (sym (still_then saved (saved_more Here.checkpoint saved (batch_of (handed_in before)) next.doing.state) before next.doing (count_is next serves)))
+          (stays_by next (quiet_is next kept serves) kept n)
+      quiet_stays (Err why) kept n serves = tt
+
+      pub quiet_held : (result : Result Running Stop) → IfOk result (λ next. next.store ≡ Store)
+          → Serves (done Here.doing asks) ga gb (doing_result result) → IfOk result (λ next. held_of next ≡ held_then (held_of Here) before next.doing)
+      quiet_held (Ok next) kept serves =
+          (quiet_is next kept serves).1 ∙ sym (still_then (held_of Here) next.doing.state before next.doing (count_is next serves))
+      quiet_held (Err why) kept serves = tt
 
 -- ---- a batch
 
@@ -129,37 +141,74 @@ module _ (place : Place) (work : Work) (live : Live) (begun : IsBegun place.head
   abbrev Script : Running
   Script = running_of place work
 
-  begun_state : (first : ℕ) (disk : History) → HoldsScript first disk Script
-      → HoldsState first live.checkpoint disk (plan_of live) (stored_state live) live.store
-  begun_state first disk h =
-      subst (λ (n : ℕ). HoldsState first n disk (plan_of live) (stored_state live) live.store) (sym begun.checkpoint)
-      (subst (λ (p : Plan). HoldsState first Script.checkpoint disk p (stored_state live) live.store) (sym begun.plan)
-      (subst (λ (s : State). HoldsState first Script.checkpoint disk (plan_in place.head) s live.store) (sym (held_is place work live begun))
-      (subst (λ (k : Option Kept). HoldsState first Script.checkpoint disk (plan_in place.head) (held_of Script) k) (sym begun.store) h)))
+  begun_state : (first : ℕ) (saved : Saved) (disk : History) → HoldsScript first saved disk Script
+      → HoldsState first saved live.checkpoint disk (plan_of live) (stored_state live) live.store
+  begun_state first saved disk h =
+      subst (λ (n : ℕ). HoldsState first saved n disk (plan_of live) (stored_state live) live.store) (sym begun.checkpoint)
+      (subst (λ (p : Plan). HoldsState first saved Script.checkpoint disk p (stored_state live) live.store) (sym begun.plan)
+      (subst (λ (s : State). HoldsState first saved Script.checkpoint disk (plan_in place.head) s live.store) (sym (held_is place work live begun))
+      (subst (λ (k : Option Kept). HoldsState first saved Script.checkpoint disk (plan_in place.head) (held_of Script) k) (sym begun.store) h)))
+
+  -- the batch that goes into the log is that of the script's open calls
+  batch_is : (before : Doing) → before.state ≡ state_in work.base → before.calls ≡ Calls → next_batch live Calls ≡ batch_of (handed_in before)
+  batch_is before same calls =
+      ap batch_of (handed_is live Calls)
+      ∙ ap (λ (s : State). batch_of (handed_at s Calls)) (begun.state ∙ sym same)
+      ∙ ap (λ (l : List Call). batch_of (handed_at before.state l)) (sym calls)
+
+  -- what a stop leaves of it
+  pub ran_left : (first : ℕ) (saved : Saved) (old new : History) → HoldsScript first saved old Script
+      → (before : Doing) (line : List ℕ) → before.state ≡ state_in work.base → before.calls ≡ Calls
+      → on_line before line ≡ Goes (text_of Script.doing) (behind_batch Script.doing)
+      → LeavesAll old new (ReopensOnWay (next_due live Calls) saved.c saved.later (added saved.later live.config.rule live.config.fallback Calls)
+      (plan_of live) (stored_state live) (next_state live Calls))
+      → LeavesAll old new (IsLeft Script.checkpoint (Line line ∷ []) before saved)
+  ran_left first saved old new h before line same calls is all =
+      let after = behind_batch Script.doing in
+      let state : after.state ≡ next_state live Calls = sym (state_is place work live begun) in
+      let counted : after.state.batches ≡ before.state.batches + 1 = ap (λ (s : State). s.batches + 1) (sym same) in
+      subst (λ (k : ℕ). LeavesAll old new (IsLeft k (Line line ∷ []) before saved)) begun.checkpoint
+      (batch_left live Calls (Line line) before after (text_of Script.doing) is state counted (batch_is before same calls) old saved
+      (begun_state first saved old h).stands new all)
 
   module _ (next : Live) (is : IsNext live Calls next) (kept : next.store ≡ next_store live Calls) (n : Work) (b : n.base ≡ base.Runs next) where
-    pub ran_stays : (first : ℕ) (old new : History) → HoldsScript first old Script
+    state_next : state_in n.base ≡ next_state live Calls
+    state_next = ap state_in b ∙ is.state
+
+    count_next : (before : Doing) → before.state ≡ state_in work.base → (doing_of place n).state.batches ≡ before.state.batches + 1
+    count_next before same = ap (λ (s : State). s.batches) state_next ∙ ap (λ (s : State). s.batches + 1) (begun.state ∙ sym same)
+
+    saved_next : (saved : Saved) (before : Doing) → before.state ≡ state_in work.base → before.calls ≡ Calls
+        → saved_more live.checkpoint saved (next_batch live Calls) (next_state live Calls) ≡ saved_then Script.checkpoint saved before (doing_of place n)
+    saved_next saved before same calls =
+        ap (λ (k : ℕ). saved_more k saved (next_batch live Calls) (next_state live Calls)) begun.checkpoint
+        ∙ ap (λ (x : Batch). saved_more Script.checkpoint saved x (next_state live Calls)) (batch_is before same calls)
+        ∙ ap (λ (s : State). saved_more Script.checkpoint saved (batch_of (handed_in before)) s) (sym state_next)
+        ∙ sym (ran_then saved (saved_more Script.checkpoint saved (batch_of (handed_in before)) (doing_of place n).state) before (doing_of place n)
+        (count_next before same))
+
+    pub ran_stays : (first : ℕ) (saved : Saved) (old new : History) → HoldsScript first saved old Script
         → ((c : Checkpoint) (later : List Batch) → Holds old (plan_of live) (stored_state live) live.store c later
         → HoldsTurned (next_due live Calls) new (plan_of live) (next_state live Calls) next.store c (added later live.config.rule live.config.fallback Calls))
-        → Stays first new Script (running_of place n)
-    ran_stays first old new h turns =
-        let held = turned_next first live next Calls new is kept (turned first live Calls old new next.store (begun_state first old h) turns) in
-        record {
+        → (before : Doing) → before.state ≡ state_in work.base → before.calls ≡ Calls
+        → Stays first (saved_then Script.checkpoint saved before (doing_of place n)) new Script (running_of place n)
+    ran_stays first saved old new h turns before same calls =
+        let after = saved_more live.checkpoint saved (next_batch live Calls) (next_state live Calls) in
+        let held = turned_next first after live next Calls new is kept
+        (turned_on first saved live Calls old new next.store kept (begun_state first saved old h) turns) in
+        subst (λ (x : Saved). Stays first x new Script (running_of place n)) (saved_next saved before same calls) (record {
           plan = refl;
           checkpoint = ap checkpoint_in b ∙ is.checkpoint ∙ begun.checkpoint;
-          holds = subst (λ (x : Base). HoldsState first (checkpoint_in x) new (plan_in place.head) (told_by (store_in x) (state_in x)) (store_in x)) (sym b)
-              (subst (λ (p : Plan). HoldsState first next.checkpoint new p (stored_state next) next.store) (is.plan ∙ begun.plan) held);
-        }
+          holds = subst (λ (x : Base). HoldsState first after (checkpoint_in x) new (plan_in place.head) (told_by (store_in x) (state_in x)) (store_in x)) (sym b)
+              (subst (λ (p : Plan). HoldsState first after next.checkpoint new p (stored_state next) next.store) (is.plan ∙ begun.plan) held);
+        })
 
     pub ran_held : (before : Doing) → before.state ≡ state_in work.base → held_of (running_of place n) ≡ held_then (held_of Script) before (doing_of place n)
     ran_held before same =
-        let state : state_in n.base ≡ next_state live Calls = ap state_in b ∙ is.state in
-        let count : (doing_of place n).state.batches ≡ before.state.batches + 1 =
-        ap (λ (s : State). s.batches) state ∙ ap (λ (s : State). s.batches + 1) (begun.state ∙ sym same) in
         ap (λ (x : Base). told_by (store_in x) (state_in x)) b
         ∙ told_next live next Calls is kept
-        ∙ sym state
-        ∙ sym (held_after (held_of Script) before (doing_of place n) count)
+        ∙ sym state_next
+        ∙ sym (held_after (held_of Script) before (doing_of place n) (count_next before same))
 
 -- ---- a line as a whole
 
@@ -207,26 +256,36 @@ module _ (place after : Place) (work : Work) (stands : Stands place work) (count
         (store_in work.base) ask_plan o.lines;
   }
 
-  module _ (first : ℕ) (old : History) (h : HoldsScript first old From) where
+  module _ (first : ℕ) (saved : Saved) (old : History) (h : HoldsScript first saved old From) where
     plan_is : plan_in after.head ≡ plan_in place.head
-    plan_is = ask_plan (store_some first From.checkpoint old (plan_in place.head) (held_of From) (store_in work.base) h)
+    plan_is = ask_plan (store_some first saved From.checkpoint old (plan_in place.head) (held_of From) (store_in work.base) h)
 
-    pub ask_holds : HoldsScript first old To
-    ask_holds = subst (λ (p : Plan). HoldsState first From.checkpoint old p (held_of From) (store_in work.base)) (sym plan_is) h
+    pub ask_holds : HoldsScript first saved old To
+    ask_holds = subst (λ (p : Plan). HoldsState first saved From.checkpoint old p (held_of From) (store_in work.base)) (sym plan_is) h
 
     pub line_kept : (new : History) (ga gb : Option (List ℕ)) (result : Result Running Stop) → Serves (on_line From.doing line) ga gb (doing_result result)
-        → Keeps (PassesTurns (Line line ∷ []) From.doing (held_of To)) (plan_in after.head) old new ga gb → IfOk result (Stays first new To)
-        → IfOk result (λ next. held_of next ≡ held_then (held_of To) From.doing next.doing) → KeepsTurns first (Line line ∷ []) From old new ga gb result
-    line_kept new ga gb (Ok next) serves keeps stays held =
+        → Keeps (PassesTurns (Line line ∷ []) From.doing (held_of To)) (plan_in after.head) old new ga gb
+        → IfOk result (λ next. Stays first (saved_then To.checkpoint saved From.doing next.doing) new To next)
+        → IfOk result (λ next. held_of next ≡ held_then (held_of To) From.doing next.doing)
+        → LeavesAll old new (IsLeft To.checkpoint (Line line ∷ []) From.doing saved)
+        → KeepsTurns first saved (Line line ∷ []) From old new ga gb result
+    line_kept new ga gb (Ok next) serves keeps stays held left =
         let went = goes_to (on_line From.doing line) next.doing ga gb serves in
         record {
           keeps = subst (λ (p : Plan). Keeps (PassesTurns (Line line ∷ []) From.doing (held_of From)) p old new ga gb) plan_is keeps;
-          stays = record { plan = stays.plan ∙ plan_is; checkpoint = stays.checkpoint; holds = stays.holds };
+          left = left;
+          stays = record {
+            plan = stays.plan ∙ plan_is;
+            checkpoint = stays.checkpoint;
+            holds = subst (λ (x : Saved). HoldsScript first x new next)
+                (sym (held_one on_turn (saved_then From.checkpoint) (Line line) From.doing next.doing saved went.0 went.1)) stays.holds;
+          };
           held = held ∙ sym (held_one on_turn held_then (Line line) From.doing next.doing (held_of From) went.0 went.1);
           refused = λ e. absurd cc;
         }
-    line_kept new ga gb (Err why) serves keeps stays held = record {
+    line_kept new ga gb (Err why) serves keeps stays held left = record {
       keeps = subst (λ (p : Plan). Keeps (PassesTurns (Line line ∷ []) From.doing (held_of From)) p old new ga gb) plan_is keeps;
+      left = left;
       stays = tt;
       held = tt;
       refused = λ e.

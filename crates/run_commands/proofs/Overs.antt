@@ -6,17 +6,12 @@ use Rattle.disk_model.specs.Histories.{History}
 use Rattle.proc_lang.specs.Catalogs.{Plan}
 use Rattle.script_course.specs.Courses.{Course, Goes, Stops, behind}
 use Rattle.run_commands.specs.Keeps.{Keeps}
-use Rattle.run_commands.specs.Passes.{Passes, PassesBy, held_by_step, held_over}
+use Rattle.run_commands.specs.Passes.{Passes, PassesBy, held_by_step, held_over, onward, over}
 use Rattle.run_commands.proofs.Kept.{here_in, keeps_more, keeps_then}
 
 -- ---- courses
 
 module _ {R : Type 0} where
-  -- a course, and what follows where it goes on
-  abbrev pub onward : (R → Course R) → Course R → Course R
-  onward next (Goes bytes r) = behind bytes (next r)
-  onward next (Stops bytes) = Stops bytes
-
   -- where it goes on, this holds of what it prints and leaves
   abbrev pub IfGoes : Course R → (List ℕ → R → Type 0) → Type 0
   IfGoes (Goes bytes r) P = P bytes r
@@ -25,12 +20,6 @@ module _ {R : Type 0} where
   if_goes_more : (c : Course R) (P Q : List ℕ → R → Type 0) → ((bytes : List ℕ) (r : R) → P bytes r → Q bytes r) → IfGoes c P → IfGoes c Q
   if_goes_more (Goes bytes r) P Q more h = more bytes r h
   if_goes_more (Stops bytes) P Q more h = tt
-
--- what steps print and leave, one after the other
-module _ {R X : Type 0} (on : R → X → Course R) where
-  abbrev pub over : List X → R → Course R
-  over [] r = Goes [] r
-  over (x ∷ steps) r = onward (over steps) (on r x)
 
 -- ---- steps, and more of them
 

@@ -11,9 +11,9 @@ use Rattle.script_text.specs.Laws.{lead}
 use Rattle.script_text.specs.Lines.{Feed, Scan, last_line, scan}
 use Rattle.script_text.specs.declared.refusals.Refusal.{Refusal}
 use Rattle.run_commands.specs.Onces.{Doing, Running, on_line}
-use Rattle.run_commands.specs.Passes.{Line, Turn, last, on_turn, past, turns, turns_whole}
-use Rattle.run_commands.specs.Turns.{KeepsTurns}
-use Rattle.run_commands.proofs.Overs.{over}
+use Rattle.run_commands.specs.Passes.{Line, Turn, last, on_turn, over, past, turns, turns_whole}
+use Rattle.store_openings.specs.Saved.{Saved}
+use Rattle.run_commands.specs.Turns.{KeepsTurns, saved_over}
 use Rattle.run_commands.proofs.Turns.{kept_front, kept_then, scan_over}
 
 -- ---- the turns of a piece stand in front of those of the rest
@@ -55,17 +55,18 @@ turns_more feed piece text (Some refusal) some = (
 
 module _ (first : ℕ) where
   -- what is kept of the text that is left, where the source tells it
-  abbrev pub KeepsText : Feed → Running → History → Option (List ℕ) → Option (List ℕ) → History → Option (List ℕ) → Result Running Stop → Type 0
-  KeepsText feed script old left given_old new given_new result =
-      IfSome left (λ text. KeepsTurns first (turns_whole (scan feed text)) script old new given_old given_new result)
+  abbrev pub KeepsText : Saved → Feed → Running → History → Option (List ℕ) → Option (List ℕ) → History → Option (List ℕ) → Result Running Stop → Type 0
+  KeepsText saved feed script old left given_old new given_new result =
+      IfSome left (λ text. KeepsTurns first saved (turns_whole (scan feed text)) script old new given_old given_new result)
 
   -- to keep the rest of a text from here is to keep the whole from there
-  abbrev pub CarriesText : Feed → Running → History → Option (List ℕ) → Option (List ℕ) → Feed → Running → History → Option (List ℕ) → Option (List ℕ) → Type 0
-  CarriesText rest_feed rest now here given feed script old left given_old =
+  abbrev pub CarriesText : Saved → Feed → Running → History → Option (List ℕ) → Option (List ℕ)
+      → Saved → Feed → Running → History → Option (List ℕ) → Option (List ℕ) → Type 0
+  CarriesText here rest_feed rest now left_now given saved feed script old left given_old =
       (new : History) (given_new : Option (List ℕ)) (result : Result Running Stop)
-      → KeepsText rest_feed rest now here given new given_new result → KeepsText feed script old left given_old new given_new result
+      → KeepsText here rest_feed rest now left_now given new given_new result → KeepsText saved feed script old left given_old new given_new result
 
-  module _ (feed : Feed) (script : Running) (a : History) (ga : Option (List ℕ)) where
+  module _ (saved : Saved) (feed : Feed) (script : Running) (a : History) (ga : Option (List ℕ)) where
     over_scan : (piece : List ℕ) (gb : Option (List ℕ)) (result : Result Doing Stop)
         → Serves (with_scan on_line (Goes [] script.doing) (scan feed piece)) ga gb result
         → Serves (over on_turn (turns (scan feed piece)) script.doing) ga gb result
@@ -75,40 +76,41 @@ module _ (first : ℕ) where
     pub piece_kept : (left mid : Option (List ℕ)) (piece : List ℕ) (after : Feed) (next : Running) (b c : History) (gb gc : Option (List ℕ))
         (result : Result Running Stop)
         → Consumes left mid piece → Serves (with_scan on_line (Goes [] script.doing) (scan feed piece)) ga gb (Ok next.doing) → (scan feed piece).fault ≡ None
-        → (scan feed piece).feed ≡ after → KeepsTurns first (turns (scan feed piece)) script a b ga gb (Ok next) → KeepsText after next b mid gb c gc result
-        → KeepsText feed script a left ga c gc result
+        → (scan feed piece).feed ≡ after → KeepsTurns first saved (turns (scan feed piece)) script a b ga gb (Ok next)
+        → KeepsText (saved_over (turns (scan feed piece)) script saved) after next b mid gb c gc result
+        → KeepsText saved feed script a left ga c gc result
     piece_kept None mid piece after next b c gb gc result taken serves none same k l = tt
     piece_kept (Some all) None piece after next b c gb gc result taken serves none same k l = absurd taken
     piece_kept (Some all) (Some text) piece after next b c gb gc result taken serves none same k l =
-        let here : KeepsTurns first (turns_whole (scan (scan feed piece).feed text)) next b c gb gc result =
-        subst (λ (f : Feed). KeepsTurns first (turns_whole (scan f text)) next b c gb gc result) (sym same) l in
-        let both = kept_then first (turns (scan feed piece)) (turns_whole (scan (scan feed piece).feed text)) script a b ga gb next c gc
+        let here : KeepsTurns first (saved_over (turns (scan feed piece)) script saved) (turns_whole (scan (scan feed piece).feed text)) next b c gb gc result =
+        subst (λ (f : Feed). KeepsTurns first (saved_over (turns (scan feed piece)) script saved) (turns_whole (scan f text)) next b c gb gc result) (sym same) l in
+        let both = kept_then first saved (turns (scan feed piece)) (turns_whole (scan (scan feed piece).feed text)) script a b ga gb next c gc
         (over_scan piece gb (Ok next.doing) serves) k result here in
-        subst (λ (t : List ℕ). KeepsTurns first (turns_whole (scan feed t)) script a c ga gc result) (sym taken)
-        (subst (λ (steps : List Turn). KeepsTurns first steps script a c ga gc result) (sym (turns_on feed piece text none)) both)
+        subst (λ (t : List ℕ). KeepsTurns first saved (turns_whole (scan feed t)) script a c ga gc result) (sym taken)
+        (subst (λ (steps : List Turn). KeepsTurns first saved steps script a c ga gc result) (sym (turns_on feed piece text none)) both)
 
     -- it was cut off in a piece
     pub cut_kept : (left rest : Option (List ℕ)) (piece : List ℕ) (b : History) (gb : Option (List ℕ)) (why : Stop) → Consumes left rest piece
         → ServesCut (with_scan on_line (Goes [] script.doing) (scan feed piece)) ga gb why
-        → KeepsTurns first (turns (scan feed piece)) script a b ga gb (Err why)
-        → KeepsText feed script a left ga b gb (Err why)
+        → KeepsTurns first saved (turns (scan feed piece)) script a b ga gb (Err why)
+        → KeepsText saved feed script a left ga b gb (Err why)
     cut_kept None rest piece b gb why taken serves k = tt
     cut_kept (Some all) None piece b gb why taken serves k = absurd taken
     cut_kept (Some all) (Some text) piece b gb why taken serves k =
         let more = turns_more feed piece text (scan feed piece).fault refl in
-        subst (λ (t : List ℕ). KeepsTurns first (turns_whole (scan feed t)) script a b ga gb (Err why)) (sym taken)
-        (subst (λ (steps : List Turn). KeepsTurns first steps script a b ga gb (Err why)) (sym more.1)
-        (kept_front first (turns (scan feed piece)) more.0 script a b ga gb why (over_scan piece gb (Err why) serves) k))
+        subst (λ (t : List ℕ). KeepsTurns first saved (turns_whole (scan feed t)) script a b ga gb (Err why)) (sym taken)
+        (subst (λ (steps : List Turn). KeepsTurns first saved steps script a b ga gb (Err why)) (sym more.1)
+        (kept_front first saved (turns (scan feed piece)) more.0 script a b ga gb why (over_scan piece gb (Err why) serves) k))
 
     -- it came to the end
     pub end_kept : (left : Option (List ℕ)) (c : History) (gc : Option (List ℕ)) (result : Result Running Stop) → IsAtEnd left
-        → KeepsTurns first (last (last_line feed)) script a c ga gc result → KeepsText feed script a left ga c gc result
+        → KeepsTurns first saved (last (last_line feed)) script a c ga gc result → KeepsText saved feed script a left ga c gc result
     end_kept None c gc result end k = tt
-    end_kept (Some text) c gc result end k = subst (λ (t : List ℕ). KeepsTurns first (turns_whole (scan feed t)) script a c ga gc result) (sym end) k
+    end_kept (Some text) c gc result end k = subst (λ (t : List ℕ). KeepsTurns first saved (turns_whole (scan feed t)) script a c ga gc result) (sym end) k
 
     -- nothing more was taken
     pub any_kept : (left : Option (List ℕ)) (c : History) (gc : Option (List ℕ)) (result : Result Running Stop)
-        → ((steps : List Turn) → KeepsTurns first steps script a c ga gc result) → KeepsText feed script a left ga c gc result
+        → ((steps : List Turn) → KeepsTurns first saved steps script a c ga gc result) → KeepsText saved feed script a left ga c gc result
     any_kept None c gc result k = tt
     any_kept (Some text) c gc result k = k (turns_whole (scan feed text))
 

@@ -8,7 +8,8 @@ use Rattle.aria_base.specs.declared.calls.Call.{Call}
 use Rattle.aria_base.specs.declared.limits.TheConstants.{LONGEST_LINE}
 use Rattle.aria_store.specs.Stands.{Kept}
 use Rattle.batch_core.specs.Steps.{State}
-use Rattle.disk_model.specs.Histories.{History, LeavesAll}
+use Rattle.disk_model.specs.Histories.{History, LeavesAll, MayLeave}
+use Rattle.disk_model.proofs.Spans.{leaves_more}
 use Rattle.image_text.specs.Exactly.{line_of_call}
 use Rattle.image_text.specs.Payloads.{Batch}
 use Rattle.proc_lang.specs.Catalogs.{Plan}
@@ -17,10 +18,10 @@ use Rattle.script_places.specs.Places.{plan_in}
 use Rattle.script_places.specs.declared.places.Place.{Place}
 use Rattle.serving.specs.Deliveries.{IsAnswered, Tells}
 use Rattle.serving.specs.Lives.{IsNext, next_state, next_text, plan_of, state_of}
-use Rattle.serving.specs.Stored.{GoesOn, HasLines, Holds, IsLogging, LeavesState, MayLog, ReopensToEither, stored_state, told_by}
+use Rattle.serving.specs.Stored.{GoesOn, HasLines, Holds, IsLogging, LeavesState, MayLog, ReopensBy, ReopensOnWay, ReopensToEither, stored_state, told_by}
 use Rattle.serving.specs.declared.batches.Delivery.{Delivery}
 use Rattle.serving.specs.declared.lives.Live.{Live}
-use Rattle.serving.proofs.Storing.{held_leaves}
+use Rattle.serving.proofs.Storing.{by_state, held_leaves, way_states}
 use Rattle.slot_images.specs.Images.{Checkpoint}
 use Rattle.run_commands.specs.Bases.{IsBegun, state_in, store_in}
 use Rattle.run_commands.specs.Keeps.{IsOpen, Keeps, held_of}
@@ -124,6 +125,20 @@ module _ (place : Place) (work : Work) (live : Live) (begun : IsBegun place.head
       subst (λ (p : Plan). Holds disk p (stored_state live) live.store c later) (sym begun.plan)
       (subst (λ (s : State). Holds disk (plan_in place.head) s live.store c later) (sym held_is)
       (subst (λ (k : Option Kept). Holds disk (plan_in place.head) Held k c later) (sym begun.store) h))
+
+  -- what is left of it, as states
+  module _ (due : Bool) (c : Checkpoint) (later more : List Batch) where
+    pub as_either : (a b : History) → LeavesAll a b (ReopensOnWay due c later more (plan_of live) (stored_state live) (next_state live Calls))
+        → LeavesAll a b (ReopensToEither (plan_of live) (stored_state live) (next_state live Calls))
+    as_either a b all =
+        leaves_more a b (ReopensOnWay due c later more (plan_of live) (stored_state live) (next_state live Calls))
+        (ReopensToEither (plan_of live) (stored_state live) (next_state live Calls)) all
+        (way_states due c later more (plan_of live) (stored_state live) (next_state live Calls))
+
+    pub as_after : (answered : Type 0) (b : History)
+        → (answered → (images : ℕ → List ℕ) → MayLeave b b.now images → ReopensBy due c more (plan_of live) (next_state live Calls) images)
+        → answered → LeavesState b (plan_of live) (next_state live Calls)
+    as_after answered b given told images left = by_state due c more (plan_of live) (next_state live Calls) images (given told images left)
 
   either_is : (a b : History) → LeavesAll a b (ReopensToEither (plan_of live) (stored_state live) (next_state live Calls))
       → LeavesAll a b (ReopensToEither (plan_in place.head) Held (behind_batch Ran).state)

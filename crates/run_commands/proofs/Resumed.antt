@@ -1,12 +1,12 @@
 -- A script over a store that was opened: what it tells first, and all that follows.
-use Rattle.std.proofs.Common.{◌≡◌, ◌≢◌, ◌⊎◌, inl, inr, ◌∙◌, sym, ap, subst, refl, ℕ, Bool, List, [], ◌∷◌, Option, Some, None, IfSome, arith}
+use Rattle.std.proofs.Common.{◌≡◌, ◌≢◌, ◌⊎◌, inl, inr, ◌∙◌, sym, ap, subst, refl, ℕ, Bool, true, false, List, [], ◌∷◌, Option, Some, None, IfSome, arith}
 use Rattle.std.proofs.KnownBytes.{Appends-nil, Appends-trans}
 use Rattle.std.proofs.Math.Nat.{le_refl}
 use Rattle.std.specs.Prelude.{Result, Ok, Err}
 use Rattle.std.specs.Io.KnownBytes.{Appends}
 use Rattle.answer_text.specs.Notices.{at_text}
 use Rattle.aria_base.specs.Streams.{AppendsFront}
-use Rattle.aria_store.specs.Reopens.{Reopened, NoStore, Damaged, Found}
+use Rattle.aria_store.specs.Reopens.{Reopened, Reopens, NoStore, Damaged, Found}
 use Rattle.batch_core.specs.Steps.{State}
 use Rattle.command_words.specs.declared.settings.Run.{Run}
 use Rattle.disk_model.proofs.Spans.{leaves_more, leaves_then}
@@ -19,10 +19,12 @@ use Rattle.script_course.specs.Served.{Completes, Finishes, FinishesCut, IsSoFar
 use Rattle.script_course.specs.declared.stops.Stop.{Stop}
 use Rattle.script_course.specs.declared.stops.Stop.TheVariants as stop
 use Rattle.serving.specs.Lives.{plan_of, state_of}
-use Rattle.serving.specs.Stored.{Holds, IsLogging, LeavesState, state_behind, stored_state}
+use Rattle.serving.proofs.Storing.{by_state}
+use Rattle.serving.specs.Stored.{IsLogging, LeavesState, crowded, state_behind, stored_state}
 use Rattle.serving.specs.declared.lives.Live.{Live}
 use Rattle.slot_images.specs.Images.{Checkpoint}
-use Rattle.store_openings.specs.Openings.{IsOpenedAs, IsRefusalOf, ReopensToOpened}
+use Rattle.store_openings.specs.Openings.{IsOpenedAs, IsRefusalOf, ReopensToOpened, opened, opened_at}
+use Rattle.store_openings.specs.Saved.{HoldsSaved, Saved, is_full, laid, laid_where, saved_in}
 use Rattle.store_openings.specs.declared.refusals.NotOpened.{NotOpened}
 use Rattle.store_openings.specs.declared.refusals.NotOpened.TheVariants as refusal
 use Rattle.run_commands.specs.Endings.{HoldsLive}
@@ -30,11 +32,13 @@ use Rattle.run_commands.specs.Keeps.{IsOpen, Keeps, LeavesLaid, ReopensAsGiven, 
 use Rattle.run_commands.specs.Onces.{Doing, Running, on_end, on_line}
 use Rattle.run_commands.specs.Outs.{is_each, no_line, text_turns}
 use Rattle.run_commands.specs.Passes.{At, PassesTurns, held_behind, held_then, on_turn}
-use Rattle.run_commands.specs.Resumes.{CompletesOver, HoldsOver, LeavesOver, Outlives, PassesOver, RefusesStore, damaged_out, none_out, out_from, over, resumed, running_over, start_over, told_from, turns_over}
-use Rattle.run_commands.specs.Turns.{HoldsScript}
-use Rattle.run_commands.proofs.Endings.{held_still, holds_leave}
+use Rattle.run_commands.specs.Resumes.{CompletesOver, HoldsOver, IsLeftOver, LeavesJust, LeavesOver, StandsOver, Outlives, PassesOver, RefusesStore, damaged_out, none_out, out_from, over, resumed, running_over, saved_first, start_over, told_from, turns_over}
+use Rattle.run_commands.specs.Saves.{IsLeft, ReadsAs, saved_behind}
+use Rattle.run_commands.specs.Turns.{HoldsScript, saved_over}
+use Rattle.run_commands.proofs.Endings.{held_still, holds_leave, laid_as, saved_still}
 use Rattle.run_commands.proofs.Kept.{keeps_cut, keeps_on, keeps_quiet}
 use Rattle.run_commands.proofs.Ran.{no_lines}
+use Rattle.run_commands.proofs.Turns.{left_both, left_still, onward_none}
 use Rattle.script_places.specs.Places.{plan_in}
 
 -- the script over a database
@@ -121,7 +125,7 @@ module _ (drain : Bool) (d : Doing) (left rest ga : Option (List ℕ)) where
 
 -- ---- what a stop leaves, behind the count
 
-module _ (drain : Bool) (first : ℕ) (live : Live) (a : History) (ga gm : Option (List ℕ)) (holds : HoldsLive first a live) where
+module _ (drain : Bool) (first : ℕ) (saved : Saved) (live : Live) (a : History) (ga gm : Option (List ℕ)) (holds : HoldsLive first saved a live) where
   abbrev D0 : Doing
   D0 = over live
 
@@ -129,7 +133,7 @@ module _ (drain : Bool) (first : ℕ) (live : Live) (a : History) (ga gm : Optio
   Held0 = stored_state live
 
   leaves_here : LeavesState a (plan_of live) Held0
-  leaves_here = holds_leave first live.checkpoint a (plan_of live) Held0 live.store holds
+  leaves_here = holds_leave first saved live.checkpoint a (plan_of live) Held0 live.store holds
 
   abbrev state_in_course : Course Doing → State
   state_in_course (Goes b d) = d.state
@@ -162,13 +166,35 @@ module _ (drain : Bool) (first : ℕ) (live : Live) (a : History) (ga gm : Optio
   keeps_over_cut (Some text) why serves = keeps_cut on_turn held_then (plan_of live) At (text_turns drain D0 text) D0 Held0 a a ga gm
       (at_keeps (Err why) serves)
 
+  over_left : (c : History) (text : List ℕ) → LeavesAll a c (IsLeft live.checkpoint (text_turns drain D0 text) D0 saved)
+      → LeavesAll a c (IsLeft live.checkpoint (turns_over drain D0 text) D0 saved)
+  over_left c text h =
+      left_both live.checkpoint (At ∷ []) (text_turns drain D0 text) D0 D0 saved (at_text D0.state.batches) (onward_none on_turn (on_turn D0 At)) a a c
+      (left_still live.checkpoint first (At ∷ []) D0 saved a (plan_of live) Held0 live.store holds)
+      (subst (λ (s : Saved). LeavesAll a c (IsLeft live.checkpoint (text_turns drain D0 text) D0 s)) (sym (saved_still live.checkpoint saved D0 D0 refl)) h)
+
+  pub left_over : (left : Option (List ℕ)) (c : History)
+      → IfSome left (λ text. LeavesAll a c (IsLeft live.checkpoint (text_turns drain D0 text) D0 saved))
+      → IfSome left (λ text. LeavesAll a c (IsLeft live.checkpoint (turns_over drain D0 text) D0 saved))
+  left_over None c h = tt
+  left_over (Some text) c h = over_left c text h
+
+  pub left_over_none : (left : Option (List ℕ)) → IfSome left (λ text. LeavesAll a a (IsLeft live.checkpoint (turns_over drain D0 text) D0 saved))
+  left_over_none None = tt
+  left_over_none (Some text) = left_still live.checkpoint first (turns_over drain D0 text) D0 saved a (plan_of live) Held0 live.store holds
+
   pub laid_over : (left : Option (List ℕ)) (c : History) → IfSome left
-      (λ text. LeavesLaid first live.checkpoint c (plan_of live) (held_behind (text_turns drain D0 text) D0 Held0))
-      → IfSome left (λ text. LeavesLaid first live.checkpoint c (plan_of live) (held_behind (turns_over drain D0 text) D0 Held0))
+      (λ text. LeavesLaid first (saved_behind live.checkpoint (text_turns drain D0 text) D0 saved) live.checkpoint c (plan_of live)
+      (held_behind (text_turns drain D0 text) D0 Held0))
+      → IfSome left (λ text. LeavesLaid first (saved_behind live.checkpoint (turns_over drain D0 text) D0 saved) live.checkpoint c (plan_of live)
+      (held_behind (turns_over drain D0 text) D0 Held0))
   laid_over None c h = tt
   laid_over (Some text) c h =
-      subst (λ (s : State). LeavesLaid first live.checkpoint c (plan_of live) (held_behind (text_turns drain D0 text) D0 s))
-      (sym (held_still Held0 D0 D0 refl)) h
+      let rest = text_turns drain D0 text in
+      laid_as first live.checkpoint c (plan_of live) (saved_behind live.checkpoint rest D0 saved) (saved_behind live.checkpoint (At ∷ rest) D0 saved)
+      (held_behind rest D0 Held0) (held_behind (At ∷ rest) D0 Held0)
+      (ap (λ (x : Saved). saved_behind live.checkpoint rest D0 x) (sym (saved_still live.checkpoint saved D0 D0 refl)))
+      (ap (λ (s : State). held_behind rest D0 s) (sym (held_still Held0 D0 D0 refl))) h
 
 -- ---- by what was opened
 
@@ -186,25 +212,23 @@ module _ (settings : Run) (live : Live) (each : live.each ≡ is_each settings.l
   completes_opened (Found c later) is h =
       subst (λ (d : Doing). Completes (told_from d) (out_from settings.drain d) left rest ga gb result) (start_is settings live c later each is) h
 
-  pub laid_opened : (found : Reopened) (disk : History) → IsOpenedAs found live → live.checkpoint ≡ settings.checkpoint → stored_state live ≡ state_of live
-      → IfSome left (λ text. LeavesLaid (state_of live).batches live.checkpoint disk (plan_of live)
+  pub laid_opened : (images : ℕ → List ℕ) (c : Checkpoint) (later : List Batch) (disk : History) → IsOpenedAs (Found c later) live
+      → live.checkpoint ≡ settings.checkpoint → stored_state live ≡ state_of live
+      → IfSome left (λ text. LeavesLaid (state_of live).batches
+      (saved_behind live.checkpoint (turns_over settings.drain (over live) text) (over live) (saved_first images c later)) live.checkpoint disk (plan_of live)
       (held_behind (turns_over settings.drain (over live) text) (over live) (stored_state live)))
-      → IfSome left (λ text. HoldsOver settings found text disk)
-  laid_opened NoStore disk is checkpoint same h = absurd is
-  laid_opened (Damaged file at) disk is checkpoint same h = absurd is
-  laid_opened (Found c later) disk is checkpoint same h =
+      → IfSome left (λ text. HoldsOver settings images (Found c later) text disk)
+  laid_opened images c later disk is checkpoint same h =
       let d = start_is settings live c later each is in
       let held : stored_state live ≡ (over live).state = same in
-      let own = subst (λ (s : State). IfSome left (λ text. LeavesLaid (state_of live).batches live.checkpoint disk (plan_of live)
-      (held_behind (turns_over settings.drain (over live) text) (over live) s))) held h in
-      let by = subst (λ (e : Doing). IfSome left (λ text. LeavesLaid (state_of live).batches live.checkpoint disk (plan_of live)
-      (held_behind (turns_over settings.drain e text) e e.state))) d own in
-      let under = subst (λ (p : Plan). IfSome left (λ text. LeavesLaid (state_of live).batches live.checkpoint disk p
-      (held_behind (turns_over settings.drain (start_over settings c later) text) (start_over settings c later) (state_behind c later)))) is.0 by in
-      let from = subst (λ (s : State). IfSome left (λ text. LeavesLaid s.batches live.checkpoint disk c.plan
-      (held_behind (turns_over settings.drain (start_over settings c later) text) (start_over settings c later) (state_behind c later)))) is.1 under in
-      subst (λ (n : ℕ). IfSome left (λ text. LeavesLaid (state_behind c later).batches n disk c.plan
-      (held_behind (turns_over settings.drain (start_over settings c later) text) (start_over settings c later) (state_behind c later)))) checkpoint from
+      let AsSo : ℕ → ℕ → Plan → Doing → State → Type 0 = λ first k plan e s. IfSome left (λ text. LeavesLaid first
+      (saved_behind k (turns_over settings.drain e text) e (saved_first images c later)) k disk plan (held_behind (turns_over settings.drain e text) e s)) in
+      let own = subst (λ (s : State). AsSo (state_of live).batches live.checkpoint (plan_of live) (over live) s) held h in
+      let by = subst (λ (e : Doing). AsSo (state_of live).batches live.checkpoint (plan_of live) e e.state) d own in
+      let start = start_over settings c later in
+      let under = subst (λ (p : Plan). AsSo (state_of live).batches live.checkpoint p start (state_behind c later)) is.0 by in
+      let from = subst (λ (s : State). AsSo s.batches live.checkpoint c.plan start (state_behind c later)) is.1 under in
+      subst (λ (n : ℕ). AsSo (state_behind c later).batches n c.plan start (state_behind c later)) checkpoint from
 
 -- before the count, what was opened is held
 begun : (drain : Bool) (d : Doing) (text : List ℕ) → PassesOver drain d text d.state []
@@ -218,14 +242,25 @@ module _ (settings : Run) (c : Checkpoint) (later : List Batch) (text : List ℕ
       → MayLeave old old.now images ⊎ ReopensToPassed Passed c.plan images
   or_opened old images (inl h) = inl h
   or_opened old images (inr h) =
-      inr (record { state = state_behind c later; given = []; passed = begun settings.drain (start_over settings c later) text; reopens = h })
+      inr (record {
+        state = state_behind c later;
+        given = [];
+        passed = begun settings.drain (start_over settings c later) text;
+        reopens = by_state true c later c.plan (state_behind c later) images h;
+      })
 
   exit_opened : (old : History) (ga gb : Option (List ℕ)) (images : ℕ → List ℕ) → Appends ga gb []
       → MayLeave old old.now images ⊎ ReopensToOpened (Found c later) images
       → ReopensAsGiven Passed c.plan ga gb images ⊎ (MayLeave old old.now images × Appends ga gb [])
   exit_opened old ga gb images none (inl h) = inr (h, none)
   exit_opened old ga gb images none (inr h) =
-      inl (record { state = state_behind c later; given = []; passed = begun settings.drain (start_over settings c later) text; appends = none; reopens = h })
+      inl (record {
+        state = state_behind c later;
+        given = [];
+        passed = begun settings.drain (start_over settings c later) text;
+        appends = none;
+        reopens = by_state true c later c.plan (state_behind c later) images h;
+      })
 
   -- it was opened, and the script ran
   outlives_ran : (old mid new : History) (ga gb : Option (List ℕ))
@@ -255,7 +290,7 @@ only_left old images (inl h) = h
 only_left old images (inr h) = absurd h
 
 module _ (settings : Run) (old : History) where
-  abbrev Opening : Reopened → History → Type 0
+  abbrev pub Opening : Reopened → History → Type 0
   Opening found new = LeavesAll old new (λ images. MayLeave old old.now images ⊎ ReopensToOpened found images)
 
   pub leaves_opened : (live : Live) (each : live.each ≡ is_each settings.listing) (found : Reopened) (left : Option (List ℕ)) (mid new : History)
@@ -335,16 +370,114 @@ module _ (settings : Run) (left ga gb : Option (List ℕ)) (result : Result ℕ 
 -- ---- the first state
 
 -- before the script every batch that the option divides is behind it
-pub holds_first : (disk : History) (live : Live) (c : Checkpoint) (later : List Batch) → stored_state live ≡ state_of live
-    → Holds disk (plan_of live) (stored_state live) live.store c later
-    → HoldsLive (state_of live).batches disk live
-holds_first disk live c later same h = record {
-  c = c;
-  later = later;
-  holds = h;
+pub holds_first : (disk : History) (live : Live) (saved : Saved) → stored_state live ≡ state_of live
+    → HoldsSaved disk (plan_of live) (stored_state live) live.store saved → HoldsLive (state_of live).batches saved disk live
+holds_first disk live saved same h = record {
+  stands = h;
   laid = λ number some above within divides. let n : (stored_state live).batches ≡ (state_of live).batches = ap (λ (s : State). s.batches) same in
       absurd (omega (arith, above, within, n));
 }
+
+-- ---- what a stop leaves, just so
+
+module _ (settings : Run) (files : ℕ → List ℕ) (c : Checkpoint) (later : List Batch) (text : List ℕ) (old : History) where
+  abbrev Left : (ℕ → List ℕ) → Type 0
+  Left images = MayLeave old old.now images ⊎ Reopens images (Found c later) ⊎ IsLeftOver settings files c later text images
+
+  -- of an opening
+  opening_by : (full : Bool) → full ≡ is_full (saved_in files c later) → (mid : History)
+      → (is_full (saved_in files c later) ≡ false → LeavesAll old mid (MayLeave old old.now))
+      → LeavesAll old mid (λ images. MayLeave old old.now images ⊎ ReopensToOpened (Found c later) images) → LeavesAll old mid Left
+  opening_by false is mid fresh all = leaves_more old mid (MayLeave old old.now) Left (fresh (sym is)) (λ images left. inl left)
+  opening_by true is mid fresh all =
+      leaves_more old mid (λ images. MayLeave old old.now images ⊎ ReopensToOpened (Found c later) images) Left all one
+    where
+      first_is : saved_first files c later ≡ laid (saved_in files c later) (state_behind c later)
+      first_is = ap (λ (b : Bool). laid_where b (saved_in files c later) (state_behind c later)) (sym is)
+
+      one : (images : ℕ → List ℕ) → MayLeave old old.now images ⊎ ReopensToOpened (Found c later) images → Left images
+      one images (inl h) = inl h
+      one images (inr (inl h)) = inr (inl h.reopens)
+      one images (inr (inr h)) = inr (inr (record {
+        front = [];
+        rest = turns_over settings.drain (start_over settings c later) text;
+        are = refl;
+        reads = inl (subst (λ (s : Saved). ReadsAs s.c s.later images) (sym first_is) (h.1.reopens, h.1.roomy));
+      }))
+
+  pub opening_left : (mid : History) → (is_full (saved_in files c later) ≡ false → LeavesAll old mid (MayLeave old old.now))
+      → LeavesAll old mid (λ images. MayLeave old old.now images ⊎ ReopensToOpened (Found c later) images) → LeavesAll old mid Left
+  opening_left mid fresh all = opening_by (is_full (saved_in files c later)) refl mid fresh all
+
+  -- and of the script over it
+  pub just_ran : (mid new : History) (ga gb : Option (List ℕ)) → LeavesAll old mid Left → LeavesAll mid new (IsLeftOver settings files c later text)
+      → LeavesJust settings files c later text old new ga gb
+  just_ran mid new ga gb opened ran = record {
+    images = leaves_then old mid new Left opened (leaves_more mid new (IsLeftOver settings files c later text) Left ran (λ images h. inr (inr h)));
+    exit = λ images may. inl (ran.each new.now ran.later (le_refl new.now) images may);
+  }
+
+  pub just_none : (new : History) (ga gb : Option (List ℕ)) → Appends ga gb [] → LeavesAll old new Left
+      → LeavesJust settings files c later text old new ga gb
+  just_none new ga gb none opened = record { images = opened; exit = λ images may. inr none }
+
+module _ (settings : Run) (files : ℕ → List ℕ) (live : Live) (each : live.each ≡ is_each settings.listing) (left ga gb : Option (List ℕ))
+    (old mid new : History) where
+  -- it was opened
+  pub stands_opened : (c : Checkpoint) (later : List Batch) → IsOpenedAs (Found c later) live → live.checkpoint ≡ settings.checkpoint
+      → (is_full (saved_in files c later) ≡ false → LeavesAll old mid (MayLeave old old.now))
+      → LeavesAll old mid (λ images. MayLeave old old.now images ⊎ ReopensToOpened (Found c later) images)
+      → IfSome left (λ text. LeavesAll mid new (IsLeft live.checkpoint (turns_over settings.drain (over live) text) (over live) (saved_first files c later)))
+      → IfSome left (λ text. StandsOver settings files (Found c later) text old new ga gb)
+  stands_opened c later is checkpoint fresh opened h =
+      let d = start_is settings live c later each is in
+      let AsSo : ℕ → Doing → Type 0 = λ k e. IfSome left (λ text. LeavesAll mid new (IsLeft k (turns_over settings.drain e text) e (saved_first files c later))) in
+      let own = subst (λ (e : Doing). AsSo live.checkpoint e) d h in
+      all_some left (subst (λ (k : ℕ). AsSo k (start_over settings c later)) checkpoint own)
+      (λ text ran. just_ran settings files c later text old mid new ga gb (opening_left settings files c later text old mid fresh opened) ran)
+    where
+      all_some : {P Q : List ℕ → Type 0} (o : Option (List ℕ)) → IfSome o P → ((text : List ℕ) → P text → Q text) → IfSome o Q
+      all_some None h more = tt
+      all_some (Some text) h more = more text h
+
+-- it was not
+module _ (settings : Run) (files : ℕ → List ℕ) (ga gb : Option (List ℕ)) (old new : History) where
+  pub stands_refused : (found : Reopened) (left : Option (List ℕ))
+      → ((c : Checkpoint) (later : List Batch) → found ≡ Found c later → Appends ga gb [])
+      → ((c : Checkpoint) (later : List Batch) → found ≡ Found c later → is_full (saved_in files c later) ≡ false → LeavesAll old new (MayLeave old old.now))
+      → LeavesAll old new (λ images. MayLeave old old.now images ⊎ ReopensToOpened found images)
+      → IfSome left (λ text. StandsOver settings files found text old new ga gb)
+  stands_refused found None none fresh opened = tt
+  stands_refused NoStore (Some text) none fresh opened = tt
+  stands_refused (Damaged file at) (Some text) none fresh opened = tt
+  stands_refused (Found c later) (Some text) none fresh opened =
+      just_none settings files c later text old new ga gb (none c later refl)
+      (opening_left settings files c later text old new (fresh c later refl) opened)
+
+-- ---- by what the files read as
+
+-- what they are opened as is what they read as, where it is a checkpoint
+pub opened_found : (images : ℕ → List ℕ) (found : Reopened) (c : Checkpoint) (later : List Batch) → opened images found ≡ Found c later → found ≡ Found c later
+opened_found images NoStore c later e = absurd (cc e)
+opened_found images (Damaged file at) c later e = absurd (cc e)
+opened_found images (Found k more) c later e = by_room (crowded k more) e
+  where
+    by_room : (place : Option ℕ) → opened_at images k more place ≡ Found c later → Found k more ≡ Found c later
+    by_room None e = e
+    by_room (Some place) e = absurd (cc e)
+
+-- where they read as a checkpoint with batches, what holds of them holds of what they are opened as
+module _ (images : ℕ → List ℕ) (live : Live) (P : Reopened → Type 0)
+    (each : (c : Checkpoint) (later : List Batch) → Reopens images (Found c later) → IsOpenedAs (Found c later) live → P (Found c later)) where
+  by_place : (c : Checkpoint) (later : List Batch) (place : Option ℕ) → Reopens images (Found c later) → IsOpenedAs (opened_at images c later place) live
+      → P (opened_at images c later place)
+  by_place c later None reopens is = each c later reopens is
+  by_place c later (Some place) reopens is = absurd is
+
+  pub by_found : (found : Reopened) → Reopens images found → IsOpenedAs (opened images found) live → P (opened images found)
+  by_found NoStore reopens is = absurd is
+  by_found (Damaged file at) reopens is = absurd is
+  by_found (Found c later) reopens is = by_place c later (crowded c later) reopens is
 
 -- ---- what the steps of `run` come to
 
@@ -397,37 +530,48 @@ pub completes_cut_at : (drain : Bool) (live : Live) (script : Running) (left res
     → Completes (told_from (over live)) (out_from drain (over live)) left rest ga gm (Err why)
 completes_cut_at drain live script left rest ga gm why d s c serves = cut_is_none drain (over live) left rest ga gm why (at_cut live script ga gm why d serves)
 
-module _ (drain : Bool) (first : ℕ) (live : Live) (a : History) where
-  pub keeps_memory : (ga : Option (List ℕ)) → HoldsLive first a live → (left : Option (List ℕ))
+module _ (drain : Bool) (first : ℕ) (saved : Saved) (live : Live) (a : History) where
+  pub keeps_memory : (ga : Option (List ℕ)) → HoldsLive first saved a live → (left : Option (List ℕ))
       → IfSome left (λ text. Keeps (PassesTurns (turns_over drain (over live) text) (over live) (stored_state live)) (plan_of live) a a ga ga)
-  keeps_memory ga holds left = keeps_over_cut drain first live a ga ga holds left stop.NoMemory (front_none ga (at_text (over live).state.batches))
+  keeps_memory ga holds left = keeps_over_cut drain first saved live a ga ga holds left stop.NoMemory (front_none ga (at_text (over live).state.batches))
 
-  module _ (ga gm : Option (List ℕ)) (holds : HoldsLive first a live) (script : Running) where
+  module _ (ga gm : Option (List ℕ)) (holds : HoldsLive first saved a live) (script : Running) where
     pub keeps_cut_at : (left : Option (List ℕ)) (why : Stop) → script.doing ≡ over live → script.store ≡ live.store → script.checkpoint ≡ live.checkpoint
         → Serves (Goes (at_text script.doing.state.batches) script) ga gm (Err why)
         → IfSome left (λ text. Keeps (PassesTurns (turns_over drain (over live) text) (over live) (stored_state live)) (plan_of live) a a ga gm)
-    keeps_cut_at left why d s c serves = keeps_over_cut drain first live a ga gm holds left why (at_cut live script ga gm why d serves)
+    keeps_cut_at left why d s c serves = keeps_over_cut drain first saved live a ga gm holds left why (at_cut live script ga gm why d serves)
 
     module _ (told_on : Running) (left : Option (List ℕ)) (z : History) where
       abbrev Behind : Running → Option (List ℕ) → Type 0
-      Behind x gc = HoldsScript first a x
+      Behind x gc = HoldsScript first saved a x
           → IfSome left (λ text. Keeps (PassesTurns (text_turns drain x.doing text) x.doing (held_of x)) (plan_in x.doing.place.head) a z gm gc)
 
+      abbrev LeftBehind : Running → Type 0
+      LeftBehind x = HoldsScript first saved a x → IfSome left (λ text. LeavesAll a z (IsLeft x.checkpoint (text_turns drain x.doing text) x.doing saved))
+
+      pub left_at : script.doing ≡ over live → script.store ≡ live.store → script.checkpoint ≡ live.checkpoint
+          → Serves (Goes (at_text script.doing.state.batches) script) ga gm (Ok told_on) → LeftBehind told_on
+          → IfSome left (λ text. LeavesAll a z (IsLeft live.checkpoint (turns_over drain (over live) text) (over live) saved))
+      left_at d s c serves h =
+          let is = script_told live script told_on ga gm d s c serves in
+          left_over drain first saved live a ga gm holds left z (subst (λ (x : Running). LeftBehind x) is h holds)
+
       abbrev LaidBehind : Running → Type 0
-      LaidBehind x = HoldsScript first a x
-          → IfSome left (λ text. LeavesLaid first x.checkpoint z (plan_in x.doing.place.head) (held_behind (text_turns drain x.doing text) x.doing (held_of x)))
+      LaidBehind x = HoldsScript first saved a x
+          → IfSome left (λ text. LeavesLaid first (saved_over (text_turns drain x.doing text) x saved) x.checkpoint z (plan_in x.doing.place.head)
+          (held_behind (text_turns drain x.doing text) x.doing (held_of x)))
 
       pub keeps_at : (gc : Option (List ℕ)) → script.doing ≡ over live → script.store ≡ live.store → script.checkpoint ≡ live.checkpoint
           → Serves (Goes (at_text script.doing.state.batches) script) ga gm (Ok told_on) → Behind told_on gc
           → IfSome left (λ text. Keeps (PassesTurns (turns_over drain (over live) text) (over live) (stored_state live)) (plan_of live) a z ga gc)
       keeps_at gc d s c serves h =
           let is = script_told live script told_on ga gm d s c serves in
-          keeps_over drain first live a ga gm holds left z gc (at_given live script told_on ga gm d serves) (subst (λ (x : Running). Behind x gc) is h holds)
+          keeps_over drain first saved live a ga gm holds left z gc (at_given live script told_on ga gm d serves) (subst (λ (x : Running). Behind x gc) is h holds)
 
       pub laid_at : script.doing ≡ over live → script.store ≡ live.store → script.checkpoint ≡ live.checkpoint
           → Serves (Goes (at_text script.doing.state.batches) script) ga gm (Ok told_on) → LaidBehind told_on
-          → IfSome left (λ text. LeavesLaid first live.checkpoint z (plan_of live)
-          (held_behind (turns_over drain (over live) text) (over live) (stored_state live)))
+          → IfSome left (λ text. LeavesLaid first (saved_behind live.checkpoint (turns_over drain (over live) text) (over live) saved) live.checkpoint z
+          (plan_of live) (held_behind (turns_over drain (over live) text) (over live) (stored_state live)))
       laid_at d s c serves h =
           let is = script_told live script told_on ga gm d s c serves in
-          laid_over drain first live a ga gm holds left z (subst (λ (x : Running). LaidBehind x) is h holds)
+          laid_over drain first saved live a ga gm holds left z (subst (λ (x : Running). LaidBehind x) is h holds)

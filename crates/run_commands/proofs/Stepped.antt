@@ -63,7 +63,7 @@ quiet_count d (deed.Call call) q bytes next e = sym (ap count_in e)
 quiet_count d (deed.Set rule percent) q bytes next e = sym (ap count_in e)
 quiet_count d (deed.Keep number) q bytes next e = sym (ap count_in e)
 
-pub when_true : (b : Bool) (x y : State) → b ≡ true → (if b then x else y) ≡ x
+pub when_true : {X : Type 0} (b : Bool) (x y : X) → b ≡ true → (if b then x else y) ≡ x
 when_true true x y e = refl
 when_true false x y e = absurd cc
 

@@ -3,7 +3,8 @@ use Rattle.std.proofs.Common.{◌≡◌, ◌⊎◌, inl, inr, ◌∙◌, sym, ap
 use Rattle.std.specs.Prelude.{Result, Ok, Err, IfSome}
 use Rattle.std.specs.Io.KnownBytes.{Appends}
 use Rattle.batch_core.specs.Steps.{State}
-use Rattle.disk_model.specs.Histories.{History}
+use Rattle.disk_model.specs.Histories.{History, LeavesAll}
+use Rattle.disk_model.proofs.Spans.{leaves_more}
 use Rattle.proc_lang.specs.Catalogs.{Plan}
 use Rattle.script_course.specs.Courses.{Course, Goes, Stops, behind, told_whole, with_last}
 use Rattle.script_course.specs.Served.{IsGoing, IsStopped, Reaches}
@@ -11,13 +12,16 @@ use Rattle.script_course.specs.declared.statuses.TheConstants.{DONE}
 use Rattle.script_course.specs.declared.stops.Stop.{Stop}
 use Rattle.script_course.specs.declared.stops.Stop.TheVariants as stop
 use Rattle.script_text.specs.Lines.{last_line, scan}
+use Rattle.store_openings.specs.Saved.{Saved}
 use Rattle.run_commands.specs.Keeps.{Keeps, LeavesLaid, held_of}
 use Rattle.run_commands.specs.Onces.{Doing, Running, on_line}
 use Rattle.run_commands.specs.Outs.{no_line, text_turns}
-use Rattle.run_commands.specs.Passes.{PassesTurns, Turn, ending_behind, ending_of, held_behind, held_then, last, on_turn, turns, turns_whole}
-use Rattle.run_commands.specs.Turns.{HoldsScript, KeepsTurns}
-use Rattle.run_commands.proofs.Overs.{keeps_append, keeps_front, onward, over}
-use Rattle.run_commands.proofs.Turns.{held_goes, held_stops, onward_none, over_append, scan_over}
+use Rattle.run_commands.specs.Passes.{PassesTurns, Turn, ending_behind, ending_of, held_behind, held_then, last, on_turn, onward, over, turns, turns_whole}
+use Rattle.run_commands.specs.Saves.{IsLeft, saved_behind, saved_then}
+use Rattle.run_commands.specs.Turns.{HoldsScript, KeepsTurns, saved_over}
+use Rattle.run_commands.proofs.Endings.{laid_as}
+use Rattle.run_commands.proofs.Overs.{keeps_append, keeps_front}
+use Rattle.run_commands.proofs.Turns.{held_goes, held_stops, left_both, left_more, onward_none, over_append, scan_over}
 use Rattle.script_places.specs.Places.{plan_in}
 
 -- ---- a text as turns
@@ -44,7 +48,7 @@ was_stopped (Stops bytes) ga gb h = (bytes, refl)
 
 -- ---- over a store
 
-module _ (drain : Bool) (first : ℕ) (start : Running) (a b : History) (ga gb : Option (List ℕ)) where
+module _ (drain : Bool) (first : ℕ) (saved : Saved) (start : Running) (a b : History) (ga gb : Option (List ℕ)) where
   abbrev Plan0 : Plan
   Plan0 = plan_in start.doing.place.head
 
@@ -54,9 +58,13 @@ module _ (drain : Bool) (first : ℕ) (start : Running) (a b : History) (ga gb :
   abbrev Told : List ℕ → Course Doing
   Told text = told_whole on_line no_line start.doing text
 
+  -- what stands behind the text
+  abbrev Here : List ℕ → Saved
+  Here text = saved_over (Steps text) start saved
+
   -- the text was read to its end
   module _ (next : Running) (c : History) (gc : Option (List ℕ)) (text : List ℕ) (reaches : Reaches (Told text) ga gb (Ok next.doing))
-      (k : KeepsTurns first (Steps text) start a b ga gb (Ok next)) where
+      (k : KeepsTurns first saved (Steps text) start a b ga gb (Ok next)) where
     went_on : (bytes : List ℕ) × (Told text ≡ Goes bytes next.doing) × Appends ga gb bytes
     went_on = went (Told text) next.doing ga gb reaches
 
@@ -66,7 +74,7 @@ module _ (drain : Bool) (first : ℕ) (start : Running) (a b : History) (ga gb :
     over_is : over on_turn (Steps text) start.doing ≡ Goes went_on.0 next.doing
     over_is = sym (whole_over start.doing text) ∙ went_on.1
 
-    text_keeps : (HoldsScript first b next → Keeps (PassesTurns (ending_of drain next.doing) next.doing (held_of next))
+    text_keeps : (HoldsScript first (Here text) b next → Keeps (PassesTurns (ending_of drain next.doing) next.doing (held_of next))
         (plan_in next.doing.place.head) b c gb gc)
         → Keeps (PassesTurns (text_turns drain start.doing text) start.doing (held_of start)) Plan0 a c ga gc
     text_keeps ends =
@@ -77,56 +85,96 @@ module _ (drain : Bool) (first : ℕ) (start : Running) (a b : History) (ga gb :
         (keeps_append on_turn held_then Plan0 (Steps text) (ending_of drain next.doing) start.doing (held_of start) next.doing went_on.0 a b c ga gb gc over_is
         went_on.2 k.keeps behind_it)
 
-    text_laid : (HoldsScript first b next → LeavesLaid first next.checkpoint c (plan_in next.doing.place.head)
-        (held_behind (ending_of drain next.doing) next.doing (held_of next)))
-        → LeavesLaid first start.checkpoint c Plan0 (held_behind (text_turns drain start.doing text) start.doing (held_of start))
+    saved_is : saved_over (text_turns drain start.doing text) start saved ≡ saved_over (ending_of drain next.doing) next (Here text)
+    saved_is =
+        ap (λ (t : List Turn). saved_over t start saved) turns_are
+        ∙ held_goes on_turn (saved_then start.checkpoint) (Steps text) (ending_of drain next.doing) start.doing saved went_on.0 next.doing over_is
+        ∙ ap (λ (n : ℕ). saved_behind n (ending_of drain next.doing) next.doing (Here text)) (sym k.stays.checkpoint)
+
+    held_is : held_behind (text_turns drain start.doing text) start.doing (held_of start) ≡ held_behind (ending_of drain next.doing) next.doing (held_of next)
+    held_is =
+        ap (λ (t : List Turn). held_behind t start.doing (held_of start)) turns_are
+        ∙ held_goes on_turn held_then (Steps text) (ending_of drain next.doing) start.doing (held_of start) went_on.0 next.doing over_is
+        ∙ ap (λ (s : State). held_behind (ending_of drain next.doing) next.doing s) (sym k.held)
+
+    text_laid : (HoldsScript first (Here text) b next → LeavesLaid first (saved_over (ending_of drain next.doing) next (Here text)) next.checkpoint c
+        (plan_in next.doing.place.head) (held_behind (ending_of drain next.doing) next.doing (held_of next)))
+        → LeavesLaid first (saved_over (text_turns drain start.doing text) start saved) start.checkpoint c Plan0
+        (held_behind (text_turns drain start.doing text) start.doing (held_of start))
     text_laid ends =
-        let told_so = ends k.stays.holds in
-        let under = subst (λ (p : Plan). LeavesLaid first next.checkpoint c p (held_behind (ending_of drain next.doing) next.doing (held_of next)))
-        k.stays.plan told_so in
-        let each_so = subst (λ (n : ℕ). LeavesLaid first n c Plan0 (held_behind (ending_of drain next.doing) next.doing (held_of next))) k.stays.checkpoint
-        under in
-        let behind_it = subst (λ (s : State). LeavesLaid first start.checkpoint c Plan0 (held_behind (ending_of drain next.doing) next.doing s)) k.held
-        each_so in
-        let same = held_goes on_turn held_then (Steps text) (ending_of drain next.doing) start.doing (held_of start) went_on.0 next.doing over_is in
-        subst (λ (t : List Turn). LeavesLaid first start.checkpoint c Plan0 (held_behind t start.doing (held_of start))) (sym turns_are)
-        (subst (λ (s : State). LeavesLaid first start.checkpoint c Plan0 s) (sym same) behind_it)
+        let after = saved_over (ending_of drain next.doing) next (Here text) in
+        let held = held_behind (ending_of drain next.doing) next.doing (held_of next) in
+        laid_as first start.checkpoint c Plan0 after (saved_over (text_turns drain start.doing text) start saved) held
+        (held_behind (text_turns drain start.doing text) start.doing (held_of start)) (sym saved_is) (sym held_is)
+        (subst (λ (n : ℕ). LeavesLaid first after n c Plan0 held) k.stays.checkpoint
+        (subst (λ (p : Plan). LeavesLaid first after next.checkpoint c p held) k.stays.plan (ends k.stays.holds)))
+
+    text_left : (HoldsScript first (Here text) b next → LeavesAll b c (IsLeft next.checkpoint (ending_of drain next.doing) next.doing (Here text)))
+        → LeavesAll a c (IsLeft start.checkpoint (text_turns drain start.doing text) start.doing saved)
+    text_left ends =
+        subst (λ (t : List Turn). LeavesAll a c (IsLeft start.checkpoint t start.doing saved)) (sym turns_are)
+        (left_both start.checkpoint (Steps text) (ending_of drain next.doing) start.doing next.doing saved went_on.0 over_is a b c k.left
+        (subst (λ (n : ℕ). LeavesAll b c (IsLeft n (ending_of drain next.doing) next.doing (Here text))) k.stays.checkpoint (ends k.stays.holds)))
+
+  pub left_on_end : (left : Option (List ℕ)) (next : Running) (c : History) (gc : Option (List ℕ))
+      → IfSome left (λ text. Reaches (Told text) ga gb (Ok next.doing))
+      → IfSome left (λ text. KeepsTurns first saved (Steps text) start a b ga gb (Ok next))
+      → ((here : Saved) → HoldsScript first here b next → LeavesAll b c (IsLeft next.checkpoint (ending_of drain next.doing) next.doing here))
+      → IfSome left (λ text. LeavesAll a c (IsLeft start.checkpoint (text_turns drain start.doing text) start.doing saved))
+  left_on_end None next c gc reaches k ends = tt
+  left_on_end (Some text) next c gc reaches k ends = text_left next c gc text reaches k (ends (Here text))
 
   pub keeps_on_end : (left : Option (List ℕ)) (next : Running) (c : History) (gc : Option (List ℕ))
       → IfSome left (λ text. Reaches (Told text) ga gb (Ok next.doing))
-      → IfSome left (λ text. KeepsTurns first (Steps text) start a b ga gb (Ok next))
-      → (HoldsScript first b next → Keeps (PassesTurns (ending_of drain next.doing) next.doing (held_of next)) (plan_in next.doing.place.head) b c gb gc)
+      → IfSome left (λ text. KeepsTurns first saved (Steps text) start a b ga gb (Ok next))
+      → ((here : Saved) → HoldsScript first here b next
+      → Keeps (PassesTurns (ending_of drain next.doing) next.doing (held_of next)) (plan_in next.doing.place.head) b c gb gc)
       → IfSome left (λ text. Keeps (PassesTurns (text_turns drain start.doing text) start.doing (held_of start)) Plan0 a c ga gc)
   keeps_on_end None next c gc reaches k ends = tt
-  keeps_on_end (Some text) next c gc reaches k ends = text_keeps next c gc text reaches k ends
+  keeps_on_end (Some text) next c gc reaches k ends = text_keeps next c gc text reaches k (ends (Here text))
 
   pub laid_on_end : (left : Option (List ℕ)) (next : Running) (c : History) (gc : Option (List ℕ))
       → IfSome left (λ text. Reaches (Told text) ga gb (Ok next.doing))
-      → IfSome left (λ text. KeepsTurns first (Steps text) start a b ga gb (Ok next))
-      → (HoldsScript first b next → LeavesLaid first next.checkpoint c (plan_in next.doing.place.head)
-      (held_behind (ending_of drain next.doing) next.doing (held_of next)))
-      → IfSome left (λ text. LeavesLaid first start.checkpoint c Plan0 (held_behind (text_turns drain start.doing text) start.doing (held_of start)))
+      → IfSome left (λ text. KeepsTurns first saved (Steps text) start a b ga gb (Ok next))
+      → ((here : Saved) → HoldsScript first here b next → LeavesLaid first (saved_over (ending_of drain next.doing) next here) next.checkpoint c
+      (plan_in next.doing.place.head) (held_behind (ending_of drain next.doing) next.doing (held_of next)))
+      → IfSome left (λ text. LeavesLaid first (saved_over (text_turns drain start.doing text) start saved) start.checkpoint c Plan0
+      (held_behind (text_turns drain start.doing text) start.doing (held_of start)))
   laid_on_end None next c gc reaches k ends = tt
-  laid_on_end (Some text) next c gc reaches k ends = text_laid next c gc text reaches k ends
+  laid_on_end (Some text) next c gc reaches k ends = text_laid next c gc text reaches k (ends (Here text))
 
   -- it was cut off
-  pub keeps_on_cut : (left : Option (List ℕ)) (why : Stop) → IfSome left (λ text. KeepsTurns first (Steps text) start a b ga gb (Err why))
+  pub keeps_on_cut : (left : Option (List ℕ)) (why : Stop) → IfSome left (λ text. KeepsTurns first saved (Steps text) start a b ga gb (Err why))
       → IfSome left (λ text. Keeps (PassesTurns (text_turns drain start.doing text) start.doing (held_of start)) Plan0 a b ga gb)
   keeps_on_cut None why k = tt
   keeps_on_cut (Some text) why k = keeps_front on_turn held_then Plan0 (Steps text) (ending_behind drain (Told text)) start.doing
       (held_of start) a b ga gb k.keeps
 
-  laid_cut : (why : Stop) (text : List ℕ) → why ≡ stop.Refused → Reaches (Told text) ga gb (Err why) → KeepsTurns first (Steps text) start a b ga gb (Err why)
-      → LeavesLaid first start.checkpoint b Plan0 (held_behind (text_turns drain start.doing text) start.doing (held_of start))
+  pub left_on_cut : (left : Option (List ℕ)) (why : Stop) → IfSome left (λ text. KeepsTurns first saved (Steps text) start a b ga gb (Err why))
+      → IfSome left (λ text. LeavesAll a b (IsLeft start.checkpoint (text_turns drain start.doing text) start.doing saved))
+  left_on_cut None why k = tt
+  left_on_cut (Some text) why k =
+      let rest = ending_behind drain (Told text) in
+      leaves_more a b (IsLeft start.checkpoint (Steps text) start.doing saved) (IsLeft start.checkpoint (Steps text ++ rest) start.doing saved) k.left
+      (left_more start.checkpoint (Steps text) rest start.doing saved)
+
+  laid_cut : (why : Stop) (text : List ℕ) → why ≡ stop.Refused → Reaches (Told text) ga gb (Err why)
+      → KeepsTurns first saved (Steps text) start a b ga gb (Err why)
+      → LeavesLaid first (saved_over (text_turns drain start.doing text) start saved) start.checkpoint b Plan0
+      (held_behind (text_turns drain start.doing text) start.doing (held_of start))
   laid_cut why text is reaches k =
+      let rest = ending_behind drain (Told text) in
       let stopped = was_stopped (Told text) ga gb (subst (λ (s : Stop). Reaches (Told text) ga gb (Err s)) is reaches) in
-      let same = held_stops on_turn held_then (Steps text) (ending_behind drain (Told text)) start.doing (held_of start) stopped.0
-      (sym (whole_over start.doing text) ∙ stopped.1) in
-      subst (λ (s : State). LeavesLaid first start.checkpoint b Plan0 s) (sym same) (k.refused (ap (λ (s : Stop). Err s) is))
+      let goes = sym (whole_over start.doing text) ∙ stopped.1 in
+      laid_as first start.checkpoint b Plan0 (Here text) (saved_over (text_turns drain start.doing text) start saved)
+      (held_behind (Steps text) start.doing (held_of start)) (held_behind (text_turns drain start.doing text) start.doing (held_of start))
+      (sym (held_stops on_turn (saved_then start.checkpoint) (Steps text) rest start.doing saved stopped.0 goes))
+      (sym (held_stops on_turn held_then (Steps text) rest start.doing (held_of start) stopped.0 goes)) (k.refused (ap (λ (s : Stop). Err s) is))
 
   pub laid_on_cut : (left : Option (List ℕ)) (why : Stop) → why ≡ stop.Refused → IfSome left (λ text. Reaches (Told text) ga gb (Err why))
-      → IfSome left (λ text. KeepsTurns first (Steps text) start a b ga gb (Err why))
-      → IfSome left (λ text. LeavesLaid first start.checkpoint b Plan0 (held_behind (text_turns drain start.doing text) start.doing (held_of start)))
+      → IfSome left (λ text. KeepsTurns first saved (Steps text) start a b ga gb (Err why))
+      → IfSome left (λ text. LeavesLaid first (saved_over (text_turns drain start.doing text) start saved) start.checkpoint b Plan0
+      (held_behind (text_turns drain start.doing text) start.doing (held_of start)))
   laid_on_cut None why is reaches k = tt
   laid_on_cut (Some text) why is reaches k = laid_cut why text is reaches k
 

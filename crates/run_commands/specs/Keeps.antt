@@ -7,13 +7,12 @@ use Rattle.aria_store.specs.Stands.{Kept}
 use Rattle.batch_core.specs.Steps.{State}
 use Rattle.disk_model.specs.Histories.{History, LeavesAll, MayLeave}
 use Rattle.image_text.specs.Exactly.{line_of_call}
-use Rattle.image_text.specs.Payloads.{Batch}
 use Rattle.proc_lang.specs.Catalogs.{Plan}
 use Rattle.script_places.specs.Places.{plan_in}
 use Rattle.script_places.specs.declared.deeds.Deed.{Deed}
 use Rattle.script_places.specs.declared.deeds.Deed.TheVariants as deed
-use Rattle.serving.specs.Stored.{GoesOn, HasLines, Holds, ReopensTo, crowded, state_behind, told_by}
-use Rattle.slot_images.specs.Images.{Checkpoint}
+use Rattle.serving.specs.Stored.{GoesOn, HasLines, ReopensTo, crowded, state_behind, told_by}
+use Rattle.store_openings.specs.Saved.{HoldsSaved, Saved}
 use Rattle.run_commands.specs.Onces.{Running}
 
 -- these four files are the text of a state that passes, whatever was given then
@@ -37,28 +36,24 @@ pub record Keeps (passes : State → List ℕ → Type 0) (plan : Plan) (old new
   pub images : LeavesAll old new (ReopensToPassed passes plan)
   pub exit : (images : ℕ → List ℕ) → MayLeave new new.now images → ReopensAsGiven passes plan given_old given_new images
 
--- Some checkpoint and batches behind it are this state, and each batch past the first so many whose number this option divides is in
--- the checkpoint.
-pub record HoldsState (first checkpoint : ℕ) (disk : History) (plan : Plan) (state : State) (store : Option Kept) : Type 0 where
-  pub c : Checkpoint
-  pub later : List Batch
-  pub holds : Holds disk plan state store c later
-  pub laid : (number : ℕ) → 0 < checkpoint → first < number → number ≤ state.batches → number % checkpoint ≡ 0 → number ≤ c.head.batches
+-- What stands is this state, and each batch past the first so many whose number this option divides is in the checkpoint.
+pub record HoldsState (first : ℕ) (saved : Saved) (checkpoint : ℕ) (disk : History) (plan : Plan) (state : State) (store : Option Kept) : Type 0 where
+  pub stands : HoldsSaved disk plan state store saved
+  pub laid : (number : ℕ) → 0 < checkpoint → first < number → number ≤ state.batches → number % checkpoint ≡ 0 → number ≤ saved.c.head.batches
 
--- these four files are the text of this state, each batch having room, by a checkpoint that has what it has in `HoldsState`
-pub record ReopensLaid (first checkpoint : ℕ) (plan : Plan) (state : State) (images : ℕ → List ℕ) : Type 0 where
-  pub c : Checkpoint
-  pub later : List Batch
-  pub reopens : Reopens images (Found c later)
-  pub roomy : crowded c later ≡ None
-  pub plan_is : c.plan ≡ plan
-  pub state_is : state_behind c later ≡ state
-  pub laid : (number : ℕ) → 0 < checkpoint → first < number → number ≤ state.batches → number % checkpoint ≡ 0 → number ≤ c.head.batches
+-- These four files are just this checkpoint with these batches behind it, which all have room, and are this state. Each batch past the
+-- first so many whose number the option divides is in the checkpoint.
+pub record ReopensLaid (first : ℕ) (saved : Saved) (checkpoint : ℕ) (plan : Plan) (state : State) (images : ℕ → List ℕ) : Type 0 where
+  pub reopens : Reopens images (Found saved.c saved.later)
+  pub roomy : crowded saved.c saved.later ≡ None
+  pub plan_is : saved.c.plan ≡ plan
+  pub state_is : state_behind saved.c saved.later ≡ state
+  pub laid : (number : ℕ) → 0 < checkpoint → first < number → number ≤ state.batches → number % checkpoint ≡ 0 → number ≤ saved.c.head.batches
 
 -- every image that a stop now may leave is that
-abbrev pub LeavesLaid : ℕ → ℕ → History → Plan → State → Type 0
-LeavesLaid first checkpoint disk plan state =
-    (images : ℕ → List ℕ) → MayLeave disk disk.now images → ReopensLaid first checkpoint plan state images
+abbrev pub LeavesLaid : ℕ → Saved → ℕ → History → Plan → State → Type 0
+LeavesLaid first saved checkpoint disk plan state =
+    (images : ℕ → List ℕ) → MayLeave disk disk.now images → ReopensLaid first saved checkpoint plan state images
 
 -- where a script has a store, that may take a batch, and each open call has a line that goes into its log
 pub record IsOpen (disk : History) (script : Running) : Type 0 where

@@ -5,6 +5,7 @@ pub mod Keeps
 pub mod Onces
 pub mod Outs
 pub mod Passes
+pub mod Saves
 pub mod Resumes
 pub mod Serial
 pub mod Standing

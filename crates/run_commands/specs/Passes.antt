@@ -4,7 +4,7 @@ use Rattle.std.specs.Prelude.{Option, Some, None, Result, Ok, Err}
 use Rattle.answer_text.specs.Notices.{at_text}
 use Rattle.answer_text.specs.Refusals.{refusal_text}
 use Rattle.batch_core.specs.Steps.{State}
-use Rattle.script_course.specs.Courses.{Course, Goes, Stops, refused_after}
+use Rattle.script_course.specs.Courses.{Course, Goes, Stops, behind, refused_after}
 use Rattle.script_text.specs.Lines.{Scan, last_line}
 use Rattle.script_text.specs.declared.refusals.RefusalKind.{RefusalKind}
 use Rattle.script_text.specs.declared.refusals.Refusal.{Refusal}
@@ -15,6 +15,17 @@ use Rattle.serving.specs.Drains.{one_drained}
 use Rattle.run_commands.specs.Onces.{Doing, on_line}
 
 -- ---- steps that print, one after the other
+
+-- a course, and what follows where it goes on
+abbrev pub onward : {R : Type 0} → (R → Course R) → Course R → Course R
+onward next (Goes bytes r) = behind bytes (next r)
+onward next (Stops bytes) = Stops bytes
+
+-- what steps print and leave
+module _ {R X : Type 0} (on : R → X → Course R) where
+  abbrev pub over : List X → R → Course R
+  over [] r = Goes [] r
+  over (x ∷ steps) r = onward (over steps) (on r x)
 
 -- this state is held, while some first of these bytes were given
 pub record IsHere (held : State) (bytes : List ℕ) (t : State) (given : List ℕ) : Type 0 where
@@ -41,12 +52,13 @@ module _ {R X : Type 0} (on : R → X → Course R) (held_by : State → R → R
   Passes [] r held t given = IsHere held [] t given
   Passes (x ∷ steps) r held t given = IsHere held [] t given ⊎ PassesBy r held (Passes steps) (on r x) t given
 
-  -- what is held behind them
-  abbrev pub held_by_step : R → State → (R → State → State) → Course R → State
+-- what is held behind them, whatever that is
+module _ {H R X : Type 0} (on : R → X → Course R) (held_by : H → R → R → H) where
+  abbrev pub held_by_step : R → H → (R → H → H) → Course R → H
   held_by_step r held over (Stops bytes) = held
   held_by_step r held over (Goes bytes next) = over next (held_by held r next)
 
-  abbrev pub held_over : List X → R → State → State
+  abbrev pub held_over : List X → R → H → H
   held_over [] r held = held
   held_over (x ∷ steps) r held = held_by_step r held (held_over steps) (on r x)
 

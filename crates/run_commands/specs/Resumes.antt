@@ -3,7 +3,7 @@ use Rattle.std.specs.Prelude.{◌≡◌, ◌≢◌, ◌⊎◌, ℕ, Bool, List, 
 use Rattle.std.specs.Io.KnownBytes.{Appends}
 use Rattle.answer_text.specs.Notices.{at_text, damaged_text, refused_text}
 use Rattle.answer_text.specs.declared.notices.Refused.TheVariants as refused
-use Rattle.aria_store.specs.Reopens.{Reopened, NoStore, Damaged, Found}
+use Rattle.aria_store.specs.Reopens.{Reopened, Reopens, NoStore, Damaged, Found}
 use Rattle.batch_core.specs.Steps.{State}
 use Rattle.command_words.specs.declared.settings.Run.{Run}
 use Rattle.disk_model.specs.Histories.{History, LeavesAll, MayLeave}
@@ -20,12 +20,14 @@ use Rattle.serving.specs.Lives.{plan_of, state_of}
 use Rattle.serving.specs.Stored.{state_behind}
 use Rattle.serving.specs.declared.lives.Live.{Live}
 use Rattle.slot_images.specs.Images.{Checkpoint}
+use Rattle.store_openings.specs.Saved.{Saved, renewed, saved_in}
 use Rattle.store_openings.specs.declared.refusals.NotOpened.{NotOpened}
 use Rattle.store_openings.specs.declared.refusals.NotOpened.TheVariants as not_opened
 use Rattle.run_commands.specs.Keeps.{LeavesLaid, ReopensAsGiven, ReopensToPassed}
 use Rattle.run_commands.specs.Onces.{Doing, Running, on_end, on_line}
 use Rattle.run_commands.specs.Outs.{is_each, no_line, text_turns}
 use Rattle.run_commands.specs.Passes.{At, PassesTurns, Turn, held_behind}
+use Rattle.run_commands.specs.Saves.{IsLeft, saved_behind}
 
 -- ---- a store that cannot be opened
 
@@ -114,11 +116,39 @@ LeavesOver settings (Damaged file at) text old new given_old given_new = LeavesA
 LeavesOver settings (Found c later) text old new given_old given_new =
     Outlives (PassesOver settings.drain (start_over settings c later) text) c.plan old new given_old given_new
 
--- A script that was read to its end or to a refused line: exactly the batches that were answered, and a checkpoint behind the last one
--- whose number the option divides.
-abbrev pub HoldsOver : Run → Reopened → List ℕ → History → Type 0
-HoldsOver settings NoStore text disk = Unit {0}
-HoldsOver settings (Damaged file at) text disk = Unit {0}
-HoldsOver settings (Found c later) text disk =
-    LeavesLaid (state_behind c later).batches settings.checkpoint disk c.plan
+-- what stands before the script's first line: the next checkpoint, where the store takes no batch as it is
+abbrev pub saved_first : (ℕ → List ℕ) → Checkpoint → List Batch → Saved
+saved_first images c later = renewed (saved_in images c later)
+
+-- what stands behind all that it does
+abbrev pub saved_over_all : Run → (ℕ → List ℕ) → Checkpoint → List Batch → List ℕ → Saved
+saved_over_all settings images c later text =
+    saved_behind settings.checkpoint (turns_over settings.drain (start_over settings c later) text) (start_over settings c later)
+    (saved_first images c later)
+
+-- A script that was read to its end or to a refused line: exactly the batches that were answered. The checkpoint that stands is the one
+-- that stood there, or the last one that was due, and just the batches behind it are in its log.
+abbrev pub HoldsOver : Run → (ℕ → List ℕ) → Reopened → List ℕ → History → Type 0
+HoldsOver settings images NoStore text disk = Unit {0}
+HoldsOver settings images (Damaged file at) text disk = Unit {0}
+HoldsOver settings images (Found c later) text disk =
+    LeavesLaid (state_behind c later).batches (saved_over_all settings images c later text) settings.checkpoint disk c.plan
     (held_over_all settings.drain (start_over settings c later) text)
+
+-- Just what stands behind some first ones of all that the script does; or that, with the batch at work in the log.
+abbrev pub IsLeftOver : Run → (ℕ → List ℕ) → Checkpoint → List Batch → List ℕ → (ℕ → List ℕ) → Type 0
+IsLeftOver settings files c later text images =
+    IsLeft settings.checkpoint (turns_over settings.drain (start_over settings c later) text) (start_over settings c later) (saved_first files c later) images
+
+-- A stop at any moment leaves files that one before could have left, or just what was found there, or what is left over. A stop now leaves
+-- the last, where anything was given: so the next checkpoint, where the store took no batch as it was, is laid before that.
+pub record LeavesJust (settings : Run) (files : ℕ → List ℕ) (c : Checkpoint) (later : List Batch) (text : List ℕ) (old new : History)
+    (given_old given_new : Option (List ℕ)) : Type 0 where
+  pub images : LeavesAll old new (λ images. MayLeave old old.now images ⊎ Reopens images (Found c later) ⊎ IsLeftOver settings files c later text images)
+  pub exit : (images : ℕ → List ℕ) → MayLeave new new.now images
+      → IsLeftOver settings files c later text images ⊎ Appends given_old given_new []
+
+abbrev pub StandsOver : Run → (ℕ → List ℕ) → Reopened → List ℕ → History → History → Option (List ℕ) → Option (List ℕ) → Type 0
+StandsOver settings files NoStore text old new given_old given_new = Unit {0}
+StandsOver settings files (Damaged file at) text old new given_old given_new = Unit {0}
+StandsOver settings files (Found c later) text old new given_old given_new = LeavesJust settings files c later text old new given_old given_new

@@ -1,18 +1,21 @@
 // The batches that run what waits, when no new calls come.
 ghost use Rattle.std.specs.Prelude.{◌≡◌, ◌≤◌, ◌<◌, ◌+◌, ℕ, List, [], ◌∷◌, length, Err, None, IfOk, IfErr, IsSomeAnd};
 ghost use Rattle.aria_base.specs.Faults.{Rose};
+ghost use Rattle.disk_model.specs.Histories.{LeavesAll};
 ghost use Rattle.image_text.specs.Payloads.{Batch};
 ghost use Rattle.script_course.specs.Causes.{IsCause};
 ghost use Rattle.script_course.specs.Served.{Serves};
 ghost use Rattle.script_course.specs.declared.stops.Stop.TheVariants as stop;
-ghost use Rattle.serving.specs.Drains.{drains, one_drained, state_result};
+ghost use Rattle.serving.specs.Drains.{drains, no_calls, one_drained, state_result};
 ghost use Rattle.serving.specs.Lives.{IsRunnable, IsLike, plan_of, state_of};
-ghost use Rattle.serving.specs.Stored.{Holds, IsLogging, stored_state};
+ghost use Rattle.serving.specs.Stored.{Holds, IsLogging, batch_of, stored_state};
 ghost use Rattle.slot_images.specs.Images.{Checkpoint};
+ghost use Rattle.store_openings.specs.Saved.{Saved};
 ghost use Rattle.run_commands.specs.Endings.{HoldsLive, IsEnd, drains_of};
 ghost use Rattle.run_commands.specs.Keeps.{Keeps, LeavesLaid};
 ghost use Rattle.run_commands.specs.Onces.{Doing};
 ghost use Rattle.run_commands.specs.Passes.{Drain, PassesTurns, held_behind};
+ghost use Rattle.run_commands.specs.Saves.{IsLeft, saved_behind, saved_more};
 
 use crate::scripts::why_stopped;
 use aria_base::{GREATEST_NUMBER, Pace, Sink};
@@ -44,20 +47,33 @@ pub(crate) fn drain<K: Sink, D: Disk, P: Pace + Sync, R: Threads + Sync>(
     ensures logging { IfOk result (IsLogging (D.history disk.new)) }
 
     // A stop at any moment leaves the state between two of these batches; and a stop now, what was given by then.
-    ensures keeps { (first : ℕ) (d : Doing) → IsEnd (plan_of start) start.each line (state_of start) d → HoldsLive first (D.history disk.old) start
-        → Keeps (PassesTurns (drains_of (state_of start)) d (stored_state start)) (plan_of start) (D.history disk.old) (D.history disk.new) (K.given out.old) (K.given out.new) }
+    ensures keeps { (first : ℕ) (saved : Saved) (d : Doing) → IsEnd (plan_of start) start.each line (state_of start) d
+        → HoldsLive first saved (D.history disk.old) start
+        → Keeps (PassesTurns (drains_of (state_of start)) d (stored_state start)) (plan_of start) (D.history disk.old) (D.history disk.new)
+        (K.given out.old) (K.given out.new) }
 
-    // The disk holds the state behind all of them.
-    ensures holds { (first : ℕ) → HoldsLive first (D.history disk.old) start → IfOk result (HoldsLive first (D.history disk.new)) }
-    ensures held { (d : Doing) → IsEnd (plan_of start) start.each line (state_of start) d → IfOk result (λ live. held_behind (drains_of (state_of start)) d (stored_state start) ≡ stored_state live) }
+    // It leaves just what stands behind some first ones.
+    ensures left { (first : ℕ) (saved : Saved) (d : Doing) → IsEnd (plan_of start) start.each line (state_of start) d
+        → HoldsLive first saved (D.history disk.old) start
+        → LeavesAll (D.history disk.old) (D.history disk.new) (IsLeft start.checkpoint (drains_of (state_of start)) d saved) }
+
+    // The disk holds the state behind all of them, by the last checkpoint that was due.
+    ensures holds { (first : ℕ) (saved : Saved) (d : Doing) → IsEnd (plan_of start) start.each line (state_of start) d
+        → HoldsLive first saved (D.history disk.old) start
+        → IfOk result (HoldsLive first (saved_behind start.checkpoint (drains_of (state_of start)) d saved) (D.history disk.new)) }
+    ensures held { (d : Doing) → IsEnd (plan_of start) start.each line (state_of start) d
+        → IfOk result (λ live. held_behind (drains_of (state_of start)) d (stored_state start) ≡ stored_state live) }
 
     // Where one is refused, it holds the state behind those before it.
-    ensures refused { (first : ℕ) (d : Doing) → IsEnd (plan_of start) start.each line (state_of start) d → HoldsLive first (D.history disk.old) start → result ≡ Err stop.Refused
-        → LeavesLaid first start.checkpoint (D.history disk.new) (plan_of start) (held_behind (drains_of (state_of start)) d (stored_state start)) }
+    ensures refused { (first : ℕ) (saved : Saved) (d : Doing) → IsEnd (plan_of start) start.each line (state_of start) d
+        → HoldsLive first saved (D.history disk.old) start → result ≡ Err stop.Refused
+        → LeavesLaid first (saved_behind start.checkpoint (drains_of (state_of start)) d saved) start.checkpoint (D.history disk.new) (plan_of start)
+        (held_behind (drains_of (state_of start)) d (stored_state start)) }
     ensures store { start.store ≡ None → IfOk result (λ live. live.store ≡ None) }
     ensures untouched { start.store ≡ None → disk.new ≡ disk.old }
     ensures sink { K.faults out.old ≤ K.faults out.new }
-    ensures cause { IfErr result (λ stop. IsCause stop (Rose (K.faults out.old) (K.faults out.new)) (IsSomeAnd start.store (λ _. Rose (D.history disk.old).faults (D.history disk.new).faults))) }
+    ensures cause { IfErr result (λ stop. IsCause stop (Rose (K.faults out.old) (K.faults out.new)) (IsSomeAnd start.store
+        (λ _. Rose (D.history disk.old).faults (D.history disk.new).faults))) }
 {
     let mut live = start;
     for _ in 0..live.waiting() {
@@ -93,15 +109,23 @@ fn drain_one<K: Sink, D: Disk, P: Pace + Sync, R: Threads + Sync>(
     ensures logging { IfOk result (IsLogging (D.history disk.new)) }
 
     // A stop at any moment leaves the state before or behind it; and a stop now, what was given of its text.
-    ensures keeps { (c : Checkpoint) (later : List Batch) (d : Doing) → IsEnd (plan_of live) live.each line (state_of live) d → Holds (D.history disk.old) (plan_of live) (stored_state live) live.store c later
-        → Keeps (PassesTurns (Drain ∷ []) d (stored_state live)) (plan_of live) (D.history disk.old) (D.history disk.new) (K.given out.old) (K.given out.new) }
-    ensures holds { (first : ℕ) → HoldsLive first (D.history disk.old) live → IfOk result (HoldsLive first (D.history disk.new)) }
+    ensures keeps { (c : Checkpoint) (later : List Batch) (d : Doing) → IsEnd (plan_of live) live.each line (state_of live) d
+        → Holds (D.history disk.old) (plan_of live) (stored_state live) live.store c later
+        → Keeps (PassesTurns (Drain ∷ []) d (stored_state live)) (plan_of live) (D.history disk.old) (D.history disk.new)
+        (K.given out.old) (K.given out.new) }
+    ensures left { (first : ℕ) (saved : Saved) (d : Doing) → IsEnd (plan_of live) live.each line (state_of live) d
+        → HoldsLive first saved (D.history disk.old) live
+        → LeavesAll (D.history disk.old) (D.history disk.new) (IsLeft live.checkpoint (Drain ∷ []) d saved) }
+    ensures holds { (first : ℕ) (saved : Saved) → HoldsLive first saved (D.history disk.old) live
+        → IfOk result (λ next. HoldsLive first (saved_more live.checkpoint saved (batch_of (no_calls (state_of live))) (state_of next))
+        (D.history disk.new) next) }
     ensures refused { result ≡ Err stop.Refused → disk.new ≡ disk.old }
     ensures store { live.store ≡ None → IfOk result (λ next. next.store ≡ None) }
     ensures untouched { live.store ≡ None → disk.new ≡ disk.old }
     ensures disk { IfOk result (λ _. (D.history disk.old).faults ≤ (D.history disk.new).faults) }
     ensures sink { K.faults out.old ≤ K.faults out.new }
-    ensures cause { IfErr result (λ stop. IsCause stop (Rose (K.faults out.old) (K.faults out.new)) (IsSomeAnd live.store (λ _. Rose (D.history disk.old).faults (D.history disk.new).faults))) }
+    ensures cause { IfErr result (λ stop. IsCause stop (Rose (K.faults out.old) (K.faults out.new)) (IsSomeAnd live.store
+        (λ _. Rose (D.history disk.old).faults (D.history disk.new).faults))) }
 {
     if GREATEST_NUMBER <= live.batches() {
         let kind = RefusalKind::Numbers;

@@ -13,7 +13,8 @@ ghost use Rattle.run_commands.specs.Onces.{doing_result, on_line};
 ghost use Rattle.run_commands.specs.Keeps.{IsOpen};
 ghost use Rattle.run_commands.specs.Outs.{no_line};
 ghost use Rattle.run_commands.specs.Passes.{Line, last, past, turns, turns_whole};
-ghost use Rattle.run_commands.specs.Turns.{HoldsScript, KeepsTurns, Stays};
+ghost use Rattle.run_commands.specs.Turns.{HoldsScript, KeepsTurns};
+ghost use Rattle.store_openings.specs.Saved.{Saved};
 
 use crate::scripts::Script;
 use aria_base::{Bytes, LONGEST_LINE, Memory, Pace, Sink, Source};
@@ -42,14 +43,16 @@ pub(crate) fn read_script<S: Source, K: Sink, D: Disk, P: Pace + Sync, R: Thread
 
     // What was printed is what the text prints; where it was cut off, a prefix of it. Where the source
     // failed, it is all that the bytes that were taken tell, and no line of them was refused.
-    ensures comes { Comes (told on_line no_line start.doing) (told_whole on_line no_line start.doing) (S.left input.old) (S.left input.new) (K.given out.old) (K.given out.new) (doing_result result) }
+    ensures comes { Comes (told on_line no_line start.doing) (told_whole on_line no_line start.doing) (S.left input.old) (S.left input.new)
+        (K.given out.old) (K.given out.new) (doing_result result) }
     ensures end { IfOk result (λ _. IsAtEnd (S.left input.new)) }
     ensures open { IfOk result (λ next. IsOpen (D.history disk.new) next) }
 
-    // Over a store: what a stop at any moment leaves, where the source tells its bytes, and what the disk holds
-    // behind the last line.
-    ensures keeps { (first : ℕ) → HoldsScript first (D.history disk.old) start → IfSome (S.left input.old) (λ text. KeepsTurns first (turns_whole (scan no_line text)) start (D.history disk.old) (D.history disk.new) (K.given out.old) (K.given out.new) result) }
-    ensures stays { (first : ℕ) → HoldsScript first (D.history disk.old) start → IfOk result (Stays first (D.history disk.new) start) }
+    // Over a store: what a stop at any moment leaves, and what the disk holds behind the last line, where the
+    // source tells its bytes.
+    ensures keeps { (first : ℕ) (saved : Saved) → HoldsScript first saved (D.history disk.old) start
+        → IfSome (S.left input.old) (λ text. KeepsTurns first saved (turns_whole (scan no_line text)) start (D.history disk.old) (D.history disk.new)
+        (K.given out.old) (K.given out.new) result) }
     ensures store { start.store ≡ None → IfOk result (λ next. next.store ≡ None) }
     ensures untouched { start.store ≡ None → disk.new ≡ disk.old }
     ensures disk { IfOk result (λ _. (D.history disk.old).faults ≤ (D.history disk.new).faults) }
@@ -57,7 +60,8 @@ pub(crate) fn read_script<S: Source, K: Sink, D: Disk, P: Pace + Sync, R: Thread
     // Each stop for a fault has its cause.
     ensures source { S.faults input.old ≤ S.faults input.new }
     ensures sink { K.faults out.old ≤ K.faults out.new }
-    ensures cause { IfErr result (λ stop. IsReadCause stop (Rose (S.faults input.old) (S.faults input.new)) (Rose (K.faults out.old) (K.faults out.new)) (IsSomeAnd start.store (λ _. Rose (D.history disk.old).faults (D.history disk.new).faults))) }
+    ensures cause { IfErr result (λ stop. IsReadCause stop (Rose (S.faults input.old) (S.faults input.new))
+        (Rose (K.faults out.old) (K.faults out.new)) (IsSomeAnd start.store (λ _. Rose (D.history disk.old).faults (D.history disk.new).faults))) }
 {
     let mut lines = Lines::new(alloc, MOST_BYTES, LONGEST_LINE as u32);
     let mut script = start;
@@ -101,13 +105,16 @@ fn take_piece<K: Sink, D: Disk, P: Pace + Sync, R: Threads + Sync>(
     requires begun { length lines.old.begun ≤ lines.old.longest }
     ensures serves { Serves (with_scan on_line (Goes [] script.doing) (scan lines.old piece.now)) (K.given out.old) (K.given out.new) (doing_result result) }
     ensures open { IfOk result (λ next. IsOpen (D.history disk.new) next) }
-    ensures keeps { (first : ℕ) → HoldsScript first (D.history disk.old) script → KeepsTurns first (turns (scan lines.old piece.now)) script (D.history disk.old) (D.history disk.new) (K.given out.old) (K.given out.new) result }
+    ensures keeps { (first : ℕ) (saved : Saved) → HoldsScript first saved (D.history disk.old) script
+        → KeepsTurns first saved (turns (scan lines.old piece.now)) script (D.history disk.old) (D.history disk.new) (K.given out.old)
+        (K.given out.new) result }
     ensures store { script.store ≡ None → IfOk result (λ next. next.store ≡ None) }
     ensures untouched { script.store ≡ None → disk.new ≡ disk.old }
     ensures taken { IfOk result (λ _. IsTaken (scan lines.old piece.now) lines.new) }
     ensures sink { K.faults out.old ≤ K.faults out.new }
     ensures disk { IfOk result (λ _. (D.history disk.old).faults ≤ (D.history disk.new).faults) }
-    ensures cause { IfErr result (λ stop. IsCause stop (Rose (K.faults out.old) (K.faults out.new)) (IsSomeAnd script.store (λ _. Rose (D.history disk.old).faults (D.history disk.new).faults))) }
+    ensures cause { IfErr result (λ stop. IsCause stop (Rose (K.faults out.old) (K.faults out.new)) (IsSomeAnd script.store
+        (λ _. Rose (D.history disk.old).faults (D.history disk.new).faults))) }
 {
     match lines.feed(piece) {
         Ok(done) => each_line(rt, alloc, script, &done, out, disk, pace),
@@ -132,12 +139,16 @@ fn refuse_behind<K: Sink, D: Disk, P: Pace + Sync, R: Threads + Sync>(
 ) -> Result<Script, Stop>
     requires open { IsOpen (D.history disk.old) script }
     requires short { All (λ line. length line ≤ LONGEST_LINE) lines.now }
-    ensures serves { Serves (with_fault (with_lines on_line (Goes [] script.doing) lines.now) (Some refusal.now)) (K.given out.old) (K.given out.new) (doing_result result) }
-    ensures keeps { (first : ℕ) → HoldsScript first (D.history disk.old) script → KeepsTurns first (map Line lines.now ++ past (Some refusal.now)) script (D.history disk.old) (D.history disk.new) (K.given out.old) (K.given out.new) result }
+    ensures serves { Serves (with_fault (with_lines on_line (Goes [] script.doing) lines.now) (Some refusal.now)) (K.given out.old) (K.given out.new)
+        (doing_result result) }
+    ensures keeps { (first : ℕ) (saved : Saved) → HoldsScript first saved (D.history disk.old) script
+        → KeepsTurns first saved (map Line lines.now ++ past (Some refusal.now)) script (D.history disk.old) (D.history disk.new) (K.given out.old)
+        (K.given out.new) result }
     ensures untouched { script.store ≡ None → disk.new ≡ disk.old }
     ensures stops { IsErr result }
     ensures sink { K.faults out.old ≤ K.faults out.new }
-    ensures cause { IfErr result (λ stop. IsCause stop (Rose (K.faults out.old) (K.faults out.new)) (IsSomeAnd script.store (λ _. Rose (D.history disk.old).faults (D.history disk.new).faults))) }
+    ensures cause { IfErr result (λ stop. IsCause stop (Rose (K.faults out.old) (K.faults out.new)) (IsSomeAnd script.store
+        (λ _. Rose (D.history disk.old).faults (D.history disk.new).faults))) }
 {
     match each_line(rt, alloc, script, lines, out, disk, pace) {
         Ok(_) => return refuse(alloc, refusal, out),
@@ -160,12 +171,14 @@ fn finish<K: Sink, D: Disk, P: Pace + Sync, R: Threads + Sync>(
     requires begun { length lines.begun ≤ lines.longest }
     ensures serves { Serves (with_last on_line (Goes [] script.doing) (last_line lines)) (K.given out.old) (K.given out.new) (doing_result result) }
     ensures open { IfOk result (λ next. IsOpen (D.history disk.new) next) }
-    ensures keeps { (first : ℕ) → HoldsScript first (D.history disk.old) script → KeepsTurns first (last (last_line lines)) script (D.history disk.old) (D.history disk.new) (K.given out.old) (K.given out.new) result }
+    ensures keeps { (first : ℕ) (saved : Saved) → HoldsScript first saved (D.history disk.old) script
+        → KeepsTurns first saved (last (last_line lines)) script (D.history disk.old) (D.history disk.new) (K.given out.old) (K.given out.new) result }
     ensures store { script.store ≡ None → IfOk result (λ next. next.store ≡ None) }
     ensures untouched { script.store ≡ None → disk.new ≡ disk.old }
     ensures disk { IfOk result (λ _. (D.history disk.old).faults ≤ (D.history disk.new).faults) }
     ensures sink { K.faults out.old ≤ K.faults out.new }
-    ensures cause { IfErr result (λ stop. IsCause stop (Rose (K.faults out.old) (K.faults out.new)) (IsSomeAnd script.store (λ _. Rose (D.history disk.old).faults (D.history disk.new).faults))) }
+    ensures cause { IfErr result (λ stop. IsCause stop (Rose (K.faults out.old) (K.faults out.new)) (IsSomeAnd script.store
+        (λ _. Rose (D.history disk.old).faults (D.history disk.new).faults))) }
 {
     match lines.finish() {
         None => Ok(script),
@@ -187,12 +200,14 @@ fn each_line<K: Sink, D: Disk, P: Pace + Sync, R: Threads + Sync>(
     requires short { All (λ line. length line ≤ LONGEST_LINE) lines.now }
     ensures serves { Serves (with_lines on_line (Goes [] start.doing) lines.now) (K.given out.old) (K.given out.new) (doing_result result) }
     ensures open { IfOk result (λ next. IsOpen (D.history disk.new) next) }
-    ensures keeps { (first : ℕ) → HoldsScript first (D.history disk.old) start → KeepsTurns first (map Line lines.now) start (D.history disk.old) (D.history disk.new) (K.given out.old) (K.given out.new) result }
+    ensures keeps { (first : ℕ) (saved : Saved) → HoldsScript first saved (D.history disk.old) start
+        → KeepsTurns first saved (map Line lines.now) start (D.history disk.old) (D.history disk.new) (K.given out.old) (K.given out.new) result }
     ensures store { start.store ≡ None → IfOk result (λ next. next.store ≡ None) }
     ensures untouched { start.store ≡ None → disk.new ≡ disk.old }
     ensures sink { K.faults out.old ≤ K.faults out.new }
     ensures disk { IfOk result (λ _. (D.history disk.old).faults ≤ (D.history disk.new).faults) }
-    ensures cause { IfErr result (λ stop. IsCause stop (Rose (K.faults out.old) (K.faults out.new)) (IsSomeAnd start.store (λ _. Rose (D.history disk.old).faults (D.history disk.new).faults))) }
+    ensures cause { IfErr result (λ stop. IsCause stop (Rose (K.faults out.old) (K.faults out.new)) (IsSomeAnd start.store
+        (λ _. Rose (D.history disk.old).faults (D.history disk.new).faults))) }
 {
     let mut script = start;
     for line in lines {

@@ -31,7 +31,8 @@ pub fn once<S: Source, K: Sink, D: Disk, P: Pace + Sync, R: Threads + Sync>(
     pace: &P,
 ) -> Result<u8, Stop>
     requires { IsInRange settings.now }
-    ensures completes { Completes (told_of settings.now) (out_of settings.now) (S.left input.old) (S.left input.new) (K.given out.old) (K.given out.new) result }
+    ensures completes { Completes (told_of settings.now) (out_of settings.now) (S.left input.old) (S.left input.new) (K.given out.old)
+        (K.given out.new) result }
 
     // Where nothing was in the way, the answer is 0, and the input was read to its end.
     ensures zero { IfOk result (λ status. status ≡ DONE) }

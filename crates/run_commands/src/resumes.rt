@@ -15,7 +15,10 @@ ghost use Rattle.store_openings.specs.Openings.{ReadsAs, opened};
 ghost use Rattle.run_commands.specs.Endings.{HoldsLive};
 ghost use Rattle.run_commands.specs.Keeps.{Keeps, LeavesLaid};
 ghost use Rattle.run_commands.specs.Passes.{PassesTurns, held_behind};
-ghost use Rattle.run_commands.specs.Resumes.{CompletesOver, HoldsOver, LeavesOver, out_from, over, told_from, turns_over};
+ghost use Rattle.run_commands.specs.Resumes.{CompletesOver, HoldsOver, LeavesOver, StandsOver, out_from, over, told_from, turns_over};
+ghost use Rattle.run_commands.specs.Saves.{IsLeft, saved_behind};
+ghost use Rattle.disk_model.specs.Histories.{LeavesAll};
+ghost use Rattle.store_openings.specs.Saved.{Saved};
 
 use crate::once_command::is_each;
 use crate::refusals::refuse_store;
@@ -47,14 +50,26 @@ pub fn run<S: Source, K: Sink, D: Disk, P: Pace + Sync, R: Threads + Sync>(
 ) -> Result<u8, Stop>
     requires workers { (1 ≤ settings.now.workers) × (settings.now.workers ≤ MOST_WORKERS) }
     requires replicas { (1 ≤ settings.now.replicas) × (settings.now.replicas ≤ MOST_REPLICAS) }
-    ensures completes { (images : ℕ → List ℕ) (found : Reopened) → ReadsAs (D.history disk.old) images → Reopens images found → CompletesOver settings.now (opened images found) (S.left input.old) (S.left input.new) (K.given out.old) (K.given out.new) result }
+    ensures completes { (images : ℕ → List ℕ) (found : Reopened) → ReadsAs (D.history disk.old) images → Reopens images found
+        → CompletesOver settings.now (opened images found) (S.left input.old) (S.left input.new) (K.given out.old) (K.given out.new) result }
 
     // A stop at any moment leaves the batches of the store with some first ones of the script behind them:
     // all that were answered, and at most one more.
-    ensures leaves { (images : ℕ → List ℕ) (found : Reopened) → ReadsAs (D.history disk.old) images → Reopens images found → IfSome (S.left input.old) (λ text. LeavesOver settings.now (opened images found) text (D.history disk.old) (D.history disk.new) (K.given out.old) (K.given out.new)) }
+    ensures leaves { (images : ℕ → List ℕ) (found : Reopened) → ReadsAs (D.history disk.old) images → Reopens images found
+        → IfSome (S.left input.old) (λ text. LeavesOver settings.now (opened images found) text (D.history disk.old) (D.history disk.new)
+        (K.given out.old) (K.given out.new)) }
 
-    // Where the script was read to its end or to a refused line, exactly those that were answered.
-    ensures holds { (images : ℕ → List ℕ) (found : Reopened) → ReadsAs (D.history disk.old) images → Reopens images found → (result ≡ Ok DONE) ⊎ (result ≡ Err stop.Refused) → IfSome (S.left input.old) (λ text. HoldsOver settings.now (opened images found) text (D.history disk.new)) }
+    // It leaves just the checkpoint and the batches that stand behind some first lines, or that with the batch at
+    // work in the log.
+    ensures stands { (images : ℕ → List ℕ) (found : Reopened) → ReadsAs (D.history disk.old) images → Reopens images found
+        → IfSome (S.left input.old) (λ text. StandsOver settings.now images (opened images found) text (D.history disk.old) (D.history disk.new)
+        (K.given out.old) (K.given out.new)) }
+
+    // Where the script was read to its end or to a refused line, exactly those that were answered, behind the
+    // last checkpoint that was due or the one that stood there.
+    ensures holds { (images : ℕ → List ℕ) (found : Reopened) → ReadsAs (D.history disk.old) images → Reopens images found
+        → (result ≡ Ok DONE) ⊎ (result ≡ Err stop.Refused)
+        → IfSome (S.left input.old) (λ text. HoldsOver settings.now images (opened images found) text (D.history disk.new)) }
 
     // Where nothing was in the way, the script was read to its end, or the store is refused, and the source
     // is as before.
@@ -65,7 +80,8 @@ pub fn run<S: Source, K: Sink, D: Disk, P: Pace + Sync, R: Threads + Sync>(
     // Each stop for a fault has its cause.
     ensures source { S.faults input.old ≤ S.faults input.new }
     ensures sink { K.faults out.old ≤ K.faults out.new }
-    ensures cause { IfErr result (λ stop. IsReadCause stop (Rose (S.faults input.old) (S.faults input.new)) (Rose (K.faults out.old) (K.faults out.new)) (Rose (D.history disk.old).faults (D.history disk.new).faults)) }
+    ensures cause { IfErr result (λ stop. IsReadCause stop (Rose (S.faults input.old) (S.faults input.new)) (Rose (K.faults out.old) (K.faults out.new))
+        (Rose (D.history disk.old).faults (D.history disk.new).faults)) }
 {
     let engines = Engines {
         replicas: settings.replicas,
@@ -94,14 +110,23 @@ fn run_over<S: Source, K: Sink, D: Disk, P: Pace + Sync, R: Threads + Sync>(
     requires engines { (1 ≤ settings.now.replicas) × (settings.now.replicas ≤ MOST_REPLICAS) }
     requires runnable { IsRunnable live }
     requires logging { IsLogging (D.history disk.old) live }
-    ensures completes { Completes (told_from (over live)) (out_from settings.now.drain (over live)) (S.left input.old) (S.left input.new) (K.given out.old) (K.given out.new) result }
+    ensures completes { Completes (told_from (over live)) (out_from settings.now.drain (over live)) (S.left input.old) (S.left input.new)
+        (K.given out.old) (K.given out.new) result }
     ensures zero { IfOk result (λ status. status ≡ DONE) }
     ensures end { IfOk result (λ _. IsAtEnd (S.left input.new)) }
-    ensures keeps { (first : ℕ) → HoldsLive first (D.history disk.old) live → IfSome (S.left input.old) (λ text. Keeps (PassesTurns (turns_over settings.now.drain (over live) text) (over live) (stored_state live)) (plan_of live) (D.history disk.old) (D.history disk.new) (K.given out.old) (K.given out.new)) }
-    ensures laid { (first : ℕ) → HoldsLive first (D.history disk.old) live → (result ≡ Ok DONE) ⊎ (result ≡ Err stop.Refused) → IfSome (S.left input.old) (λ text. LeavesLaid first live.checkpoint (D.history disk.new) (plan_of live) (held_behind (turns_over settings.now.drain (over live) text) (over live) (stored_state live))) }
+    ensures keeps { (first : ℕ) (saved : Saved) → HoldsLive first saved (D.history disk.old) live
+        → IfSome (S.left input.old) (λ text. Keeps (PassesTurns (turns_over settings.now.drain (over live) text) (over live) (stored_state live)) (plan_of live)
+        (D.history disk.old) (D.history disk.new) (K.given out.old) (K.given out.new)) }
+    ensures left { (first : ℕ) (saved : Saved) → HoldsLive first saved (D.history disk.old) live
+        → IfSome (S.left input.old) (λ text. LeavesAll (D.history disk.old) (D.history disk.new)
+        (IsLeft live.checkpoint (turns_over settings.now.drain (over live) text) (over live) saved)) }
+    ensures laid { (first : ℕ) (saved : Saved) → HoldsLive first saved (D.history disk.old) live → (result ≡ Ok DONE) ⊎ (result ≡ Err stop.Refused)
+        → IfSome (S.left input.old) (λ text. LeavesLaid first (saved_behind live.checkpoint (turns_over settings.now.drain (over live) text) (over live) saved)
+        live.checkpoint (D.history disk.new) (plan_of live) (held_behind (turns_over settings.now.drain (over live) text) (over live) (stored_state live))) }
     ensures source { S.faults input.old ≤ S.faults input.new }
     ensures sink { K.faults out.old ≤ K.faults out.new }
-    ensures cause { IfErr result (λ stop. IsReadCause stop (Rose (S.faults input.old) (S.faults input.new)) (Rose (K.faults out.old) (K.faults out.new)) (Rose (D.history disk.old).faults (D.history disk.new).faults)) }
+    ensures cause { IfErr result (λ stop. IsReadCause stop (Rose (S.faults input.old) (S.faults input.new)) (Rose (K.faults out.old) (K.faults out.new))
+        (Rose (D.history disk.old).faults (D.history disk.new).faults)) }
 {
     let Ok(script) = Script::resume(alloc, live, settings.replicas) else {
         return Err(Stop::NoMemory);

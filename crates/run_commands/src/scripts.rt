@@ -7,6 +7,7 @@ ghost use Rattle.script_course.specs.Causes.{IsCause};
 ghost use Rattle.script_course.specs.Courses.{Goes};
 ghost use Rattle.script_course.specs.Served.{Serves};
 ghost use Rattle.serving.specs.declared.batches.Delivery.TheVariants as delivery;
+ghost use Rattle.disk_model.specs.Histories.{LeavesAll};
 ghost use Rattle.image_text.specs.Payloads.{Batch};
 ghost use Rattle.serving.specs.Stored.{Holds};
 ghost use Rattle.slot_images.specs.Images.{Checkpoint};
@@ -19,6 +20,8 @@ ghost use Rattle.run_commands.specs.Onces.{Doing, behind_batch, doing_result, do
 ghost use Rattle.run_commands.specs.Outs.{start_by};
 ghost use Rattle.run_commands.specs.Stops.{IsStopFor};
 ghost use Rattle.run_commands.specs.Passes.{Line, PassesTurns, held_then};
+ghost use Rattle.run_commands.specs.Saves.{IsLeft, saved_then};
+ghost use Rattle.store_openings.specs.Saved.{Saved};
 ghost use Rattle.run_commands.specs.Turns.{HoldsScript, KeepsTurns, Stays};
 ghost use Rattle.run_commands.specs.Standing.{MayCall, MayClose, MayDo, MayPut, MayRun, MaySet, Stands, doing_of, running_of, runs_batch};
 
@@ -83,7 +86,13 @@ impl Script {
     pub fn resume(alloc: Global, live: Live, replicas: u32) -> Result<Script, Memory>
         requires runnable { IsRunnable live }
         requires engines { (1 ≤ replicas) × (replicas ≤ MOST_REPLICAS) }
-        ensures doing { IfOk result (λ script. script.doing ≡ record { place = start_with mode.Run (plan_of live); calls = []; state = state_of live; each = live.each }) }
+        ensures doing { IfOk result (λ script. script.doing ≡ record {
+          place = start_with mode.Run
+              (plan_of live);
+          calls = [];
+          state = state_of live;
+          each = live.each;
+        }) }
         ensures store { IfOk result (λ script. script.store ≡ live.store) }
         ensures checkpoint { IfOk result (λ script. script.checkpoint ≡ live.checkpoint) }
     {
@@ -117,12 +126,14 @@ impl Script {
         ensures open { IfOk result (λ next. IsOpen (D.history disk.new) next) }
 
         // Over a store: what a stop at any moment leaves, and what the disk holds behind the line.
-        ensures keeps { (first : ℕ) → HoldsScript first (D.history disk.old) self → KeepsTurns first (Line line.now ∷ []) self (D.history disk.old) (D.history disk.new) (K.given out.old) (K.given out.new) result }
+        ensures keeps { (first : ℕ) (saved : Saved) → HoldsScript first saved (D.history disk.old) self
+            → KeepsTurns first saved (Line line.now ∷ []) self (D.history disk.old) (D.history disk.new) (K.given out.old) (K.given out.new) result }
         ensures store { self.store ≡ None → IfOk result (λ script. script.store ≡ None) }
         ensures untouched { self.store ≡ None → disk.new ≡ disk.old }
         ensures sink { K.faults out.old ≤ K.faults out.new }
         ensures disk { IfOk result (λ _. (D.history disk.old).faults ≤ (D.history disk.new).faults) }
-        ensures cause { IfErr result (λ stop. IsCause stop (Rose (K.faults out.old) (K.faults out.new)) (IsSomeAnd self.store (λ _. Rose (D.history disk.old).faults (D.history disk.new).faults))) }
+        ensures cause { IfErr result (λ stop. IsCause stop (Rose (K.faults out.old) (K.faults out.new))
+            (IsSomeAnd self.store (λ _. Rose (D.history disk.old).faults (D.history disk.new).faults))) }
     {
         let Script { place, work } = self;
         let counts = work.base.counts();
@@ -157,18 +168,32 @@ impl Work {
         ensures open { IfOk result (IsOpen (D.history disk.new)) }
 
         // A stop at any moment leaves the state before or behind it; and a stop now, what was given of its text.
-        ensures keeps { (c : Checkpoint) (later : List Batch) (before : Doing) (line : List ℕ) → Holds (D.history disk.old) (plan_in place.head) (held_of (running_of place self)) (store_in self.base) c later
+        ensures keeps { (c : Checkpoint) (later : List Batch) (before : Doing) (line : List ℕ)
+            → Holds (D.history disk.old) (plan_in place.head) (held_of (running_of place self)) (store_in self.base) c later
             → before.state ≡ state_in self.base → on_line before line ≡ done (doing_of place self) deed
-            → Keeps (PassesTurns (Line line ∷ []) before (held_of (running_of place self))) (plan_in place.head) (D.history disk.old) (D.history disk.new) (K.given out.old) (K.given out.new) }
+            → Keeps (PassesTurns (Line line ∷ []) before (held_of (running_of place self))) (plan_in place.head) (D.history disk.old) (D.history disk.new)
+            (K.given out.old) (K.given out.new) }
 
-        // The state behind it is held by the script that goes on.
-        ensures stays { (first : ℕ) → HoldsScript first (D.history disk.old) (running_of place self) → IfOk result (Stays first (D.history disk.new) (running_of place self)) }
-        ensures held { (first : ℕ) → HoldsScript first (D.history disk.old) (running_of place self) → (before : Doing) → before.state ≡ state_in self.base → IfOk result (λ next. held_of next ≡ held_then (held_of (running_of place self)) before next.doing) }
+        // It leaves just what stood there, or that with the batch in the log, or what stands behind the line.
+        ensures left { (first : ℕ) (saved : Saved) → HoldsScript first saved (D.history disk.old) (running_of place self)
+            → (before : Doing) (line : List ℕ) → before.state ≡ state_in self.base → before.calls ≡ self.calls.items
+            → on_line before line ≡ done (doing_of place self) deed
+            → LeavesAll (D.history disk.old) (D.history disk.new) (IsLeft (checkpoint_in self.base) (Line line ∷ []) before saved) }
+
+        // The state behind it is held by the script that goes on, by the last checkpoint that was due.
+        ensures stays { (first : ℕ) (saved : Saved) → HoldsScript first saved (D.history disk.old) (running_of place self)
+            → (before : Doing) → before.state ≡ state_in self.base → before.calls ≡ self.calls.items
+            → IfOk result (λ next. Stays first (saved_then (checkpoint_in self.base) saved before next.doing) (D.history disk.new)
+            (running_of place self) next) }
+        ensures held { (first : ℕ) (saved : Saved) → HoldsScript first saved (D.history disk.old) (running_of place self)
+            → (before : Doing) → before.state ≡ state_in self.base
+            → IfOk result (λ next. held_of next ≡ held_then (held_of (running_of place self)) before next.doing) }
         ensures store { store_in self.base ≡ None → IfOk result (λ script. script.store ≡ None) }
         ensures untouched { store_in self.base ≡ None → disk.new ≡ disk.old }
         ensures sink { K.faults out.old ≤ K.faults out.new }
         ensures disk { IfOk result (λ _. (D.history disk.old).faults ≤ (D.history disk.new).faults) }
-        ensures cause { IfErr result (λ stop. IsCause stop (Rose (K.faults out.old) (K.faults out.new)) (IsSomeAnd (store_in self.base) (λ _. Rose (D.history disk.old).faults (D.history disk.new).faults))) }
+        ensures cause { IfErr result (λ stop. IsCause stop (Rose (K.faults out.old) (K.faults out.new))
+            (IsSomeAnd (store_in self.base) (λ _. Rose (D.history disk.old).faults (D.history disk.new).faults))) }
     {
         if runs_batch(&deed) {
             return self.run(rt, alloc, place, out, disk, pace);
@@ -319,22 +344,37 @@ impl Work {
     ) -> Result<Script, Stop>
         requires may { MayRun place self }
         requires open { IsOpen (D.history disk.old) (running_of place self) }
-        ensures serves { Serves (Goes (text_of (doing_of place self)) (behind_batch (doing_of place self))) (K.given out.old) (K.given out.new) (doing_result result) }
+        ensures serves { Serves (Goes (text_of (doing_of place self)) (behind_batch (doing_of place self))) (K.given out.old) (K.given out.new)
+            (doing_result result) }
         ensures open { IfOk result (IsOpen (D.history disk.new)) }
 
         // A stop at any moment leaves the state before or behind it; and a stop now, what was given of its text.
-        ensures keeps { (c : Checkpoint) (later : List Batch) (before : Doing) (line : List ℕ) → Holds (D.history disk.old) (plan_in place.head) (held_of (running_of place self)) (store_in self.base) c later
+        ensures keeps { (c : Checkpoint) (later : List Batch) (before : Doing) (line : List ℕ)
+            → Holds (D.history disk.old) (plan_in place.head) (held_of (running_of place self)) (store_in self.base) c later
             → before.state ≡ state_in self.base → on_line before line ≡ Goes (text_of (doing_of place self)) (behind_batch (doing_of place self))
-            → Keeps (PassesTurns (Line line ∷ []) before (held_of (running_of place self))) (plan_in place.head) (D.history disk.old) (D.history disk.new) (K.given out.old) (K.given out.new) }
+            → Keeps (PassesTurns (Line line ∷ []) before (held_of (running_of place self))) (plan_in place.head) (D.history disk.old) (D.history disk.new)
+            (K.given out.old) (K.given out.new) }
 
-        // The state behind it is held by the script that goes on.
-        ensures stays { (first : ℕ) → HoldsScript first (D.history disk.old) (running_of place self) → IfOk result (Stays first (D.history disk.new) (running_of place self)) }
-        ensures held { (first : ℕ) → HoldsScript first (D.history disk.old) (running_of place self) → (before : Doing) → before.state ≡ state_in self.base → IfOk result (λ next. held_of next ≡ held_then (held_of (running_of place self)) before next.doing) }
+        // It leaves just what stood there, or that with the batch in the log, or what stands behind the line.
+        ensures left { (first : ℕ) (saved : Saved) → HoldsScript first saved (D.history disk.old) (running_of place self)
+            → (before : Doing) (line : List ℕ) → before.state ≡ state_in self.base → before.calls ≡ self.calls.items
+            → on_line before line ≡ Goes (text_of (doing_of place self)) (behind_batch (doing_of place self))
+            → LeavesAll (D.history disk.old) (D.history disk.new) (IsLeft (checkpoint_in self.base) (Line line ∷ []) before saved) }
+
+        // The state behind it is held by the script that goes on, by the last checkpoint that was due.
+        ensures stays { (first : ℕ) (saved : Saved) → HoldsScript first saved (D.history disk.old) (running_of place self)
+            → (before : Doing) → before.state ≡ state_in self.base → before.calls ≡ self.calls.items
+            → IfOk result (λ next. Stays first (saved_then (checkpoint_in self.base) saved before next.doing) (D.history disk.new)
+            (running_of place self) next) }
+        ensures held { (first : ℕ) (saved : Saved) → HoldsScript first saved (D.history disk.old) (running_of place self)
+            → (before : Doing) → before.state ≡ state_in self.base
+            → IfOk result (λ next. held_of next ≡ held_then (held_of (running_of place self)) before next.doing) }
         ensures store { store_in self.base ≡ None → IfOk result (λ script. script.store ≡ None) }
         ensures untouched { store_in self.base ≡ None → disk.new ≡ disk.old }
         ensures sink { K.faults out.old ≤ K.faults out.new }
         ensures disk { IfOk result (λ _. (D.history disk.old).faults ≤ (D.history disk.new).faults) }
-        ensures cause { IfErr result (λ stop. IsCause stop (Rose (K.faults out.old) (K.faults out.new)) (IsSomeAnd (store_in self.base) (λ _. Rose (D.history disk.old).faults (D.history disk.new).faults))) }
+        ensures cause { IfErr result (λ stop. IsCause stop (Rose (K.faults out.old) (K.faults out.new))
+            (IsSomeAnd (store_in self.base) (λ _. Rose (D.history disk.old).faults (D.history disk.new).faults))) }
     {
         let Work {
             calls,

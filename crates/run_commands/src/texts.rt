@@ -11,7 +11,10 @@ ghost use Rattle.run_commands.specs.Keeps.{IsOpen, Keeps, LeavesLaid, held_of};
 ghost use Rattle.run_commands.specs.Onces.{on_end, on_line};
 ghost use Rattle.run_commands.specs.Outs.{no_line, text_turns};
 ghost use Rattle.run_commands.specs.Passes.{PassesTurns, held_behind};
-ghost use Rattle.run_commands.specs.Turns.{HoldsScript};
+ghost use Rattle.run_commands.specs.Saves.{IsLeft};
+ghost use Rattle.run_commands.specs.Turns.{HoldsScript, saved_over};
+ghost use Rattle.disk_model.specs.Histories.{LeavesAll};
+ghost use Rattle.store_openings.specs.Saved.{Saved};
 ghost use Rattle.script_places.specs.Places.{plan_in};
 
 use crate::ends::end_of;
@@ -35,17 +38,26 @@ pub(crate) fn run_text<S: Source, K: Sink, D: Disk, P: Pace + Sync, R: Threads +
     pace: &P,
 ) -> Result<u8, Stop>
     requires open { IsOpen (D.history disk.old) start }
-    ensures completes { Completes (told on_line no_line start.doing) (whole on_line (on_end drains) no_line start.doing) (S.left input.old) (S.left input.new) (K.given out.old) (K.given out.new) result }
+    ensures completes { Completes (told on_line no_line start.doing) (whole on_line (on_end drains) no_line start.doing) (S.left input.old)
+        (S.left input.new) (K.given out.old) (K.given out.new) result }
     ensures zero { IfOk result (λ status. status ≡ DONE) }
     ensures end { IfOk result (λ _. IsAtEnd (S.left input.new)) }
 
     // Over a store: what a stop at any moment leaves, and what the disk holds behind all of it.
-    ensures keeps { (first : ℕ) → HoldsScript first (D.history disk.old) start → IfSome (S.left input.old) (λ text. Keeps (PassesTurns (text_turns drains start.doing text) start.doing (held_of start)) (plan_in start.doing.place.head) (D.history disk.old) (D.history disk.new) (K.given out.old) (K.given out.new)) }
-    ensures laid { (first : ℕ) → HoldsScript first (D.history disk.old) start → (result ≡ Ok DONE) ⊎ (result ≡ Err stop.Refused) → IfSome (S.left input.old) (λ text. LeavesLaid first start.checkpoint (D.history disk.new) (plan_in start.doing.place.head) (held_behind (text_turns drains start.doing text) start.doing (held_of start))) }
+    ensures keeps { (first : ℕ) (saved : Saved) → HoldsScript first saved (D.history disk.old) start
+        → IfSome (S.left input.old) (λ text. Keeps (PassesTurns (text_turns drains start.doing text) start.doing (held_of start))
+        (plan_in start.doing.place.head) (D.history disk.old) (D.history disk.new) (K.given out.old) (K.given out.new)) }
+    ensures left { (first : ℕ) (saved : Saved) → HoldsScript first saved (D.history disk.old) start
+        → IfSome (S.left input.old) (λ text. LeavesAll (D.history disk.old) (D.history disk.new)
+        (IsLeft start.checkpoint (text_turns drains start.doing text) start.doing saved)) }
+    ensures laid { (first : ℕ) (saved : Saved) → HoldsScript first saved (D.history disk.old) start → (result ≡ Ok DONE) ⊎ (result ≡ Err stop.Refused)
+        → IfSome (S.left input.old) (λ text. LeavesLaid first (saved_over (text_turns drains start.doing text) start saved) start.checkpoint
+        (D.history disk.new) (plan_in start.doing.place.head) (held_behind (text_turns drains start.doing text) start.doing (held_of start))) }
     ensures untouched { start.store ≡ None → disk.new ≡ disk.old }
     ensures source { S.faults input.old ≤ S.faults input.new }
     ensures sink { K.faults out.old ≤ K.faults out.new }
-    ensures cause { IfErr result (λ stop. IsReadCause stop (Rose (S.faults input.old) (S.faults input.new)) (Rose (K.faults out.old) (K.faults out.new)) (IsSomeAnd start.store (λ _. Rose (D.history disk.old).faults (D.history disk.new).faults))) }
+    ensures cause { IfErr result (λ stop. IsReadCause stop (Rose (S.faults input.old) (S.faults input.new))
+        (Rose (K.faults out.old) (K.faults out.new)) (IsSomeAnd start.store (λ _. Rose (D.history disk.old).faults (D.history disk.new).faults))) }
 {
     match read_script(rt, alloc, start, input, out, disk, pace) {
         Ok(last) => end_of(rt, alloc, last, drains, out, disk, pace),

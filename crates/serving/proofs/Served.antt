@@ -8,7 +8,7 @@ use Rattle.aria_base.specs.Streams.{AppendsFront}
 use Rattle.aria_base.specs.declared.calls.Call.{Call}
 use Rattle.batch_core.specs.Steps.{State}
 use Rattle.batch_engine.specs.Engines.{Between, state_in}
-use Rattle.disk_model.specs.Histories.{History, LeavesAll}
+use Rattle.disk_model.specs.Histories.{History, LeavesAll, MayLeave}
 use Rattle.disk_model.proofs.Spans.{leaves_more, leaves_still, leaves_then, still_none}
 use Rattle.image_text.specs.Payloads.{Batch}
 use Rattle.proc_lang.specs.Catalogs.{Plan}
@@ -18,12 +18,12 @@ use Rattle.aria_store.specs.Stands.{Kept, MayAdd, Stands, added}
 use Rattle.serving.specs.Deliveries.{IsUntold, Tells}
 use Rattle.serving.specs.Lives.{IsNext, MayServe, next_handed, next_state, plan_of, state_of}
 use Rattle.input_log.specs.declared.limits.TheConstants.{MOST_LOG}
-use Rattle.serving.specs.Stored.{GoesOn, HasTaken, Holds, HoldsTurned, IsHeld, IsLogging, LeavesState, MayRenew, MayTurn, ReopensTo, ReopensToEither, due_by, is_due, is_stale, logged, next_due, stored_state, told_by, turned, turned_by}
+use Rattle.serving.specs.Stored.{GoesOn, HasTaken, Holds, HoldsTurned, IsHeld, IsLogging, MayRenew, MayTurn, ReopensBy, ReopensOnWay, due_by, is_due, is_stale, logged, next_due, stored_state, told_by, turned, turned_by}
 use Rattle.serving.specs.declared.batches.Delivery.{Delivery}
 use Rattle.serving.specs.declared.batches.Delivery.TheVariants as delivery
 use Rattle.serving.specs.declared.lives.Live.{Live}
 use Rattle.serving.proofs.Nexts.{plan_is, state_is}
-use Rattle.serving.proofs.Storing.{held_leaves, log_held, log_leaves, may_add}
+use Rattle.serving.proofs.Storing.{held_left, log_held, log_leaves, may_add}
 
 -- ---- the first engine stands for the database
 
@@ -92,6 +92,9 @@ module _ (live mid next : Live) (calls : List Call) (log : mid ≡ logged live c
   to_live : (P : Plan → State → Type 0) → P (plan_of next) (state_of next) → P (plan_of live) (next_state live calls)
   to_live P p = subst (λ (state : State). P (plan_of live) state) own.state (subst (λ (plan : Plan). P plan (state_of next)) own.plan p)
 
+  due_next : due_by next.checkpoint (state_of next).batches next.store ≡ next_due live calls
+  due_next = λ i. due_by (own.checkpoint i) (own.state i).batches (store_next i)
+
   module _ (after : Live) (turn : after ≡ record next {
     store =
         turned_by (due_by next.checkpoint (state_of next).batches next.store) (state_of next) next.store;
@@ -100,9 +103,6 @@ module _ (live mid next : Live) (calls : List Call) (log : mid ≡ logged live c
     next_after = subst (λ (l : Live). IsNext live calls l) (sym turn)
         (next_with live calls next (turned_by (due_by next.checkpoint (state_of next).batches next.store) (state_of next) next.store)
         (next_logged live calls next own))
-
-    due_next : due_by next.checkpoint (state_of next).batches next.store ≡ next_due live calls
-    due_next = λ i. due_by (own.checkpoint i) (own.state i).batches (store_next i)
 
     module _ (old log_disk new : History) (c : Checkpoint) (later : List Batch)
         (logs : Holds old (plan_of live) (stored_state live) live.store c later
@@ -125,20 +125,28 @@ module _ (live mid next : Live) (calls : List Call) (log : mid ≡ logged live c
       (logs : Holds old (plan_of live) (stored_state live) live.store c later
       → Holds log_disk (plan_of live) (next_state live calls) mid.store c (added later live.config.rule live.config.fallback calls))
       (turns : Holds log_disk (plan_of next) (state_of next) next.store c (added later live.config.rule live.config.fallback calls)
-      → LeavesAll log_disk new (ReopensTo (plan_of next) (state_of next)))
+      → LeavesAll log_disk new (ReopensBy (due_by next.checkpoint (state_of next).batches next.store) c
+      (added later live.config.rule live.config.fallback calls) (plan_of next) (state_of next)))
       (h : Holds old (plan_of live) (stored_state live) live.store c later) where
-    turned_leaves : LeavesAll log_disk new (ReopensTo (plan_of live) (next_state live calls))
-    turned_leaves = to_live (λ plan state. LeavesAll log_disk new (ReopensTo plan state))
-        (turns (to_next (λ plan state store. Holds log_disk plan state store c (added later live.config.rule live.config.fallback calls)) (logs h)))
+    abbrev More : List Batch
+    More = added later live.config.rule live.config.fallback calls
 
-    pub images_after : LeavesAll old log_disk (ReopensToEither (plan_of live) (stored_state live) (next_state live calls))
-        → LeavesAll old new (ReopensToEither (plan_of live) (stored_state live) (next_state live calls))
+    turned_leaves : LeavesAll log_disk new (ReopensBy (next_due live calls) c More (plan_of live) (next_state live calls))
+    turned_leaves =
+        subst (λ (due : Bool). LeavesAll log_disk new (ReopensBy due c More (plan_of live) (next_state live calls))) due_next
+        (to_live (λ plan state. LeavesAll log_disk new (ReopensBy (due_by next.checkpoint (state_of next).batches next.store) c More plan state))
+        (turns (to_next (λ plan state store. Holds log_disk plan state store c More) (logs h))))
+
+    pub images_after : LeavesAll old log_disk (ReopensOnWay (next_due live calls) c later More (plan_of live) (stored_state live) (next_state live calls))
+        → LeavesAll old new (ReopensOnWay (next_due live calls) c later More (plan_of live) (stored_state live) (next_state live calls))
     images_after before =
-        leaves_then old log_disk new (ReopensToEither (plan_of live) (stored_state live) (next_state live calls)) before
-        (leaves_more log_disk new (ReopensTo (plan_of live) (next_state live calls))
-        (ReopensToEither (plan_of live) (stored_state live) (next_state live calls)) turned_leaves (λ images is_after. inr is_after))
+        leaves_then old log_disk new (ReopensOnWay (next_due live calls) c later More (plan_of live) (stored_state live) (next_state live calls)) before
+        (leaves_more log_disk new (ReopensBy (next_due live calls) c More (plan_of live) (next_state live calls))
+        (ReopensOnWay (next_due live calls) c later More (plan_of live) (stored_state live) (next_state live calls)) turned_leaves
+        (λ images is_after. inr is_after))
 
-    pub left_after : LeavesState new (plan_of live) (next_state live calls)
+    pub left_after : (images : ℕ → List ℕ) → MayLeave new new.now images
+        → ReopensBy (next_due live calls) c More (plan_of live) (next_state live calls) images
     left_after images left = turned_leaves.each new.now turned_leaves.later (omega arith) images left
 
 -- ---- the batch in the log
@@ -159,13 +167,15 @@ module _ (live : Live) (calls : List Call) (may : MayServe live calls) (store : 
   logged_holds new now stands =
       log_held old (plan_of live) (state_of live) store (next_handed live calls) c later here may.room new now (stands here.stands may_here)
 
-  pub logged_leaves : (new : History)
+  pub logged_leaves : (due : Bool) (new : History)
       → (Stands old store c later → MayAdd catalog (length calls) c later
       → LeavesAll old new (λ images. Reopens images (Found c later) ⊎ Reopens images (Found c (added later live.config.rule live.config.fallback calls))))
-      → LeavesAll old new (ReopensToEither (plan_of live) (stored_state live) (next_state live calls))
-  logged_leaves new all =
-      subst (λ (s : Option Kept). LeavesAll old new (ReopensToEither (plan_of live) (told_by s (state_of live)) (next_state live calls))) (sym is)
-      (log_leaves old (plan_of live) (state_of live) store (next_handed live calls) c later here may.room new (all here.stands may_here))
+      → LeavesAll old new (ReopensOnWay due c later (added later live.config.rule live.config.fallback calls) (plan_of live) (stored_state live)
+      (next_state live calls))
+  logged_leaves due new all =
+      subst (λ (s : Option Kept). LeavesAll old new (ReopensOnWay due c later (added later live.config.rule live.config.fallback calls) (plan_of live)
+      (told_by s (state_of live)) (next_state live calls))) (sym is)
+      (log_leaves old (plan_of live) (state_of live) store (next_handed live calls) c later here may.room due new (all here.stands may_here))
 
 -- a database with a store may log where its store goes on
 pub open_store : (live : Live) (store : Kept) → live.store ≡ Some store → (disk : History) → IsLogging disk live → store.files.closed ≡ None
@@ -174,10 +184,10 @@ open_store live store is disk h =
     goes.open_yet
 
 -- what is held is what a stop now leaves
-pub holds_leaves : (disk : History) (plan : Plan) (state : State) (store : Option Kept) (c : Checkpoint) (later : List Batch)
-    → Holds disk plan state store c later → LeavesState disk plan state
-holds_leaves disk plan state None c later h = absurd h
-holds_leaves disk plan state (Some store) c later h = held_leaves disk plan state store c later h
+pub holds_left : (due : Bool) (disk : History) (plan : Plan) (state : State) (store : Option Kept) (c : Checkpoint) (later : List Batch)
+    → Holds disk plan state store c later → (images : ℕ → List ℕ) → MayLeave disk disk.now images → ReopensBy due c later plan state images
+holds_left due disk plan state None c later h = absurd h
+holds_left due disk plan state (Some store) c later h = λ images left. inl (held_left disk plan state store c later h images left)
 
 -- ---- when a store can take no batch as it is
 
@@ -203,13 +213,24 @@ fresh_of format at off (inl one) =
     absurd (cc no)
 fresh_of format at off (inr two) = (two, grind (arith, nat_tests, (none_of (format == 1) (nat_lt MOST_LOG at) off).1))
 
+-- where none is due, so much the more
+pub way_more : (old new : History) (due : Bool) (c : Checkpoint) (later more : List Batch) (plan : Plan) (before after : State)
+    → LeavesAll old new (ReopensOnWay false c later more plan before after) → LeavesAll old new (ReopensOnWay due c later more plan before after)
+way_more old new due c later more plan before after all =
+    leaves_more old new (ReopensOnWay false c later more plan before after) (ReopensOnWay due c later more plan before after) all one
+  where
+    one : (images : ℕ → List ℕ) → ReopensOnWay false c later more plan before after images → ReopensOnWay due c later more plan before after images
+    one images (inl h) = inl h
+    one images (inr (inl h)) = inr (inl h)
+    one images (inr (inr h)) = absurd (let no : false ≡ true = h.0 in cc)
+
 -- ---- where no call is made, and where a checkpoint is laid
 
-pub still_leaves : (disk : History) (plan : Plan) (state : State) (store : Option Kept) (c : Checkpoint) (later : List Batch)
+pub still_leaves : (due : Bool) (disk : History) (plan : Plan) (state : State) (store : Option Kept) (c : Checkpoint) (later : List Batch)
     → Holds disk plan state store c later
-    → LeavesAll disk disk (ReopensTo plan state)
-still_leaves disk plan state store c later h =
-    leaves_still disk disk (ReopensTo plan state) (still_none disk) (holds_leaves disk plan state store c later h)
+    → LeavesAll disk disk (ReopensBy due c later plan state)
+still_leaves due disk plan state store c later h =
+    leaves_still disk disk (ReopensBy due c later plan state) (still_none disk) (holds_left due disk plan state store c later h)
 
 module _ (live : Live) (store : Kept) (is : live.store ≡ Some store) where
   own_renew : (disk : History) → IfSome live.store (MayRenew disk (state_of live).batches) → MayRenew disk (state_of live).batches store
@@ -248,13 +269,15 @@ module _ (live : Live) (first : Between) (e : slice_get live.replicas 0 ≡ Some
       ap (λ (s : Option Kept). with_store live s) (ap (λ (k : Kept). Some k) h ∙ sym (λ i. turned_by (on i) (same i) (is i)))
   turned_is (Err why) now due on h = tt
 
-  pub turned_images : (old new : History) (c : Checkpoint) (later : List Batch)
-      → (IsHeld old first.plan (state_in live.config first) store c later → LeavesAll old new (ReopensTo first.plan (state_in live.config first)))
-      → Holds old (plan_of live) (state_of live) live.store c later → LeavesAll old new (ReopensTo (plan_of live) (state_of live))
-  turned_images old new c later all h =
-      first_is live first e (λ plan state. LeavesAll old new (ReopensTo plan state))
+  pub turned_images : (due : Bool) → due ≡ true → (old new : History) (c : Checkpoint) (later : List Batch)
+      → (IsHeld old first.plan (state_in live.config first) store c later
+      → LeavesAll old new (ReopensBy true c later first.plan (state_in live.config first)))
+      → Holds old (plan_of live) (state_of live) live.store c later → LeavesAll old new (ReopensBy due c later (plan_of live) (state_of live))
+  turned_images due on old new c later all h =
+      subst (λ (b : Bool). LeavesAll old new (ReopensBy b c later (plan_of live) (state_of live))) (sym on)
+      (first_is live first e (λ plan state. LeavesAll old new (ReopensBy true c later plan state))
       (all (of_first live first e (λ plan state. IsHeld old plan state store c later)
-      (subst (λ (s : Option Kept). Holds old (plan_of live) (state_of live) s c later) is h)))
+      (subst (λ (s : Option Kept). Holds old (plan_of live) (state_of live) s c later) is h))))
 
   count : (state_of live).batches ≡ first.batches
   count = ap (λ (s : State). s.batches) (state_is live.config live.replicas first e)

@@ -11,7 +11,7 @@ use Rattle.batch_engine.specs.Engines.{Between, IsReady, state_in}
 use Rattle.batch_rules.specs.Trees.{Tree}
 use Rattle.checkpoint.specs.declared.heads.Head.{Head}
 use Rattle.dep_rules.specs.declared.configs.Config.{Config}
-use Rattle.disk_model.specs.Histories.{History, LeavesAll}
+use Rattle.disk_model.specs.Histories.{History, LeavesAll, MayLeave}
 use Rattle.disk_model.proofs.Spans.{leaves_more}
 use Rattle.image_text.specs.Payloads.{Batch}
 use Rattle.proc_lang.specs.Catalogs.{Plan, run_of}
@@ -21,7 +21,8 @@ use Rattle.aria_store.specs.Records.{requests_after}
 use Rattle.aria_store.specs.Reopens.{Reopens, Found}
 use Rattle.aria_store.specs.Stands.{Kept, Stands, MayAdd, next_checkpoint}
 use Rattle.aria_store.proofs.Founds.{found_now}
-use Rattle.serving.specs.Stored.{IsHeld, LeavesState, ReopensTo, ReopensToEither, batch_of, crowded, crowded_from, handed_in, is_crowded, state_at, state_behind, told_by}
+use Rattle.store_files.specs.Stores.{next_head}
+use Rattle.serving.specs.Stored.{IsHeld, LeavesState, ReopensAs, ReopensBy, ReopensOnWay, ReopensTo, ReopensToEither, batch_of, crowded, crowded_from, handed_in, is_crowded, laid_behind, state_at, state_behind, told_by}
 
 -- ---- batches behind a checkpoint
 
@@ -57,12 +58,31 @@ roomy_added plan place state (first ∷ later) batch none room =
 
 -- ---- what is held is what is found
 
+-- files that are just that are the text of its state
+pub as_state : (c : Checkpoint) (later : List Batch) (plan : Plan) (state : State) (images : ℕ → List ℕ) → ReopensAs c later plan state images
+    → ReopensTo plan state images
+as_state c later plan state images h =
+    record { c = c; later = later; reopens = h.reopens; roomy = h.roomy; plan_is = h.plan_is; state_is = h.state_is }
+
+pub by_state : (due : Bool) (c : Checkpoint) (later : List Batch) (plan : Plan) (state : State) (images : ℕ → List ℕ)
+    → ReopensBy due c later plan state images → ReopensTo plan state images
+by_state due c later plan state images (inl h) = as_state c later plan state images h
+by_state due c later plan state images (inr h) = as_state (laid_behind c state) [] plan state images h.1
+
+pub way_states : (due : Bool) (c : Checkpoint) (later more : List Batch) (plan : Plan) (before after : State) (images : ℕ → List ℕ)
+    → ReopensOnWay due c later more plan before after images → ReopensToEither plan before after images
+way_states due c later more plan before after images (inl h) = inl (as_state c later plan before images h)
+way_states due c later more plan before after images (inr h) = inr (by_state due c more plan after images h)
+
 module _ (disk : History) (plan : Plan) (state : State) (store : Kept) (c : Checkpoint) (later : List Batch) (h : IsHeld disk plan state store c later) where
-  pub held_reopens : (images : ℕ → List ℕ) → Reopens images (Found c later) → ReopensTo plan state images
-  held_reopens images found = record { c = c; later = later; reopens = found; roomy = h.roomy; plan_is = h.plan_is; state_is = h.state_is }
+  pub held_reopens : (images : ℕ → List ℕ) → Reopens images (Found c later) → ReopensAs c later plan state images
+  held_reopens images found = record { reopens = found; roomy = h.roomy; plan_is = h.plan_is; state_is = h.state_is }
+
+  pub held_left : (images : ℕ → List ℕ) → MayLeave disk disk.now images → ReopensAs c later plan state images
+  held_left images left = held_reopens images (found_now disk store c later h.stands images left)
 
   pub held_leaves : LeavesState disk plan state
-  held_leaves images left = held_reopens images (found_now disk store c later h.stands images left)
+  held_leaves images left = as_state c later plan state images (held_left images left)
 
 -- ---- a batch more
 
@@ -103,22 +123,16 @@ module _ (old : History) (plan : Plan) (state : State) (store : Kept) (handed : 
       → IsHeld new plan After now c (later ++ batch_of handed ∷ [])
   log_held room new now stands = record { stands = stands; roomy = added_roomy room; plan_is = h.plan_is; state_is = added_state }
 
-  pub log_leaves : Room → (new : History) → LeavesAll old new
-      (λ images. Reopens images (Found c later) ⊎ Reopens images (Found c (later ++ batch_of handed ∷ [])))
-      → LeavesAll old new (ReopensToEither plan (told_by (Some store) state) After)
-  log_leaves room new all =
-      leaves_more old new (λ images. Reopens images (Found c later) ⊎ Reopens images (Found c (later ++ batch_of handed ∷ [])))
-      (ReopensToEither plan (told_by (Some store) state) After) all (λ images either. elim either [
+  abbrev Added : List Batch
+  Added = later ++ batch_of handed ∷ []
+
+  pub log_leaves : Room → (due : Bool) (new : History) → LeavesAll old new (λ images. Reopens images (Found c later) ⊎ Reopens images (Found c Added))
+      → LeavesAll old new (ReopensOnWay due c later Added plan (told_by (Some store) state) After)
+  log_leaves room due new all =
+      leaves_more old new (λ images. Reopens images (Found c later) ⊎ Reopens images (Found c Added))
+      (ReopensOnWay due c later Added plan (told_by (Some store) state) After) all (λ images either. elim either [
         | inl was ↦ inl (held_reopens old plan (told_by (Some store) state) store c later h images was)
-        | inr is ↦ inr (record {
-          c = c;
-          later = later ++ batch_of handed ∷ [];
-          reopens = is;
-          roomy = added_roomy room;
-          plan_is = h.plan_is;
-          state_is =
-              added_state;
-        })
+        | inr is ↦ inr (inl (record { reopens = is; roomy = added_roomy room; plan_is = h.plan_is; state_is = added_state }))
       ])
 
 -- ---- the next checkpoint
@@ -145,12 +159,22 @@ module _ (was : Kept) (engine : Between) (config : Config) (plan : Plan) (rows :
   pub rotate_held : (new : History) (now : Kept) → Stands new now Next [] → (d : Checkpoint) × IsHeld new engine.plan (state_in config engine) now d []
   rotate_held new now stands = (Next, record { stands = stands; roomy = refl; plan_is = p; state_is = next_state_is })
 
+  next_is : (c : Checkpoint) → was.files.head ≡ c.head → c.plan ≡ engine.plan → Next ≡ laid_behind c (state_in config engine)
+  next_is c head under = λ i. record {
+    head = next_head (head i) config.rule config.fallback (b i) (q i);
+    plan = (p ∙ sym under) i;
+    rows = r i;
+    held = k i;
+  }
+
   pub rotate_leaves : (old new : History) (c : Checkpoint) (later : List Batch) → IsHeld old engine.plan (state_in config engine) was c later
       → LeavesAll old new (λ images. Reopens images (Found c later) ⊎ Reopens images (Found Next []))
-      → LeavesAll old new (ReopensTo engine.plan (state_in config engine))
+      → LeavesAll old new (ReopensBy true c later engine.plan (state_in config engine))
   rotate_leaves old new c later h all =
-      leaves_more old new (λ images. Reopens images (Found c later) ⊎ Reopens images (Found Next [])) (ReopensTo engine.plan (state_in config engine)) all
+      leaves_more old new (λ images. Reopens images (Found c later) ⊎ Reopens images (Found Next []))
+      (ReopensBy true c later engine.plan (state_in config engine)) all
       (λ images either. elim either [
-        | inl was_there ↦ held_reopens old engine.plan (state_in config engine) was c later h images was_there
-        | inr is ↦ record { c = Next; later = []; reopens = is; roomy = refl; plan_is = p; state_is = next_state_is }
+        | inl was_there ↦ inl (held_reopens old engine.plan (state_in config engine) was c later h images was_there)
+        | inr is ↦ inr (refl, subst (λ (d : Checkpoint). ReopensAs d [] engine.plan (state_in config engine) images) (next_is c h.stands.known.head h.plan_is)
+            (record { reopens = is; roomy = refl; plan_is = p; state_is = next_state_is }))
       ])

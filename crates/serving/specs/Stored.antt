@@ -9,7 +9,7 @@ use Rattle.disk_model.specs.Histories.{History, MayLeave}
 use Rattle.image_text.specs.Exactly.{line_of_call}
 use Rattle.image_text.specs.Payloads.{Batch, payload_text}
 use Rattle.proc_lang.specs.Catalogs.{Plan, run_of}
-use Rattle.slot_images.specs.Images.{Checkpoint}
+use Rattle.slot_images.specs.Images.{Checkpoint, checkpoint_of}
 use Rattle.store_files.specs.Stores.{Rests, next_head}
 use Rattle.aria_store.specs.Reopens.{Reopens, Found}
 use Rattle.aria_store.specs.Stands.{Kept, Stands, new_store, with_batch}
@@ -64,6 +64,23 @@ pub record ReopensTo (plan : Plan) (state : State) (images : ℕ → List ℕ) :
   pub roomy : crowded c later ≡ None
   pub plan_is : c.plan ≡ plan
   pub state_is : state_behind c later ≡ state
+
+-- they are just this checkpoint with these batches behind it
+pub record ReopensAs (c : Checkpoint) (later : List Batch) (plan : Plan) (state : State) (images : ℕ → List ℕ) : Type 0 where
+  pub reopens : Reopens images (Found c later)
+  pub roomy : crowded c later ≡ None
+  pub plan_is : c.plan ≡ plan
+  pub state_is : state_behind c later ≡ state
+
+-- the next checkpoint behind this one: that of this state
+abbrev pub laid_behind : Checkpoint → State → Checkpoint
+laid_behind c state =
+    checkpoint_of (next_head c.head state.rule state.percent state.batches state.requests) (c.plan, state.rows, state.waiting)
+
+-- that, or where one is due the next checkpoint of the state with no batches behind it
+abbrev pub ReopensBy : Bool → Checkpoint → List Batch → Plan → State → (ℕ → List ℕ) → Type 0
+ReopensBy due c later plan state images =
+    ReopensAs c later plan state images ⊎ ((due ≡ true) × ReopensAs (laid_behind c state) [] plan state images)
 
 -- This checkpoint with these batches behind it, which all have room, stands on the disk, and is this state under this catalogue.
 pub record IsHeld (disk : History) (plan : Plan) (state : State) (store : Kept) (c : Checkpoint) (later : List Batch) : Type 0 where
@@ -185,6 +202,11 @@ next_store live calls = turned_by (next_due live calls) (next_state live calls) 
 abbrev pub HoldsTurned : Bool → History → Plan → State → Option Kept → Checkpoint → List Batch → Type 0
 HoldsTurned true disk plan state store c later = (d : Checkpoint) × Holds disk plan state store d []
 HoldsTurned false disk plan state store c later = Holds disk plan state store c later
+
+-- these four files are the checkpoint with its batches from before, or with those of the state after; or, where one is due, the next
+-- checkpoint of that state
+abbrev pub ReopensOnWay : Bool → Checkpoint → List Batch → List Batch → Plan → State → State → (ℕ → List ℕ) → Type 0
+ReopensOnWay due c later more plan before after images = ReopensAs c later plan before images ⊎ ReopensBy due c more plan after images
 
 -- these four files are the text of the state before, or of the one after
 abbrev pub ReopensToEither : Plan → State → State → (ℕ → List ℕ) → Type 0

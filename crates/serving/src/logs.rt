@@ -1,5 +1,5 @@
 // A batch in the log of the store, before it is run.
-ghost use Rattle.std.specs.Prelude.{◌≡◌, ◌≤◌, ◌<◌, ◌+◌, None, true, List, length, IfErr, IfSome, IsOk, OnOk};
+ghost use Rattle.std.specs.Prelude.{false, ◌≡◌, ◌≤◌, ◌<◌, ◌+◌, None, true, List, length, IfErr, IfSome, IsOk, OnOk};
 ghost use Rattle.std.specs.List.{All};
 ghost use Rattle.aria_base.specs.Faults.{Rose};
 ghost use Rattle.aria_base.specs.declared.limits.TheConstants.{GREATEST_NUMBER, MOST_REQUESTS};
@@ -12,7 +12,7 @@ ghost use Rattle.slot_images.specs.Images.{Checkpoint};
 ghost use Rattle.aria_store.specs.Stands.{added};
 ghost use Rattle.serving.specs.Deliveries.{IsUntold, IsFor, IsOfWriting};
 ghost use Rattle.serving.specs.Lives.{MayServe, next_state, plan_of};
-ghost use Rattle.serving.specs.Stored.{MayLog, Holds, ReopensToEither, HasTaken, logged, stored_state};
+ghost use Rattle.serving.specs.Stored.{MayLog, Holds, ReopensOnWay, HasTaken, logged, stored_state};
 
 use crate::batches::Delivery;
 use crate::lives::Live;
@@ -33,7 +33,9 @@ pub(crate) fn log_batch<D: Disk>(
     ensures logged { OnOk result (live.new ≡ logged live.old calls.now) }
     ensures taken { OnOk result (IfSome live.new.store (HasTaken (D.history disk.new) (next_state live.old calls.now).batches)) }
     ensures holds { OnOk result ((c : Checkpoint) (later : List Batch) → Holds (D.history disk.old) (plan_of live.old) (stored_state live.old) live.old.store c later → Holds (D.history disk.new) (plan_of live.old) (next_state live.old calls.now) live.new.store c (added later live.old.config.rule live.old.config.fallback calls.now)) }
-    ensures images { (c : Checkpoint) (later : List Batch) → Holds (D.history disk.old) (plan_of live.old) (stored_state live.old) live.old.store c later → LeavesAll (D.history disk.old) (D.history disk.new) (ReopensToEither (plan_of live.old) (stored_state live.old) (next_state live.old calls.now)) }
+    ensures images { (c : Checkpoint) (later : List Batch) → Holds (D.history disk.old) (plan_of live.old) (stored_state live.old) live.old.store c later
+        → LeavesAll (D.history disk.old) (D.history disk.new) (ReopensOnWay false c later (added later live.old.config.rule live.old.config.fallback calls.now)
+        (plan_of live.old) (stored_state live.old) (next_state live.old calls.now)) }
     ensures untouched { live.old.store ≡ None → disk.new ≡ disk.old }
     ensures storeless { live.old.store ≡ None → IsOk result }
     ensures disk { OnOk result ((D.history disk.old).faults ≤ (D.history disk.new).faults) }

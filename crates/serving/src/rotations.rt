@@ -1,5 +1,5 @@
 // The next checkpoint, where one is due: behind a batch, or before the first one.
-ghost use Rattle.std.specs.Prelude.{◌≡◌, ◌≤◌, None, true, [], List, IfErr, IfSome, IsOk, OnOk};
+ghost use Rattle.std.specs.Prelude.{◌≡◌, ◌≤◌, None, true, false, [], List, IfErr, IfSome, IsOk, OnOk};
 ghost use Rattle.aria_base.specs.Faults.{Rose};
 ghost use Rattle.aria_base.specs.declared.limits.TheConstants.{GREATEST_NUMBER, MOST_PERCENT};
 ghost use Rattle.batch_engine.specs.Engines.{state_in};
@@ -8,7 +8,7 @@ ghost use Rattle.image_text.specs.Payloads.{Batch};
 ghost use Rattle.slot_images.specs.Images.{Checkpoint};
 ghost use Rattle.serving.specs.Deliveries.{IsUntold};
 ghost use Rattle.serving.specs.Lives.{IsRunnable, plan_of, state_of};
-ghost use Rattle.serving.specs.Stored.{Holds, HoldsTurned, IsHeld, IsLogging, GoesOn, HasTaken, MayRenew, MayTurn, ReopensTo, due_by, is_due, is_stale, stale_by, turned, turned_by};
+ghost use Rattle.serving.specs.Stored.{Holds, HoldsTurned, IsHeld, IsLogging, GoesOn, HasTaken, MayRenew, MayTurn, ReopensBy, due_by, is_due, is_stale, stale_by, turned, turned_by};
 
 use crate::batches::Delivery;
 use crate::lives::Live;
@@ -33,7 +33,9 @@ pub(crate) fn rotate_where_due<D: Disk>(
     ensures turned { OnOk result (live.new ≡ record live.old { store = turned_by (due_by live.old.checkpoint (state_of live.old).batches live.old.store) (state_of live.old) live.old.store }) }
     ensures logging { OnOk result (IsLogging (D.history disk.new) live.new) }
     ensures holds { OnOk result ((c : Checkpoint) (later : List Batch) → Holds (D.history disk.old) (plan_of live.old) (state_of live.old) live.old.store c later → HoldsTurned (due_by live.old.checkpoint (state_of live.old).batches live.old.store) (D.history disk.new) (plan_of live.old) (state_of live.old) live.new.store c later) }
-    ensures images { (c : Checkpoint) (later : List Batch) → Holds (D.history disk.old) (plan_of live.old) (state_of live.old) live.old.store c later → LeavesAll (D.history disk.old) (D.history disk.new) (ReopensTo (plan_of live.old) (state_of live.old)) }
+    ensures images { (c : Checkpoint) (later : List Batch) → Holds (D.history disk.old) (plan_of live.old) (state_of live.old) live.old.store c later
+        → LeavesAll (D.history disk.old) (D.history disk.new) (ReopensBy (due_by live.old.checkpoint (state_of live.old).batches live.old.store) c later
+        (plan_of live.old) (state_of live.old)) }
     ensures untouched { live.old.store ≡ None → disk.new ≡ disk.old }
     ensures storeless { live.old.store ≡ None → IsOk result }
     ensures disk { OnOk result ((D.history disk.old).faults ≤ (D.history disk.new).faults) }
@@ -63,9 +65,12 @@ pub fn renew_where_stale<D: Disk>(
     ensures logging { OnOk result (IsLogging (D.history disk.new) live.new) }
     ensures holds { OnOk result ((c : Checkpoint) (later : List Batch) → Holds (D.history disk.old) (plan_of live.old) (state_of live.old) live.old.store c later → HoldsTurned (stale_by live.old.store) (D.history disk.new) (plan_of live.old) (state_of live.old) live.new.store c later) }
 
-    // A stop at any moment leaves this state.
-    ensures images { (c : Checkpoint) (later : List Batch) → Holds (D.history disk.old) (plan_of live.old) (state_of live.old) live.old.store c later → LeavesAll (D.history disk.old) (D.history disk.new) (ReopensTo (plan_of live.old) (state_of live.old)) }
-    ensures untouched { live.old.store ≡ None → disk.new ≡ disk.old }
+    // A stop at any moment leaves what stood there, or the next checkpoint of this state.
+    ensures images { (c : Checkpoint) (later : List Batch) → Holds (D.history disk.old) (plan_of live.old) (state_of live.old) live.old.store c later
+        → LeavesAll (D.history disk.old) (D.history disk.new) (ReopensBy (stale_by live.old.store) c later (plan_of live.old) (state_of live.old)) }
+
+    // A store that takes the next batch as it is stays untouched.
+    ensures untouched { stale_by live.old.store ≡ false → disk.new ≡ disk.old }
     ensures disk { OnOk result ((D.history disk.old).faults ≤ (D.history disk.new).faults) }
     ensures cause { IfErr result (λ why. IsUntold why ⊥ (Rose (D.history disk.old).faults (D.history disk.new).faults)) }
 {
@@ -105,7 +110,8 @@ fn rotate<D: Disk>(
     ensures turned { OnOk result (store.new ≡ turned true (state_in config.now engine.now) store.old) }
     ensures goes_on { OnOk result (GoesOn (D.history disk.new) engine.now.batches store.new) }
     ensures holds { OnOk result ((d : Checkpoint) × IsHeld (D.history disk.new) engine.now.plan (state_in config.now engine.now) store.new d []) }
-    ensures images { (c : Checkpoint) (later : List Batch) → IsHeld (D.history disk.old) engine.now.plan (state_in config.now engine.now) store.old c later → LeavesAll (D.history disk.old) (D.history disk.new) (ReopensTo engine.now.plan (state_in config.now engine.now)) }
+    ensures images { (c : Checkpoint) (later : List Batch) → IsHeld (D.history disk.old) engine.now.plan (state_in config.now engine.now) store.old c later
+        → LeavesAll (D.history disk.old) (D.history disk.new) (ReopensBy true c later engine.now.plan (state_in config.now engine.now)) }
     ensures disk { OnOk result ((D.history disk.old).faults ≤ (D.history disk.new).faults) }
     ensures cause { IfErr result (λ why. IsUntold why ⊥ (Rose (D.history disk.old).faults (D.history disk.new).faults)) }
 {

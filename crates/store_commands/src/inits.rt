@@ -41,7 +41,8 @@ pub fn init<S: Source, K: Sink, D: Disk>(
     // of it was printed, and where the source failed, nothing. Where that output says that no store is made,
     // every image meanwhile is one from before, whatever the answer is. Where it says that one is made, and
     // a byte of it was given, the store is made, whatever the answer is.
-    ensures inits { Inits settings.now (D.history disk.old) (D.history disk.new) (S.left input.old) (S.left input.new) (K.given out.old) (K.given out.new) result }
+    ensures inits { Inits settings.now (D.history disk.old) (D.history disk.new) (S.left input.old) (S.left input.new) (K.given out.old)
+        (K.given out.new) result }
 
     // What the disk holds.
     ensures made { result ≡ Ok status.DONE → IsMade settings.now (S.left input.old) (D.history disk.new) }
@@ -57,7 +58,8 @@ pub fn init<S: Source, K: Sink, D: Disk>(
     // Each stop for a fault has its cause.
     ensures source { S.faults input.old ≤ S.faults input.new }
     ensures sink { K.faults out.old ≤ K.faults out.new }
-    ensures cause { IfErr result (λ stop. IsReadCause stop (Rose (S.faults input.old) (S.faults input.new)) (Rose (K.faults out.old) (K.faults out.new)) (Rose (D.history disk.old).faults (D.history disk.new).faults)) }
+    ensures cause { IfErr result (λ stop. IsReadCause stop (Rose (S.faults input.old) (S.faults input.new))
+        (Rose (K.faults out.old) (K.faults out.new)) (Rose (D.history disk.old).faults (D.history disk.new).faults)) }
 {
     let Ok(start) = Draft::start(alloc) else {
         return Err(Stop::NoMemory);
@@ -86,14 +88,16 @@ fn close<K: Sink, D: Disk>(
 ) -> Result<u8, Stop>
     requires fallback { settings.now.fallback ≤ MOST_PERCENT }
     requires fitting { IsFitting last }
-    ensures ends { Ends (λ taken. on_end settings.now taken last) (IsSomeAnd (values_by last (closing last.place)) (λ values. IsMadeOf settings.now values (D.history disk.new))) (D.history disk.old) (D.history disk.new) (K.given out.old) (K.given out.new) result }
+    ensures ends { Ends (λ taken. on_end settings.now taken last) (IsSomeAnd (values_by last (closing last.place))
+        (λ values. IsMadeOf settings.now values (D.history disk.new))) (D.history disk.old) (D.history disk.new) (K.given out.old) (K.given out.new) result }
     ensures made { result ≡ Ok status.DONE → IsSomeAnd (values_by last (closing last.place)) (λ values. IsMadeOf settings.now values (D.history disk.new)) }
     ensures leaves { Leaves D.history disk.old disk.new result }
     ensures ungiven { IsUngiven (K.given out.old) (K.given out.new) result }
     ensures status { IfOk result (λ ending. (ending ≡ status.DONE) ⊎ (ending ≡ status.STORE_REFUSED)) }
     ensures read { result ≢ Err stop.NoRead }
     ensures sink { K.faults out.old ≤ K.faults out.new }
-    ensures cause { IfErr result (λ stop. IsCause stop (Rose (K.faults out.old) (K.faults out.new)) (Rose (D.history disk.old).faults (D.history disk.new).faults)) }
+    ensures cause { IfErr result (λ stop. IsCause stop (Rose (K.faults out.old) (K.faults out.new))
+        (Rose (D.history disk.old).faults (D.history disk.new).faults)) }
 {
     closes();
     let Draft { place, tables } = last;
@@ -115,14 +119,16 @@ fn make<K: Sink, D: Disk>(
 ) -> Result<u8, Stop>
     requires fallback { settings.now.fallback ≤ MOST_PERCENT }
     requires rows { IsConsistent (plan_in head).tables tables }
-    ensures ends { Ends (store_out settings.now) (IsMadeOf settings.now (plan_in head, tables) (D.history disk.new)) (D.history disk.old) (D.history disk.new) (K.given out.old) (K.given out.new) result }
+    ensures ends { Ends (store_out settings.now) (IsMadeOf settings.now (plan_in head, tables) (D.history disk.new)) (D.history disk.old)
+        (D.history disk.new) (K.given out.old) (K.given out.new) result }
     ensures made { result ≡ Ok status.DONE → IsMadeOf settings.now (plan_in head, tables) (D.history disk.new) }
     ensures leaves { Leaves D.history disk.old disk.new result }
     ensures ungiven { IsUngiven (K.given out.old) (K.given out.new) result }
     ensures status { IfOk result (λ ending. (ending ≡ status.DONE) ⊎ (ending ≡ status.STORE_REFUSED)) }
     ensures read { result ≢ Err stop.NoRead }
     ensures sink { K.faults out.old ≤ K.faults out.new }
-    ensures cause { IfErr result (λ stop. IsCause stop (Rose (K.faults out.old) (K.faults out.new)) (Rose (D.history disk.old).faults (D.history disk.new).faults)) }
+    ensures cause { IfErr result (λ stop. IsCause stop (Rose (K.faults out.old) (K.faults out.new))
+        (Rose (D.history disk.old).faults (D.history disk.new).faults)) }
 {
     let image = first_image(alloc, settings, head, tables);
     match Store::create(alloc, disk, settings.over, &image) {

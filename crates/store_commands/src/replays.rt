@@ -51,7 +51,8 @@ pub fn replay<K: Sink, D: Disk, P: Pace + Sync, R: Threads + Sync>(
 
     // What is printed is the output of what the files read as; where it was cut off, a prefix of it. Neither
     // workers nor replicas have a say in it.
-    ensures output { (images : ℕ → List ℕ) (found : Reopened) → ReadsAs (D.history disk.old) images → Reopens images found → Finishes (out_of settings.now images found) (K.given out.old) (K.given out.new) result }
+    ensures output { (images : ℕ → List ℕ) (found : Reopened) → ReadsAs (D.history disk.old) images → Reopens images found
+        → Finishes (out_of settings.now images found) (K.given out.old) (K.given out.new) result }
 
     // A stop at any moment leaves what one could have left before.
     ensures images { LeavesAll (D.history disk.old) (D.history disk.new) (MayLeave (D.history disk.old) (D.history disk.old).now) }
@@ -61,7 +62,8 @@ pub fn replay<K: Sink, D: Disk, P: Pace + Sync, R: Threads + Sync>(
 
     // Each stop for a fault has its cause.
     ensures sink { K.faults out.old ≤ K.faults out.new }
-    ensures cause { IfErr result (λ stop. IsCause stop (Rose (K.faults out.old) (K.faults out.new)) (Rose (D.history disk.old).faults (D.history disk.new).faults)) }
+    ensures cause { IfErr result (λ stop. IsCause stop (Rose (K.faults out.old) (K.faults out.new))
+        (Rose (D.history disk.old).faults (D.history disk.new).faults)) }
 {
     match Store::attach(alloc, disk) {
         Ok((_, found)) => replay_found(rt, alloc, settings, found, out, disk, pace),
@@ -84,13 +86,16 @@ fn replay_found<K: Sink, D: Disk, P: Pace + Sync, R: Threads + Sync>(
     requires fallback { found.image.fallback ≤ MOST_PERCENT }
     requires ready { IsReady found.image.catalog found.image.tables found.image.held.items found.image.batches found.image.requests }
     requires fit { AreRunnable found.image.catalog found.image.batches found.image.requests (batches_in found.later.items) }
-    ensures output { (bytes : List ℕ) → IsSomeAnd (current (D.history disk.old) (log_in (checkpoint_in found.image))) (λ f. f.seen ≡ bytes) → Finishes (replayed found.image.catalog (is_each settings.now.listing) (crowded_out (log_in (checkpoint_in found.image)) bytes) 0 (state_at (checkpoint_in found.image)) (batches_in found.later.items)) (K.given out.old) (K.given out.new) result }
+    ensures output { (bytes : List ℕ) → IsSomeAnd (current (D.history disk.old) (log_in (checkpoint_in found.image))) (λ f. f.seen ≡ bytes)
+        → Finishes (replayed found.image.catalog (is_each settings.now.listing) (crowded_out (log_in (checkpoint_in found.image)) bytes) 0
+        (state_at (checkpoint_in found.image)) (batches_in found.later.items)) (K.given out.old) (K.given out.new) result }
     ensures still { Still (D.history disk.old) (D.history disk.new) }
     ensures status { IfOk result (λ ending. (ending ≡ status.DONE) ⊎ (ending ≡ status.STORE_REFUSED)) }
     ensures read { result ≢ Err stop.NoRead }
     ensures refused { result ≢ Err stop.Refused }
     ensures sink { K.faults out.old ≤ K.faults out.new }
-    ensures cause { IfErr result (λ stop. IsCause stop (Rose (K.faults out.old) (K.faults out.new)) (Rose (D.history disk.old).faults (D.history disk.new).faults)) }
+    ensures cause { IfErr result (λ stop. IsCause stop (Rose (K.faults out.old) (K.faults out.new))
+        (Rose (D.history disk.old).faults (D.history disk.new).faults)) }
 {
     let Found { image, later } = found;
     let log = log_of(&image);
@@ -129,13 +134,16 @@ fn replay_later<K: Sink, D: Disk, P: Pace + Sync, R: Threads + Sync>(
     requires log { log < 4 }
     requires runnable { IsRunnable start }
     requires fit { AreRunnable (plan_of start) (state_of start).batches (state_of start).requests (batches_in later.items) }
-    ensures output { (bytes : List ℕ) → IsSomeAnd (current (D.history disk.old) log) (λ f. f.seen ≡ bytes) → Finishes (replayed (plan_of start) start.each (crowded_out log bytes) 0 (state_of start) (batches_in later.items)) (K.given out.old) (K.given out.new) result }
+    ensures output { (bytes : List ℕ) → IsSomeAnd (current (D.history disk.old) log) (λ f. f.seen ≡ bytes)
+        → Finishes (replayed (plan_of start) start.each (crowded_out log bytes) 0 (state_of start) (batches_in later.items)) (K.given out.old)
+        (K.given out.new) result }
     ensures still { Still (D.history disk.old) (D.history disk.new) }
     ensures status { IfOk result (λ ending. (ending ≡ status.DONE) ⊎ (ending ≡ status.STORE_REFUSED)) }
     ensures read { result ≢ Err stop.NoRead }
     ensures refused { result ≢ Err stop.Refused }
     ensures sink { K.faults out.old ≤ K.faults out.new }
-    ensures cause { IfErr result (λ stop. IsCause stop (Rose (K.faults out.old) (K.faults out.new)) (Rose (D.history disk.old).faults (D.history disk.new).faults)) }
+    ensures cause { IfErr result (λ stop. IsCause stop (Rose (K.faults out.old) (K.faults out.new))
+        (Rose (D.history disk.old).faults (D.history disk.new).faults)) }
 {
     match answer_all(rt, alloc, start, later, out, pace) {
         Ok(live) => list(alloc, &live, out),
@@ -171,13 +179,15 @@ fn tell_crowded<K: Sink, D: Disk>(
     disk: &mut D,
 ) -> Result<u8, Stop>
     requires { log < 4 }
-    ensures output { (bytes : List ℕ) → IsSomeAnd (current (D.history disk.old) log) (λ f. f.seen ≡ bytes) → Finishes (crowded_out log bytes place) (K.given out.old) (K.given out.new) result }
+    ensures output { (bytes : List ℕ) → IsSomeAnd (current (D.history disk.old) log) (λ f. f.seen ≡ bytes)
+        → Finishes (crowded_out log bytes place) (K.given out.old) (K.given out.new) result }
     ensures still { Still (D.history disk.old) (D.history disk.new) }
     ensures status { IfOk result (λ ending. (ending ≡ status.DONE) ⊎ (ending ≡ status.STORE_REFUSED)) }
     ensures read { result ≢ Err stop.NoRead }
     ensures refused { result ≢ Err stop.Refused }
     ensures sink { K.faults out.old ≤ K.faults out.new }
-    ensures cause { IfErr result (λ stop. IsCause stop (Rose (K.faults out.old) (K.faults out.new)) (Rose (D.history disk.old).faults (D.history disk.new).faults)) }
+    ensures cause { IfErr result (λ stop. IsCause stop (Rose (K.faults out.old) (K.faults out.new))
+        (Rose (D.history disk.old).faults (D.history disk.new).faults)) }
 {
     match damage_at(alloc, disk, log, place) {
         NotOpened::Damaged { file, at } => tell_damage(alloc, file, at, out),

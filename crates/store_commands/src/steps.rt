@@ -43,8 +43,10 @@ pub(crate) fn answer<K: Sink, P: Pace + Sync, R: Threads + Sync>(
     ensures stepped { IfOk result (IsStepped live (batch_in logged)) }
 
     // Its answer was given, and where it was cut off, a prefix of it.
-    ensures given { IfOk result (λ _. Appends (K.given out.old) (K.given out.new) (batch_text (plan_of live) live.each (state_of live) (handed_in (batch_in logged)))) }
-    ensures front { IfErr result (λ _. AppendsFront (K.given out.old) (K.given out.new) (batch_text (plan_of live) live.each (state_of live) (handed_in (batch_in logged)))) }
+    ensures given { IfOk result (λ _. Appends (K.given out.old) (K.given out.new)
+        (batch_text (plan_of live) live.each (state_of live) (handed_in (batch_in logged)))) }
+    ensures front { IfErr result (λ _. AppendsFront (K.given out.old) (K.given out.new)
+        (batch_text (plan_of live) live.each (state_of live) (handed_in (batch_in logged)))) }
     ensures cut { IfErr result IsCut }
     ensures sink { K.faults out.old ≤ K.faults out.new }
     ensures cause { IfErr result (λ stop. IsCause stop (Rose (K.faults out.old) (K.faults out.new)) ⊥) }

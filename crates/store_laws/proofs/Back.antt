@@ -13,10 +13,9 @@ use Rattle.script_places.specs.declared.heads.Head.TheVariants as head
 use Rattle.script_text.specs.Lines.{last_line, scan}
 use Rattle.script_text.specs.declared.refusals.Refusal.{Refusal}
 use Rattle.serving.specs.Lives.{no_plan}
-use Rattle.run_commands.proofs.Overs.{over}
 use Rattle.run_commands.specs.Onces.{Doing, on_end, on_line}
 use Rattle.run_commands.specs.Outs.{is_each, no_line}
-use Rattle.run_commands.specs.Passes.{Line, last, on_turn}
+use Rattle.run_commands.specs.Passes.{Line, last, on_turn, over}
 use Rattle.run_commands.specs.Resumes.{resumed}
 use Rattle.script_course.specs.declared.readings.TheConstants.{MOST_BYTES}
 use Rattle.store_commands.specs.Drafts as drafts

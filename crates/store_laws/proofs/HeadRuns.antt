@@ -19,12 +19,11 @@ use Rattle.script_text.specs.declared.refusals.RefusalKind.{RefusalKind}
 use Rattle.script_text.specs.declared.refusals.RefusalKind.TheVariants as kind
 use Rattle.script_text.specs.declared.refusals.Refusal.{Refusal}
 use Rattle.serving.specs.Lives.{no_plan}
-use Rattle.run_commands.proofs.Overs.{onward, over}
 use Rattle.run_commands.proofs.Turns.{not_both}
 use Rattle.run_commands.specs.Onces.{Doing}
 use Rattle.run_commands.specs.Onces as onces
 use Rattle.run_commands.specs.Outs.{no_line}
-use Rattle.run_commands.specs.Passes.{Line, Turn, on_turn}
+use Rattle.run_commands.specs.Passes.{Line, Turn, on_turn, onward, over}
 use Rattle.resume_laws.specs.Resumptions.{answers, answers_by}
 use Rattle.store_commands.specs.Drafts.{done, done_by, no_counts, on_line, read_of, said_by, start, values_by, values_of}
 use Rattle.store_commands.specs.declared.drafts.Draft.{Draft}

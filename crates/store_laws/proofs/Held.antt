@@ -15,12 +15,12 @@ use Rattle.script_text.specs.Lines.{scan}
 use Rattle.script_text.specs.declared.refusals.RefusalKind.{RefusalKind}
 use Rattle.run_commands.proofs.Whole.{whole_over}
 use Rattle.run_commands.proofs.Endings.{held_after, held_listed}
-use Rattle.run_commands.proofs.Overs.{IfGoes, onward, over}
+use Rattle.run_commands.proofs.Overs.{IfGoes}
 use Rattle.run_commands.proofs.Turns.{held_goes, not_both}
 use Rattle.run_commands.specs.Bases.{counts_of}
 use Rattle.run_commands.specs.Onces.{Doing, behind_batch, done, done_by, on_line, with_call, with_settings, without_calls}
 use Rattle.run_commands.specs.Outs.{no_line}
-use Rattle.run_commands.specs.Passes.{Close, Line, Turn, ending, ending_behind, held_behind, held_by_step, held_over, held_then, on_close, on_turn}
+use Rattle.run_commands.specs.Passes.{Close, Line, Turn, ending, ending_behind, held_behind, held_by_step, held_over, held_then, on_close, on_turn, onward, over}
 use Rattle.run_commands.specs.Resumes.{held_over_all}
 use Rattle.store_laws.proofs.Joint.{right_text, turns_lines}
 use Rattle.store_laws.proofs.Ended.{goes_behind, same_state}

@@ -17,11 +17,10 @@ use Rattle.script_text.specs.Laws.{all_lines}
 use Rattle.script_text.specs.Lines.{Scan, last_line, scan}
 use Rattle.script_text.specs.declared.refusals.Refusal.{Refusal}
 use Rattle.serving.specs.Lives.{no_plan}
-use Rattle.run_commands.proofs.Overs.{over}
 use Rattle.run_commands.proofs.Whole.{whole_over}
 use Rattle.run_commands.specs.Onces.{Doing, on_end, on_line}
 use Rattle.run_commands.specs.Outs.{is_each, no_line, start_of}
-use Rattle.run_commands.specs.Passes.{Line, Turn, last, on_turn, past, turns_whole}
+use Rattle.run_commands.specs.Passes.{Line, Turn, last, on_turn, over, past, turns_whole}
 use Rattle.run_commands.specs.Resumes.{resumed}
 use Rattle.script_course.specs.declared.readings.TheConstants.{MOST_BYTES}
 use Rattle.resume_laws.specs.Resumptions.{answers, answers_of, run_from}

@@ -14,10 +14,9 @@ use Rattle.script_text.specs.Lines.{line_after}
 use Rattle.script_text.specs.declared.items.Item.TheVariants as item
 use Rattle.script_text.specs.declared.refusals.RefusalKind.{RefusalKind}
 use Rattle.serving.specs.Lives.{no_plan}
-use Rattle.run_commands.proofs.Overs.{onward, over}
 use Rattle.run_commands.specs.Bases.{counts_of}
 use Rattle.run_commands.specs.Onces.{Doing, done, done_by, on_line}
-use Rattle.run_commands.specs.Passes.{Line, on_turn}
+use Rattle.run_commands.specs.Passes.{Line, on_turn, onward, over}
 use Rattle.store_laws.proofs.Behind.{Gives, IsNamed, before_batches, begins, begins_not, behind_head, first_asked, first_refused, once_skip, run_refuses, run_skip}
 use Rattle.store_laws.proofs.Ended.{runs_as}
 use Rattle.store_laws.proofs.ScriptRuns.{AreAsked, run_line}

@@ -12,11 +12,10 @@ use Rattle.script_text.specs.Forms.{said}
 use Rattle.script_text.specs.Lines.{line_after}
 use Rattle.script_text.specs.declared.items.Item.TheVariants as item
 use Rattle.serving.specs.Lives.{no_plan}
-use Rattle.run_commands.proofs.Overs.{onward, over}
 use Rattle.run_commands.proofs.Turns.{not_both}
 use Rattle.run_commands.specs.Bases.{counts_of}
 use Rattle.run_commands.specs.Onces.{Doing, done, done_by, on_line}
-use Rattle.run_commands.specs.Passes.{Line, on_turn}
+use Rattle.run_commands.specs.Passes.{Line, on_turn, onward, over}
 use Rattle.resume_laws.specs.Resumptions.{answers, answers_by}
 use Rattle.store_laws.proofs.Behind.{Gives, before_batches, begins, behind_head, first_asked, once_skip, run_skip}
 use Rattle.store_laws.proofs.Scripts.{IsAskedTo, as_run, batch_asked, in_batches}

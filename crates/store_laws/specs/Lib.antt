@@ -1,2 +1,3 @@
 pub mod OneRuns
 pub mod Texts
+pub mod Replies

@@ -1,4 +1,5 @@
 // The laws. Each is the contract of a function that does nothing, or only calls a law: a caller has it after the call.
+ghost use Rattle.store_laws.specs.Replies.{ReplayAnswers, ReplayPrintsRun, RunIsReplayed, RunWouldPrint, StopIsReplayed};
 ghost use Rattle.store_laws.specs.OneRuns.{FilesAreOneRun, LeftRunsOn, RunIsRight, ScriptIsOneRun, StoppedRunsAreOneRun};
 
 use resume_laws::every_stop_resumes;
@@ -49,4 +50,39 @@ pub fn stopped_runs_are_one_run()
 /// those of files, in whatever images.
 pub fn left_runs_on()
     ensures { LeftRunsOn }
+{}
+
+/// What `replay` prints of a store whose batches all have room is the answer of each batch behind the
+/// checkpoint, one after the other, and then the listing, where not each answer had one.
+pub fn replay_answers()
+    ensures { ReplayAnswers }
+{}
+
+/// Such an answer is, byte for byte, what `run` prints where that batch ends in its script, over the store as it
+/// was before that batch. Settings that no batch followed have no say.
+pub fn run_would_print()
+    ensures { RunWouldPrint }
+{}
+
+/// What `run` printed is what `replay` prints. Behind any first turns of a run, all of them or fewer, the batches
+/// behind the checkpoint that then stands have the answers that they had before the run, and those that these turns
+/// printed, each under its number and byte for byte; drained batches too. So an answer that `replay` does not print
+/// any more is of a batch that is in the checkpoint. The batch that is at work then has the answer of
+/// [`run_would_print`] as soon as it is in the log.
+pub fn run_is_replayed()
+    ensures { RunIsReplayed }
+{}
+
+/// So it is by the files. Where a script was read to its end or to a refused line, `replay` prints of whatever a
+/// stop then leaves just those answers, one after the other, and then the listing of what the run left.
+pub fn replay_prints_run()
+    ensures { ReplayPrintsRun }
+{}
+
+/// A run may be stopped at any moment, and every answer can still be had. Whatever of its store `run` says that a
+/// stop leaves, once it was opened, `replay` prints of it the answers from before and those that the run had printed
+/// to the end, as far as they are behind the checkpoint that stands; and where a batch is in the log that was not
+/// answered, or not to the end, the answer that the run was about to print.
+pub fn stop_is_replayed()
+    ensures { StopIsReplayed }
 {}

@@ -6,5 +6,6 @@
 mod laws;
 
 pub use laws::{
-    files_are_one_run, left_runs_on, run_is_right, script_is_one_run, stopped_runs_are_one_run,
+    files_are_one_run, left_runs_on, replay_answers, replay_prints_run, run_is_replayed,
+    run_is_right, run_would_print, script_is_one_run, stop_is_replayed, stopped_runs_are_one_run,
 };

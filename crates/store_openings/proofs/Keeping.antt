@@ -25,7 +25,7 @@ use Rattle.proc_lang.specs.declared.ends.End.{End}
 use Rattle.serving.proofs.Storing.{batches_behind}
 use Rattle.serving.specs.Deliveries.{IsUntold}
 use Rattle.serving.specs.Lives.{IsRunnable, plan_of, state_of}
-use Rattle.serving.specs.Stored.{Holds, HoldsTurned, IsHeld, IsLogging, MayRenew, ReopensTo, crowded, crowded_from, handed_in, is_stale, stale_by, state_at, state_behind, told_by, turned, turned_by}
+use Rattle.serving.specs.Stored.{Holds, HoldsTurned, IsHeld, IsLogging, MayRenew, ReopensBy, crowded, crowded_from, handed_in, is_stale, stale_by, state_at, state_behind, told_by, turned, turned_by}
 use Rattle.serving.specs.declared.batches.Delivery.{Delivery}
 use Rattle.serving.specs.declared.batches.Delivery.TheVariants as delivery
 use Rattle.serving.specs.declared.lives.Live.{Live}
@@ -120,11 +120,6 @@ runnable_with live store checkpoint r = record {
 turned_settings : (due : Bool) (store : Kept) (state : State) → told_by (Some store) state ≡ state → told_by (Some (turned due state store)) state ≡ state
 turned_settings true store state same = refl
 turned_settings false store state same = same
-
-pub turned_some : (due : Bool) (disk : History) (plan : Plan) (state : State) (store : Option Kept) (c : Checkpoint) (later : List Batch)
-    → HoldsTurned due disk plan state store c later → (d : Checkpoint) × (more : List Batch) × Holds disk plan state store d more
-turned_some true disk plan state store c later h = (h.0, [], h.1)
-turned_some false disk plan state store c later h = (c, later, h)
 
 module _ (live : Live) (store : Kept) (checkpoint : ℕ) where
   abbrev pub with_it : Live
@@ -234,6 +229,11 @@ err_more (Err e) more h = more e h
 
 -- ---- both
 
+by_true : (c : Checkpoint) (later : List Batch) (plan : Plan) (state : State) (images : ℕ → List ℕ) (due : Bool) → ReopensBy due c later plan state images
+    → ReopensBy true c later plan state images
+by_true c later plan state images due (inl h) = inl h
+by_true c later plan state images due (inr h) = inr (refl, h.1)
+
 pub opened_from : (disk : History) (engines : Engines) (c : Checkpoint) (later : List Batch) (live next : Live) → IsFoundAs engines c later live
     → IsWithStore disk engines.checkpoint live next → IsOpenedFrom disk engines c later next
 opened_from disk engines c later live next f k = record {
@@ -256,24 +256,13 @@ pub held_found : (disk : History) (store : Kept) (engines : Engines) (c : Checkp
     → Stands disk store c later → IsHeld disk (plan_of live) (state_of live) store c later
 held_found disk store engines c later live f stands = record { stands = stands; roomy = f.roomy; plan_is = sym f.plan; state_is = sym f.state }
 
--- what is held of the database is held of it with its store
-pub holds_kept : (disk kept_disk : History) (checkpoint : ℕ) (live next : Live) → IsWithStore kept_disk checkpoint live next
-    → (d : Checkpoint) × (more : List Batch) × Holds disk (plan_of live) (state_of live) next.store d more
-    → (d : Checkpoint) × (more : List Batch) × Holds disk (plan_of next) (state_of next) next.store d more
-holds_kept disk kept_disk checkpoint live next k h = (
-  h.0,
-  h.1,
-  subst (λ (plan : Plan). Holds disk plan (state_of next) next.store h.0 h.1) (sym k.plan)
-      (subst (λ (state : State). Holds disk (plan_of live) state next.store h.0 h.1) (sym k.state) h.2),
-)
-
-pub run_leaves : (old new : History) (engines : Engines) (c : Checkpoint) (later : List Batch) (live : Live) → IsFoundAs engines c later live
-    → LeavesAll old new (ReopensTo (plan_of live) (state_of live)) → LeavesAll old new (LeftOrRun old c later)
-run_leaves old new engines c later live f all =
-    leaves_more old new (ReopensTo (plan_of live) (state_of live)) (LeftOrRun old c later) all (λ images is. inr (
+pub run_leaves : (old new : History) (engines : Engines) (c : Checkpoint) (later : List Batch) (live : Live) (due : Bool) → IsFoundAs engines c later live
+    → LeavesAll old new (ReopensBy due c later (plan_of live) (state_of live)) → LeavesAll old new (LeftOrRun old c later)
+run_leaves old new engines c later live due f all =
+    leaves_more old new (ReopensBy due c later (plan_of live) (state_of live)) (LeftOrRun old c later) all (λ images is. inr (
       f.roomy,
-      subst (λ (plan : Plan). ReopensTo plan (state_behind c later) images) f.plan
-          (subst (λ (state : State). ReopensTo (plan_of live) state images) f.state is),
+      subst (λ (plan : Plan). ReopensBy true c later plan (state_behind c later) images) f.plan
+          (subst (λ (state : State). ReopensBy true c later (plan_of live) state images) f.state (by_true c later (plan_of live) (state_of live) images due is)),
     ))
 
 pub left_leaves : (old new : History) (c : Checkpoint) (later : List Batch) → Still old new → LeavesAll old new (LeftOrRun old c later)

@@ -2,3 +2,4 @@ pub mod Fits
 pub mod Ways
 pub mod Keeping
 pub mod Readings
+pub mod Savings

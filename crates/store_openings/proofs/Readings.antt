@@ -148,13 +148,12 @@ module _ (old disk new : History) (attach : LeavesAll old disk (MayLeave old old
   back : (images : ℕ → List ℕ) → MayLeave disk disk.now images → MayLeave old old.now images
   back images left = attach.each disk.now attach.later (omega arith) images left
 
+  pub looked_then : LeavesAll disk new (MayLeave disk disk.now) → LeavesAll old new (MayLeave old old.now)
+  looked_then rest = leaves_then old disk new (MayLeave old old.now) attach (leaves_more disk new (MayLeave disk disk.now) (MayLeave old old.now) rest back)
+
   pub unwritten_then : (why : NotOpened) → LeavesUnwritten disk new why → LeavesUnwritten old new why
-  unwritten_then refusal.NoStore all = both all
-    where
-      both : LeavesAll disk new (MayLeave disk disk.now) → LeavesAll old new (MayLeave old old.now)
-      both rest = leaves_then old disk new (MayLeave old old.now) attach (leaves_more disk new (MayLeave disk disk.now) (MayLeave old old.now) rest back)
-  unwritten_then (refusal.Damaged file at) all = leaves_then old disk new (MayLeave old old.now) attach
-      (leaves_more disk new (MayLeave disk disk.now) (MayLeave old old.now) all back)
+  unwritten_then refusal.NoStore all = looked_then all
+  unwritten_then (refusal.Damaged file at) all = looked_then all
   unwritten_then refusal.NoDisk all = tt
   unwritten_then refusal.NoMemory all = tt
 

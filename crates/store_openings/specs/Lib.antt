@@ -1,3 +1,4 @@
 pub mod Refusals
 pub mod Openings
 pub mod Runs
+pub mod Saved

@@ -11,7 +11,7 @@ use Rattle.input_log.specs.Layout.{Log, Ends, Breaks, log_of}
 use Rattle.input_log.specs.declared.logs.Payload.{Payload}
 use Rattle.proc_lang.specs.Catalogs.{Plan, run_of, takes}
 use Rattle.serving.specs.Lives.{plan_of, state_of}
-use Rattle.serving.specs.Stored.{ReopensTo, crowded, state_behind}
+use Rattle.serving.specs.Stored.{ReopensBy, crowded, state_behind}
 use Rattle.serving.specs.declared.lives.Live.{Live}
 use Rattle.slot_images.specs.Images.{Checkpoint}
 use Rattle.store_openings.specs.declared.refusals.NotOpened.{NotOpened}
@@ -74,11 +74,11 @@ IsOpenedAs NoStore live = ⊥
 IsOpenedAs (Damaged file at) live = ⊥
 IsOpenedAs (Found c later) live = (plan_of live ≡ c.plan) × (state_of live ≡ state_behind c later)
 
--- these four files are the text of what was opened
+-- these four files are just what was opened, or the next checkpoint behind it
 abbrev pub ReopensToOpened : Reopened → (ℕ → List ℕ) → Type 0
 ReopensToOpened NoStore images = ⊥
 ReopensToOpened (Damaged file at) images = ⊥
-ReopensToOpened (Found c later) images = ReopensTo c.plan (state_behind c later) images
+ReopensToOpened (Found c later) images = ReopensBy true c later c.plan (state_behind c later) images
 
 -- ---- refusals
 

@@ -1,5 +1,5 @@
 -- The steps by which a store is opened.
-use Rattle.std.specs.Prelude.{◌≡◌, ◌⊎◌, ℕ, ◌+◌, IsSome, List, length, map, None, Some, IfSome, ⊤}
+use Rattle.std.specs.Prelude.{◌≡◌, ◌⊎◌, ℕ, ◌+◌, IsSome, List, length, map, true, None, Some, IfSome, ⊤}
 use Rattle.aria_base.specs.Faults.{Rose}
 use Rattle.aria_store.specs.Stands.{Kept}
 use Rattle.batch_core.specs.Steps.{State, step, run}
@@ -10,11 +10,12 @@ use Rattle.image_text.specs.Payloads.{Batch}
 use Rattle.input_log.specs.Layout.{log_of}
 use Rattle.proc_lang.specs.Catalogs.{Plan, run_of}
 use Rattle.serving.specs.Lives.{IsRunnable, plan_of, state_of}
-use Rattle.serving.specs.Stored.{IsLogging, ReopensTo, crowded, crowded_from, handed_in, state_behind, stored_state, told_by}
+use Rattle.serving.specs.Stored.{IsLogging, ReopensBy, crowded, crowded_from, handed_in, state_behind, stored_state, told_by}
 use Rattle.serving.specs.declared.lives.Live.{Live}
 use Rattle.slot_images.specs.Images.{Checkpoint}
 use Rattle.store_files.specs.Stores.{Rests}
 use Rattle.store_openings.specs.Openings.{log_in, offset_in}
+use Rattle.store_openings.specs.Saved.{Saved}
 use Rattle.store_openings.specs.declared.engines.Engines.{Engines}
 use Rattle.store_openings.specs.declared.refusals.NotOpened.{NotOpened}
 use Rattle.store_openings.specs.declared.refusals.NotOpened.TheVariants as refusal
@@ -98,6 +99,10 @@ pub record IsStoreOf (disk : History) (store : Kept) (state : State) : Type 0 wh
   pub empty : store.files.batches ≡ 0 → store.files.at ≡ 0
   pub settings : told_by (Some store) state ≡ state
 
+-- what is known of a store that was attached
+abbrev pub saved_by : Kept → Checkpoint → List Batch → Saved
+saved_by store c later = record { c = c; later = later; bytes = store.files.at }
+
 -- the same database with a store, which may take a batch and holds its state
 pub record IsWithStore (disk : History) (checkpoint : ℕ) (before after : Live) : Type 0 where
   pub plan : plan_of after ≡ plan_of before
@@ -127,9 +132,9 @@ pub record IsOpenedFrom (disk : History) (engines : Engines) (c : Checkpoint) (l
   pub stored : IsSome live.store
   pub settings : stored_state live ≡ state_of live
 
--- these four files are the text of its state, all batches having room
+-- these four files are just that, all batches having room, or the next checkpoint behind it
 abbrev pub ReopensRun : Checkpoint → List Batch → (ℕ → List ℕ) → Type 0
-ReopensRun c later images = (crowded c later ≡ None) × ReopensTo c.plan (state_behind c later) images
+ReopensRun c later images = (crowded c later ≡ None) × ReopensBy true c later c.plan (state_behind c later) images
 
 abbrev pub LeftOrRun : History → Checkpoint → List Batch → (ℕ → List ℕ) → Type 0
 LeftOrRun old c later images = MayLeave old old.now images ⊎ ReopensRun c later images

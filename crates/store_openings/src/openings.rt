@@ -1,20 +1,21 @@
 // Opening a store.
-ghost use Rattle.std.specs.Prelude.{◌≡◌, ◌⊎◌, ℕ, ◌≤◌, ◌<◌, ◌%◌, List, IfOk, IfErr, IsSome, OnErr, length};
+ghost use Rattle.std.specs.Prelude.{◌≡◌, ◌⊎◌, ℕ, ◌≤◌, false, List, Some, IfOk, IfErr, IsSome, length};
 ghost use Rattle.aria_base.specs.Faults.{Rose};
 ghost use Rattle.aria_base.specs.declared.limits.TheConstants.{MOST_PERCENT, MOST_REPLICAS, MOST_WORKERS};
 ghost use Rattle.aria_store.specs.Records.{AreLater};
-ghost use Rattle.aria_store.specs.Reopens.{Reopens, Reopened};
-ghost use Rattle.aria_store.specs.Stands.{IsKnown, IsTold, Stands, batches_in};
+ghost use Rattle.aria_store.specs.Reopens.{Reopens, Reopened, Found as Holding};
+ghost use Rattle.aria_store.specs.Stands.{IsKnown, Stands, batches_in};
 ghost use Rattle.batch_engine.specs.Engines.{IsReady};
 ghost use Rattle.disk_model.specs.Histories.{LeavesAll, MayLeave, Still};
 ghost use Rattle.image_text.specs.Payloads.{Batch};
 ghost use Rattle.serving.specs.Lives.{IsRunnable, plan_of, state_of};
-ghost use Rattle.serving.specs.Stored.{Holds, IsHeld, IsLogging, ReopensTo, stored_state};
+ghost use Rattle.serving.specs.Stored.{HoldsTurned, IsHeld, IsLogging, ReopensBy, is_stale, stored_state, turned};
 ghost use Rattle.slot_images.specs.Images.{Checkpoint};
 ghost use Rattle.slot_images.specs.Said.{IsInOrder, checkpoint_in};
 ghost use Rattle.store_files.specs.Stores.{Rests, slot_in};
 ghost use Rattle.store_openings.specs.Openings.{AreRunnable, IsFaultOf, IsOpenedAs, IsRefusalOf, LeavesUnwritten, ReadsAs, ReopensToOpened, opened};
-ghost use Rattle.store_openings.specs.Runs.{IsFoundAs, IsNotFound, IsNotKept, IsNotRun, IsOpenedFrom, IsStoreOf, IsWithStore, LeftOrRun};
+ghost use Rattle.store_openings.specs.Runs.{IsFoundAs, IsNotFound, IsNotKept, IsNotRun, IsOpenedFrom, IsStoreOf, IsWithStore, LeftOrRun, saved_by};
+ghost use Rattle.store_openings.specs.Saved.{HoldsSaved, is_full, renewed, saved_in};
 
 use crate::damages::damage_at;
 use crate::engines::{Engines, begin, log_of};
@@ -46,8 +47,10 @@ pub fn open<D: Disk, P: Pace + Sync, R: Threads + Sync>(
     requires replicas { (1 ≤ engines.now.replicas) × (engines.now.replicas ≤ MOST_REPLICAS) }
 
     // By what a read of the four files gives: the database of it, and no store or damage exactly where it is that.
-    ensures opened { IfOk result (λ live. (images : ℕ → List ℕ) (found : Reopened) → ReadsAs (D.history disk.old) images → Reopens images found → IsOpenedAs (opened images found) live) }
-    ensures refused { IfErr result (λ why. (images : ℕ → List ℕ) (found : Reopened) → ReadsAs (D.history disk.old) images → Reopens images found → IsRefusalOf (opened images found) why) }
+    ensures opened { IfOk result (λ live. (images : ℕ → List ℕ) (found : Reopened) → ReadsAs (D.history disk.old) images → Reopens images found
+        → IsOpenedAs (opened images found) live) }
+    ensures refused { IfErr result (λ why. (images : ℕ → List ℕ) (found : Reopened) → ReadsAs (D.history disk.old) images → Reopens images found
+        → IsRefusalOf (opened images found) why) }
 
     // It may be served, and its store takes the next batch.
     ensures runnable { IfOk result IsRunnable }
@@ -59,12 +62,20 @@ pub fn open<D: Disk, P: Pace + Sync, R: Threads + Sync>(
     ensures count { IfOk result (λ live. length live.replicas ≡ engines.now.replicas) }
     ensures workers { IfOk result (λ live. live.config.workers ≡ engines.now.workers) }
 
-    // Its disk holds it, where the disk tells its files.
-    ensures holds { IfOk result (λ live. IsTold (D.history disk.old) → (c : Checkpoint) × (later : List Batch) × Holds (D.history disk.new) (plan_of live) (stored_state live) live.store c later) }
+    // Its disk holds the checkpoint and the batches that the files read as. Where the store took no batch as it
+    // was, it holds the next checkpoint.
+    ensures holds { IfOk result (λ live. (images : ℕ → List ℕ) (c : Checkpoint) (later : List Batch) → ReadsAs (D.history disk.old) images → Reopens images (Holding c later)
+        → HoldsSaved (D.history disk.new) (plan_of live) (stored_state live) live.store (renewed (saved_in images c later))) }
 
-    // A stop at any moment leaves what one could have left before, or what is opened as the same.
-    ensures images { (images : ℕ → List ℕ) (found : Reopened) → ReadsAs (D.history disk.old) images → Reopens images found → LeavesAll (D.history disk.old) (D.history disk.new) (λ left. MayLeave (D.history disk.old) (D.history disk.old).now left ⊎ ReopensToOpened (opened images found) left) }
+    // A stop at any moment leaves what one could have left before, or just what was opened, or the next checkpoint
+    // behind it.
+    ensures images { (images : ℕ → List ℕ) (found : Reopened) → ReadsAs (D.history disk.old) images → Reopens images found
+        → LeavesAll (D.history disk.old) (D.history disk.new) (λ left. MayLeave (D.history disk.old) (D.history disk.old).now left ⊎ ReopensToOpened (opened images found) left) }
     ensures unwritten { IfErr result (LeavesUnwritten (D.history disk.old) (D.history disk.new)) }
+
+    // Nothing is written to a store that takes the next batch as it is.
+    ensures fresh { (images : ℕ → List ℕ) (c : Checkpoint) (later : List Batch) → ReadsAs (D.history disk.old) images → Reopens images (Holding c later)
+        → is_full (saved_in images c later) ≡ false → LeavesAll (D.history disk.old) (D.history disk.new) (MayLeave (D.history disk.old) (D.history disk.old).now) }
     ensures disk { IfOk result (λ _. (D.history disk.old).faults ≤ (D.history disk.new).faults) }
     ensures cause { IfErr result (IsFaultOf (Rose (D.history disk.old).faults (D.history disk.new).faults)) }
 {
@@ -93,9 +104,12 @@ fn open_found<D: Disk, P: Pace + Sync, R: Threads + Sync>(
     requires open { store.files.closed ≡ None }
     requires empty { store.files.batches ≡ 0 → store.files.at ≡ 0 }
     ensures opened { IfOk result (IsOpenedFrom (D.history disk.new) engines.now (checkpoint_in found.image) (batches_in found.later.items)) }
-    ensures holds { IfOk result (λ live. Stands (D.history disk.old) store (checkpoint_in found.image) (batches_in found.later.items) → (c : Checkpoint) × (later : List Batch) × Holds (D.history disk.new) (plan_of live) (state_of live) live.store c later) }
-    ensures images { Stands (D.history disk.old) store (checkpoint_in found.image) (batches_in found.later.items) → LeavesAll (D.history disk.old) (D.history disk.new) (LeftOrRun (D.history disk.old) (checkpoint_in found.image) (batches_in found.later.items)) }
+    ensures holds { IfOk result (λ live. Stands (D.history disk.old) store (checkpoint_in found.image) (batches_in found.later.items)
+        → HoldsSaved (D.history disk.new) (plan_of live) (state_of live) live.store (renewed (saved_by store (checkpoint_in found.image) (batches_in found.later.items)))) }
+    ensures images { Stands (D.history disk.old) store (checkpoint_in found.image) (batches_in found.later.items)
+        → LeavesAll (D.history disk.old) (D.history disk.new) (LeftOrRun (D.history disk.old) (checkpoint_in found.image) (batches_in found.later.items)) }
     ensures unwritten { IfErr result (LeavesUnwritten (D.history disk.old) (D.history disk.new)) }
+    ensures fresh { is_stale store ≡ false → LeavesAll (D.history disk.old) (D.history disk.new) (MayLeave (D.history disk.old) (D.history disk.old).now) }
     ensures disk { IfOk result (λ _. (D.history disk.old).faults ≤ (D.history disk.new).faults) }
     ensures refused { IfErr result (IsNotFound (D.history disk.old) (D.history disk.new) store (checkpoint_in found.image) (batches_in found.later.items)) }
 {
@@ -148,8 +162,12 @@ fn keep_store<D: Disk>(
     requires runnable { IsRunnable live }
     requires store { IsStoreOf (D.history disk.old) store (state_of live) }
     ensures kept { IfOk result (IsWithStore (D.history disk.new) checkpoint live) }
-    ensures holds { IfOk result (λ next. (c : Checkpoint) (later : List Batch) → IsHeld (D.history disk.old) (plan_of live) (state_of live) store c later → (d : Checkpoint) × (more : List Batch) × Holds (D.history disk.new) (plan_of live) (state_of live) next.store d more) }
-    ensures images { (c : Checkpoint) (later : List Batch) → IsHeld (D.history disk.old) (plan_of live) (state_of live) store c later → LeavesAll (D.history disk.old) (D.history disk.new) (ReopensTo (plan_of live) (state_of live)) }
+    ensures store { IfOk result (λ next. next.store ≡ Some (turned (is_stale store) (state_of live) store)) }
+    ensures holds { IfOk result (λ next. (c : Checkpoint) (later : List Batch) → IsHeld (D.history disk.old) (plan_of live) (state_of live) store c later
+        → HoldsTurned (is_stale store) (D.history disk.new) (plan_of live) (state_of live) next.store c later) }
+    ensures images { (c : Checkpoint) (later : List Batch) → IsHeld (D.history disk.old) (plan_of live) (state_of live) store c later
+        → LeavesAll (D.history disk.old) (D.history disk.new) (ReopensBy (is_stale store) c later (plan_of live) (state_of live)) }
+    ensures untouched { is_stale store ≡ false → disk.new ≡ disk.old }
     ensures disk { IfOk result (λ _. (D.history disk.old).faults ≤ (D.history disk.new).faults) }
     ensures refused { IfErr result (IsNotKept (D.history disk.old) (D.history disk.new) store) }
 {

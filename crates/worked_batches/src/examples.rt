@@ -151,8 +151,8 @@ const EXAMPLES: [Example; 14] = [
     ),
 ];
 
-/// The settings of an example on so many workers.
-fn config_of(rt: &impl Abort, example: &Example, workers: u32) -> Config
+/// The settings of an example on so many workers, in one way or the other of running again what waits.
+fn config_of(rt: &impl Abort, example: &Example, workers: u32, batons: bool) -> Config
     requires { (1 ≤ workers) × (workers ≤ MOST_WORKERS) }
     ensures { (result.fallback ≤ MOST_PERCENT) × (1 ≤ result.workers) × (result.workers ≤ MOST_WORKERS) }
 {
@@ -162,7 +162,7 @@ fn config_of(rt: &impl Abort, example: &Example, workers: u32) -> Config
         rule,
         fallback,
         workers,
-        batons: false,
+        batons,
     }
 }
 
@@ -174,11 +174,18 @@ fn same_text(rt: &impl Abort, case: &Config, answers: &mut Vec<u8>, engine: &Eng
     same(rt, case, &found, &wanted);
 }
 
-/// Asserts that an engine on so many workers prints what the example does.
-fn engine_prints<R: Abort + Threads + Sync>(rt: &R, alloc: Global, example: &Example, workers: u32)
+/// Asserts that an engine on so many workers prints what the example does, whether what waits is run again in waves
+/// or by handed rows.
+fn engine_prints<R: Abort + Threads + Sync>(
+    rt: &R,
+    alloc: Global,
+    example: &Example,
+    workers: u32,
+    batons: bool,
+)
     requires { (1 ≤ workers) × (workers ≤ MOST_WORKERS) }
 {
-    let config = config_of(rt, example, workers);
+    let config = config_of(rt, example, workers, batons);
     let (accounts, batches, _, _, wanted) = *example;
     let mut engine = engine(rt, alloc, accounts);
     let mut answers = Vec::new(alloc);
@@ -193,7 +200,7 @@ fn engine_prints<R: Abort + Threads + Sync>(rt: &R, alloc: Global, example: &Exa
 
 /// Asserts that three replicas print what the example does, and that the rows of each are those.
 fn replicas_print<R: Abort + Threads + Sync>(rt: &R, alloc: Global, example: &Example) {
-    let config = config_of(rt, example, 2);
+    let config = config_of(rt, example, 2, true);
     let (accounts, batches, _, _, wanted) = *example;
     let mut replicas = replicas(rt, alloc, accounts, 3);
     let mut answers = Vec::new(alloc);
@@ -215,7 +222,9 @@ fn replicas_print<R: Abort + Threads + Sync>(rt: &R, alloc: Global, example: &Ex
 fn engines_print_what_was_worked_out(rt: HostRuntime) {
     for example in &EXAMPLES {
         for workers in [1, 2, 7_u32] {
-            engine_prints(&rt, rt.alloc(), example, workers);
+            for batons in [false, true] {
+                engine_prints(&rt, rt.alloc(), example, workers, batons);
+            }
         }
     }
 }

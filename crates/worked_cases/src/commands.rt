@@ -9,18 +9,22 @@ use std::thread::Threads;
 /// How many bytes a sink takes, more than any case prints.
 const ROOM: usize = 4_000_000;
 
-/// The commands that have workers and replicas.
+/// The commands that have workers, replicas and batons.
 const CREWED: [&str; 4] = ["once", "run", "replay", "bench"];
 
-/// How a case is run: how many bytes a source gives at a time, and how many workers and replicas there are.
+const BATONS: &str = "--batons";
+
+/// How a case is run: how many bytes a source gives at a time, how many workers and replicas there are, and
+/// whether what waits is run again by rows that are handed on.
 #[derive(Clone, Copy)]
 pub struct Way {
     pub piece: usize,
     pub workers: &'static str,
     pub replicas: &'static str,
+    pub batons: bool,
 }
 
-/// Whether the command of these words has workers and replicas.
+/// Whether the command of these words has workers, replicas and batons.
 pub fn is_crewed(words: &[String]) -> bool {
     match words.first() {
         Some(command) => CREWED.contains(&command.as_str()),
@@ -31,6 +35,19 @@ pub fn is_crewed(words: &[String]) -> bool {
 /// Whether an option stands among the words.
 fn has(words: &[String], option: &str) -> bool {
     words.iter().any(|word| word.as_str().starts_with(option))
+}
+
+/// Adds the flag where it is wanted and the words do not have it.
+fn add_batons(
+    alloc: Global,
+    words: &[String],
+    way: &Way,
+    all: &mut Vec<String>,
+) -> Result<(), Memory> {
+    if way.batons && is_crewed(words) && !has(words, BATONS) {
+        all.push(String::from_str(alloc, BATONS)?)?;
+    }
+    Ok(())
 }
 
 /// Adds an option with its value where the words do not have it.
@@ -48,7 +65,7 @@ fn add_option(
     Ok(())
 }
 
-/// The words, with the workers and the replicas behind the command that has them.
+/// The words, with the workers, the replicas and the flag behind the command that has them.
 fn words_in(alloc: Global, words: &[String], way: &Way) -> Result<Vec<String>, Memory> {
     let mut all = Vec::new(alloc);
     let mut is_command = true;
@@ -57,6 +74,7 @@ fn words_in(alloc: Global, words: &[String], way: &Way) -> Result<Vec<String>, M
         if is_command {
             add_option(alloc, words, "--workers", way.workers, &mut all)?;
             add_option(alloc, words, "--replicas", way.replicas, &mut all)?;
+            add_batons(alloc, words, way, &mut all)?;
         }
         is_command = false;
     }

@@ -11,8 +11,15 @@ use std::thread::Threads;
 /// How many bytes of an input come at a time.
 const PIECES: [usize; 3] = [1, 7, 4096];
 
-/// How many workers and replicas there are.
-const CREWS: [(&str, &str); 4] = [("1", "1"), ("1", "2"), ("3", "1"), ("3", "2")];
+/// How many workers and replicas there are, and whether what waits is run again by rows that are handed on.
+const CREWS: [(&str, &str, bool); 6] = [
+    ("1", "1", false),
+    ("1", "2", false),
+    ("3", "1", false),
+    ("3", "2", false),
+    ("1", "1", true),
+    ("3", "1", true),
+];
 
 /// Runs all cases of the folders of this folder and prints a line for each folder. It tells whether all went
 /// as they say.
@@ -110,13 +117,14 @@ fn run_ways<R: AllocGlobal + Eprint + Threads + Sync>(
 ) -> io::Result<bool> {
     let crewed = steps.iter().any(|step| is_crewed(&step.words));
     for piece in PIECES {
-        for (workers, replicas) in CREWS {
+        for (workers, replicas, batons) in CREWS {
             let way = Way {
                 piece,
                 workers,
                 replicas,
+                batons,
             };
-            let plain = workers == "1" && replicas == "1";
+            let plain = workers == "1" && replicas == "1" && !batons;
             if (plain || crewed) && !run_way(rt, path, steps, &way)? {
                 return Ok(false);
             }
@@ -143,12 +151,14 @@ fn run_way<R: AllocGlobal + Eprint + Threads + Sync>(
         piece,
         workers,
         replicas,
+        batons,
     } = *way;
+    let flag = if batons { " and batons" } else { "" };
     let step = fault.step;
     let line = fault.line;
     let what = fault.what.as_str();
     eprintln!(rt;
-        "{path}:{line}: step {step} with pieces of {piece}, {workers} workers and {replicas} replicas: {what}"
+        "{path}:{line}: step {step} with pieces of {piece}, {workers} workers, {replicas} replicas{flag}: {what}"
     )?;
     Ok(false)
 }

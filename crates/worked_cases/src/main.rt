@@ -2,9 +2,9 @@
 //!
 //! Each folder of `data/` is a topic, and each file in it a case: one step or several over one disk in
 //! memory. Each case is run through the top call of the database, with its input in pieces of 1, of 7 and of
-//! 4,096 bytes, on 1 and on 3 workers and on 1 and on 2 replicas where a command has these. Every byte that
-//! is printed is compared, the status, and what the case says of the files. CONTRIBUTING says how a case is
-//! written; `tools/run_cases.py` runs the same files against the built program.
+//! 4,096 bytes, on 1 and on 3 workers, on 1 and on 2 replicas and with `--batons` where a command has these.
+//! Every byte that is printed is compared, the status, and what the case says of the files. CONTRIBUTING
+//! says how a case is written; `tools/run_cases.py` runs the same files against the built program.
 //!
 //! ```text
 //! cases (Case, Step ..) <- contents (lines) <- readings (a file)     files (four of them), commands (a run)

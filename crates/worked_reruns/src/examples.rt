@@ -6,8 +6,9 @@ use crate::makings::{ADD, Again, COPY, HOP, SET, catalog, tables, waiting};
 use crate::words::{lates_words, numbers_words, rows_words};
 use aria_base::{Free, Memory};
 use fallback_locks::{rerun, waves};
-use proc_exec::Waiting;
+use proc_exec::{Late, Waiting};
 use proc_lang::Catalog;
+use row_batons::rerun_batons;
 use std::alloc::Global;
 use std::process::Abort;
 use std::test::Fail;
@@ -121,6 +122,25 @@ fn waves_found(alloc: Global, waiting: &[Waiting]) -> Result<String, Memory>
     Ok(numbers_words(alloc, &waves)?)
 }
 
+/// What becomes of these requests in waves, or by rows that are handed on.
+fn run_again<R: Threads + Sync>(
+    rt: &R,
+    alloc: Global,
+    catalog: &Catalog,
+    tables: Tables,
+    waiting: &[Waiting],
+    workers: u32,
+    batons: bool,
+) -> Result<(Tables, Vec<Late>), Memory>
+    requires waiting { length waiting.now ≤ MOST_REQUESTS }
+    requires workers { (1 ≤ workers) × (workers ≤ MOST_WORKERS) }
+{
+    if batons {
+        return rerun_batons(rt, alloc, catalog, tables, waiting, workers, &Free);
+    }
+    rerun(rt, alloc, catalog, tables, waiting, workers, &Free)
+}
+
 /// What becomes of these requests on so many workers, and the accounts after, in words.
 fn rerun_found<R: Threads + Sync>(
     rt: &R,
@@ -129,11 +149,12 @@ fn rerun_found<R: Threads + Sync>(
     tables: Tables,
     waiting: &[Waiting],
     workers: u32,
+    batons: bool,
 ) -> Result<String, Memory>
     requires waiting { length waiting.now ≤ MOST_REQUESTS }
     requires workers { (1 ≤ workers) × (workers ≤ MOST_WORKERS) }
 {
-    let (tables, lates) = rerun(rt, alloc, catalog, tables, waiting, workers, &Free)?;
+    let (tables, lates) = run_again(rt, alloc, catalog, tables, waiting, workers, batons)?;
     let lates = lates_words(alloc, &lates)?;
     let left = rows_words(alloc, &tables.rows()?)?;
     Ok(format!(in alloc; "{lates}/ {left}")?)
@@ -146,6 +167,7 @@ fn found<R: Threads + Sync>(
     catalog: &Catalog,
     example: &Example,
     workers: u32,
+    batons: bool,
 ) -> Result<String, Fail>
     requires { (1 ≤ workers) × (workers ≤ MOST_WORKERS) }
 {
@@ -155,11 +177,19 @@ fn found<R: Threads + Sync>(
         return Err(Fail::new("a list has at most 10,000 requests"));
     }
     let waves = waves_found(alloc, &waiting)?;
-    let rerun = rerun_found(rt, alloc, catalog, tables(alloc, rows)?, &waiting, workers)?;
+    let rerun = rerun_found(
+        rt,
+        alloc,
+        catalog,
+        tables(alloc, rows)?,
+        &waiting,
+        workers,
+        batons,
+    )?;
     Ok(format!(in alloc; "{waves}/ {rerun}")?)
 }
 
-/// Asserts that the example comes to what was worked out, on any number of workers.
+/// Asserts that the example comes to what was worked out, on any number of workers and in both ways.
 fn comes_to<R: Abort + Threads + Sync>(
     rt: &R,
     alloc: Global,
@@ -169,8 +199,10 @@ fn comes_to<R: Abort + Threads + Sync>(
     let (_, _, waves, lates, left) = *example;
     let wanted = format!(in alloc; "{waves}/ {lates}/ {left}")?;
     for workers in [1, 2, 7, 64_u32] {
-        let found = found(rt, alloc, catalog, example, workers)?;
-        assert_eq!(rt; found, wanted, "by {workers}");
+        for batons in [false, true] {
+            let found = found(rt, alloc, catalog, example, workers, batons)?;
+            assert_eq!(rt; found, wanted, "by {workers}, batons: {batons}");
+        }
     }
     Ok(())
 }

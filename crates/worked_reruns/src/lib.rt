@@ -3,7 +3,7 @@
 //!
 //! `makings` makes the catalogue, the rows and the requests of an example, and `words` puts into words
 //! what they come to. `examples` holds the examples, each worked out by hand, and runs them on several
-//! numbers of workers. `gates` shows that the requests of a wave run at once, and what a long list
+//! numbers of workers, in waves and by rows that are handed on. `gates` shows that the requests of a wave run at once, and what a long list
 //! comes to.
 #![tactic(auto)]
 

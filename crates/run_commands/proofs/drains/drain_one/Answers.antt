@@ -1,4 +1,4 @@
-use Rattle.std.proofs.Common.{◌≡◌, ◌<◌, ◌≤◌, ◌==◌, sym, subst, false, length, arith}
+use Rattle.std.proofs.Common.{◌≡◌, ◌<◌, ◌≤◌, ◌==◌, sym, subst, false, [], ◌∷◌, length, arith}
 use Rattle.std.specs.Prelude.{IsSomeAnd}
 use Rattle.aria_base.specs.Faults.{Rose}
 use Rattle.answer_text.specs.Refusals.{refusal_text}
@@ -10,14 +10,17 @@ use Rattle.script_course.specs.declared.stops.Stop.TheVariants as stop
 use Rattle.script_text.specs.declared.refusals.RefusalKind.TheVariants.{Numbers}
 use Rattle.serving.specs.Drains.{state_result}
 use Rattle.serving.specs.Lives.{plan_of, state_of}
-use Rattle.serving.specs.Stored.{IsLogging, stored_state}
+use Rattle.aria_store.specs.Stands.{added}
+use Rattle.serving.specs.Stored.{IsLogging, next_due, stored_state}
 use Rattle.serving.specs.declared.lives.Live.{Live}
 use Rattle.run_commands.proofs.Drained.{fewer_next, one_refused, stopped_on}
-use Rattle.run_commands.proofs.DrainedOne.{counted_next, holds_next, keeps_cut, keeps_told, like_next, next_here, none_next, not_refused, one_cut, one_told, some_waits, stored_next, told_here}
+use Rattle.run_commands.proofs.DrainedOne.{as_after, as_either, counted_next, drain_left, holds_next, keeps_cut, keeps_told, like_next, next_here, none_next, not_refused, one_cut, one_told, some_waits, stored_next, told_here}
 use Rattle.run_commands.proofs.Endings.{drain_refused}
 use Rattle.run_commands.proofs.Ran.{held_leaves_all, no_lines}
 use Rattle.run_commands.proofs.Stepped.{causes_more}
 use Rattle.run_commands.proofs.Told.{cut_cause}
+use Rattle.run_commands.proofs.Turns.{left_still}
+use Rattle.run_commands.specs.Passes.{Drain}
 use Rattle.run_commands.proofs.drains.drain_one.Goals as goal
 
 pub serve_batch-next-requires-clause-logs : goal.serve_batch-next-requires-clause-logs
@@ -104,15 +107,23 @@ returns-in-Some-clause-keeps g c = λ ck later d end h.
     keeps_told c.args.live c.new.result.items c.new.ensures.items c.args.line below (g.K.Sink.given c.args.out.now)
     (g.K.Sink.given c.serve_batch-next.new.out) c.serve_batch-next.result
     c.serve_batch-next.ensures.tells some d end (g.D.Disk.history c.args.disk.now) (g.D.Disk.history c.serve_batch-next.new.disk)
-    (c.serve_batch-next.ensures.images ck later h)
-    (c.serve_batch-next.ensures.answered ck later h) c.in-Some.next c.in-Some.is
+    (as_either c.args.live c.new.result.items c.new.ensures.items c.args.line below (g.K.Sink.given c.args.out.now)
+    (g.K.Sink.given c.serve_batch-next.new.out) c.serve_batch-next.result
+    c.serve_batch-next.ensures.tells (next_due c.args.live c.new.result.items) ck later
+    (added later c.args.live.config.rule c.args.live.config.fallback c.new.result.items) (g.D.Disk.history c.args.disk.now) (g.D.Disk.history c.serve_batch-next.new.disk)
+    (c.serve_batch-next.ensures.images ck later h))
+    (as_after c.args.live c.new.result.items c.new.ensures.items c.args.line below (g.K.Sink.given c.args.out.now)
+    (g.K.Sink.given c.serve_batch-next.new.out) c.serve_batch-next.result
+    c.serve_batch-next.ensures.tells (next_due c.args.live c.new.result.items) ck later
+    (added later c.args.live.config.rule c.args.live.config.fallback c.new.result.items) _ (g.D.Disk.history c.serve_batch-next.new.disk)
+    (c.serve_batch-next.ensures.answered ck later h)) c.in-Some.next c.in-Some.is
 
 pub returns-in-Some-clause-holds : goal.returns-in-Some-clause-holds
-returns-in-Some-clause-holds g c = λ first h.
+returns-in-Some-clause-holds g c = λ first saved h.
     let below : (state_of c.args.live).batches < GREATEST_NUMBER = omega (arith, c.batches.ensures, c.if-batches-ge-GREATEST_NUMBER.false) in
     holds_next c.args.live c.new.result.items c.new.ensures.items c.args.line below (g.K.Sink.given c.args.out.now)
     (g.K.Sink.given c.serve_batch-next.new.out) c.serve_batch-next.result
-    c.serve_batch-next.ensures.tells c.in-Some.next c.in-Some.is c.serve_batch-next.ensures.store first (g.D.Disk.history c.args.disk.now)
+    c.serve_batch-next.ensures.tells c.in-Some.next c.in-Some.is c.serve_batch-next.ensures.store first saved (g.D.Disk.history c.args.disk.now)
     (g.D.Disk.history c.serve_batch-next.new.disk)
     c.serve_batch-next.ensures.holds h
 
@@ -148,8 +159,16 @@ returns-in-None-clause-keeps g c = λ ck later d end h.
     keeps_cut c.args.live c.new.result.items c.new.ensures.items c.args.line below (g.K.Sink.given c.args.out.now)
     (g.K.Sink.given c.serve_batch-next.new.out) c.serve_batch-next.result
     c.serve_batch-next.ensures.tells some d end (g.D.Disk.history c.args.disk.now) (g.D.Disk.history c.serve_batch-next.new.disk)
-    (c.serve_batch-next.ensures.images ck later h)
-    (c.serve_batch-next.ensures.answered ck later h) c.in-None.is
+    (as_either c.args.live c.new.result.items c.new.ensures.items c.args.line below (g.K.Sink.given c.args.out.now)
+    (g.K.Sink.given c.serve_batch-next.new.out) c.serve_batch-next.result
+    c.serve_batch-next.ensures.tells (next_due c.args.live c.new.result.items) ck later
+    (added later c.args.live.config.rule c.args.live.config.fallback c.new.result.items) (g.D.Disk.history c.args.disk.now) (g.D.Disk.history c.serve_batch-next.new.disk)
+    (c.serve_batch-next.ensures.images ck later h))
+    (as_after c.args.live c.new.result.items c.new.ensures.items c.args.line below (g.K.Sink.given c.args.out.now)
+    (g.K.Sink.given c.serve_batch-next.new.out) c.serve_batch-next.result
+    c.serve_batch-next.ensures.tells (next_due c.args.live c.new.result.items) ck later
+    (added later c.args.live.config.rule c.args.live.config.fallback c.new.result.items) _ (g.D.Disk.history c.serve_batch-next.new.disk)
+    (c.serve_batch-next.ensures.answered ck later h)) c.in-None.is
 
 pub returns-in-None-clause-refused : goal.returns-in-None-clause-refused
 returns-in-None-clause-refused g c e =
@@ -162,3 +181,26 @@ returns-in-None-clause-cause g c =
     (Rose (g.K.Sink.faults c.args.out.now) (g.K.Sink.faults c.serve_batch-next.new.out))
     (Rose (g.D.Disk.history c.args.disk.now).faults (g.D.Disk.history c.serve_batch-next.new.disk).faults)
     c.serve_batch-next.ensures.cause c.serve_batch-next.ensures.storeless c.why_stopped.ensures
+
+pub returns-then-batches-ge-GREATEST_NUMBER-clause-left : goal.returns-then-batches-ge-GREATEST_NUMBER-clause-left
+returns-then-batches-ge-GREATEST_NUMBER-clause-left g c = λ first saved d end h.
+    let live = c.args.live in
+    left_still live.checkpoint first (Drain ∷ []) d saved (g.D.Disk.history c.args.disk.now) (plan_of live) (stored_state live) live.store h
+
+pub returns-in-Some-clause-left : goal.returns-in-Some-clause-left
+returns-in-Some-clause-left g c = λ first saved d end h.
+    let below : (state_of c.args.live).batches < GREATEST_NUMBER = omega (arith, c.batches.ensures, c.if-batches-ge-GREATEST_NUMBER.false) in
+    let some : (length (state_of c.args.live).waiting == 0) ≡ false = some_waits (length (state_of c.args.live).waiting) c.requires.some in
+    drain_left c.args.live c.new.result.items c.new.ensures.items c.args.line below (g.K.Sink.given c.args.out.now)
+    (g.K.Sink.given c.serve_batch-next.new.out) c.serve_batch-next.result
+    c.serve_batch-next.ensures.tells some first saved d end (g.D.Disk.history c.args.disk.now) (g.D.Disk.history c.serve_batch-next.new.disk) h
+    (c.serve_batch-next.ensures.images saved.c saved.later h.stands.holds)
+
+pub returns-in-None-clause-left : goal.returns-in-None-clause-left
+returns-in-None-clause-left g c = λ first saved d end h.
+    let below : (state_of c.args.live).batches < GREATEST_NUMBER = omega (arith, c.batches.ensures, c.if-batches-ge-GREATEST_NUMBER.false) in
+    let some : (length (state_of c.args.live).waiting == 0) ≡ false = some_waits (length (state_of c.args.live).waiting) c.requires.some in
+    drain_left c.args.live c.new.result.items c.new.ensures.items c.args.line below (g.K.Sink.given c.args.out.now)
+    (g.K.Sink.given c.serve_batch-next.new.out) c.serve_batch-next.result
+    c.serve_batch-next.ensures.tells some first saved d end (g.D.Disk.history c.args.disk.now) (g.D.Disk.history c.serve_batch-next.new.disk) h
+    (c.serve_batch-next.ensures.images saved.c saved.later h.stands.holds)

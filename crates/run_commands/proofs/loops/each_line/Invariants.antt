@@ -4,6 +4,7 @@ use Rattle.script_course.specs.Served.{Leads}
 use Rattle.run_commands.specs.Keeps.{IsOpen}
 use Rattle.run_commands.specs.Onces.{on_line}
 use Rattle.run_commands.specs.Passes.{Line}
+use Rattle.store_openings.specs.Saved.{Saved}
 use Rattle.run_commands.specs.Turns.{HoldsScript}
 use Rattle.run_commands.proofs.Turns.{LeadsTurns}
 use Rattle.run_commands.proofs.loops.each_line.Given as goal
@@ -20,7 +21,7 @@ invariant-loop-line g l =
       faults : start.faults ≤ now.faults;
       leads : Leads (with_lines on_line (Goes [] l.script.doing) (drop l.line-index l.lines)) (g.K.Sink.given l.out)
           (with_lines on_line (Goes [] l.initial.script.doing) l.lines) (g.K.Sink.given l.initial.out);
-      kept : (first : ℕ) → HoldsScript first start l.initial.script → HoldsScript first now l.script
-          × LeadsTurns first (map Line (drop l.line-index l.lines)) l.script now (g.K.Sink.given l.out) (map Line l.lines) l.initial.script start
+      kept : (first : ℕ) (saved : Saved) → HoldsScript first saved start l.initial.script → (here : Saved) × HoldsScript first here now l.script
+          × LeadsTurns first here (map Line (drop l.line-index l.lines)) l.script now (g.K.Sink.given l.out) saved (map Line l.lines) l.initial.script start
           (g.K.Sink.given l.initial.out);
     }

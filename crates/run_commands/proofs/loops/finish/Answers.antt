@@ -21,16 +21,16 @@ serve-requires-clause-short g c κs within =
     subst (λ (o : Option (List ℕ)). IfSome o (λ line. length line ≤ LONGEST_LINE)) is (last_short c.args.lines c.requires.longest c.requires.begun)
 
 pub returns-in-Some-clause-keeps : goal.returns-in-Some-clause-keeps
-returns-in-Some-clause-keeps g c = λ first h.
+returns-in-Some-clause-keeps g c = λ first saved h.
     let is : last_line c.args.lines ≡ Some c.as_slice.result.now = search rules in
-    same_turns first (last (last_line c.args.lines)) (Line c.as_slice.result.now ∷ []) c.args.script (g.D.Disk.history c.args.disk.now)
+    same_turns first saved (last (last_line c.args.lines)) (Line c.as_slice.result.now ∷ []) c.args.script (g.D.Disk.history c.args.disk.now)
     (g.D.Disk.history c.serve.new.disk)
-    (g.K.Sink.given c.args.out.now) (g.K.Sink.given c.serve.new.out) c.serve.result (ap last is) (c.serve.ensures.keeps first h)
+    (g.K.Sink.given c.args.out.now) (g.K.Sink.given c.serve.new.out) c.serve.result (ap last is) (c.serve.ensures.keeps first saved h)
 
 pub returns-in-None-clause-keeps : goal.returns-in-None-clause-keeps
-returns-in-None-clause-keeps g c = λ first h.
+returns-in-None-clause-keeps g c = λ first saved h.
     let none : last_line c.args.lines ≡ None = search rules in
     let disk = g.D.Disk.history c.args.disk.now in
     let now = g.K.Sink.given c.args.out.now in
-    same_turns first (last (last_line c.args.lines)) [] c.args.script disk disk now now (Ok c.args.script) (ap last none)
-    (still_kept first c.args.script disk now h)
+    same_turns first saved (last (last_line c.args.lines)) [] c.args.script disk disk now now (Ok c.args.script) (ap last none)
+    (still_kept first saved c.args.script disk now h)

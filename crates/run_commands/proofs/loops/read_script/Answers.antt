@@ -1,4 +1,7 @@
-use Rattle.std.proofs.Common.{◌∙◌, take, arith}
+use Rattle.std.proofs.Common.{◌∙◌, ◌≤◌, sym, refl, subst, length, take, arith}
+use Rattle.aria_base.specs.declared.limits.TheConstants.{LONGEST_LINE}
+use Rattle.script_course.specs.Courses.{told, told_whole}
+use Rattle.script_course.specs.Served.{Carries}
 use Rattle.std.specs.Prelude.{Err}
 use Rattle.aria_base.specs.Faults.{Rose}
 use Rattle.std.proofs.lemmas.List.{length-take-le}
@@ -8,9 +11,39 @@ use Rattle.script_course.proofs.Measures.{gone}
 use Rattle.run_commands.specs.Onces.{doing_result, on_line}
 use Rattle.run_commands.proofs.Causes.{read_since, reads_since}
 use Rattle.run_commands.proofs.Feeds.{taken_begun, taken_longest}
-use Rattle.run_commands.proofs.Pieces.{any_kept, cut_kept, end_kept, piece_kept}
-use Rattle.run_commands.proofs.Turns.{none_kept, stays_on, stays_then}
+use Rattle.run_commands.proofs.Pieces.{CarriesText, any_kept, cut_kept, end_kept, piece_kept}
+use Rattle.run_commands.proofs.Turns.{none_kept}
+use Rattle.run_commands.specs.Outs.{no_line}
+use Rattle.run_commands.specs.Passes.{turns}
+use Rattle.run_commands.specs.Turns.{saved_over}
+use Rattle.script_text.specs.Lines.{Feed, scan}
 use Rattle.run_commands.proofs.loops.read_script.Goals as goal
+
+pub loop-count-init : goal.loop-count-init
+loop-count-init g c =
+    let start = c.args.start in
+    let disk = g.D.Disk.history c.args.disk.now in
+    let left = g.S.Source.left c.args.input.now in
+    let given = g.K.Sink.given c.args.out.now in
+    let is = sym c.new-lines.ensures in
+    record {
+      opens = c.requires.open;
+      store = λ none. none;
+      untouched = λ none. refl;
+      source = omega arith;
+      sink = omega arith;
+      faults = omega arith;
+      within = subst (λ (l : Feed). l.taken ≤ l.limit) is (omega arith);
+      longest = subst (λ (l : Feed). l.longest ≤ LONGEST_LINE) is (omega arith);
+      begun = subst (λ (l : Feed). length l.begun ≤ l.longest) is (omega arith);
+      leads = subst (λ (l : Feed). Carries (told on_line l start.doing) (told_whole on_line l start.doing) left given
+          (told on_line no_line start.doing) (told_whole on_line no_line start.doing) left given) is (λ rest new result h. h);
+      kept = λ first saved h. (
+        saved,
+        h,
+        subst (λ (l : Feed). CarriesText first saved l start disk left given saved no_line start disk left given) is (λ new given_new result k. k),
+      );
+    }
 
 pub returns-in_default-clause-comes : goal.returns-in_default-clause-comes
 returns-in_default-clause-comes g c =
@@ -20,13 +53,13 @@ returns-in_default-clause-comes g c =
     (g.S.Source.left c.take.new.self) now c.in_default.ensures.bytes)
 
 pub returns-in_default-clause-keeps : goal.returns-in_default-clause-keeps
-returns-in_default-clause-keeps g c = λ first h.
-    let inv = c.loop-count.invariant.kept first h in
+returns-in_default-clause-keeps g c = λ first saved h.
+    let inv = c.loop-count.invariant.kept first saved h in
     let disk = g.D.Disk.history c.loop-count.disk in
     let now = g.K.Sink.given c.loop-count.out in
-    inv.1 disk now (Err stop.NoRead)
-    (any_kept first c.loop-count.lines c.loop-count.script disk now (g.S.Source.left c.loop-count.input) disk now (Err stop.NoRead)
-    (λ steps. none_kept first steps c.loop-count.script disk now stop.NoRead (λ e. absurd cc) inv.0.holds))
+    inv.2 disk now (Err stop.NoRead)
+    (any_kept first inv.0 c.loop-count.lines c.loop-count.script disk now (g.S.Source.left c.loop-count.input) disk now (Err stop.NoRead)
+    (λ steps. none_kept first inv.0 steps c.loop-count.script disk now stop.NoRead (λ e. absurd cc) inv.1))
 
 pub returns-then-count-eq0-clause-comes : goal.returns-then-count-eq0-clause-comes
 returns-then-count-eq0-clause-comes g c =
@@ -38,22 +71,16 @@ returns-then-count-eq0-clause-comes g c =
     (doing_result c.finish.result) end c.finish.ensures.serves)
 
 pub returns-then-count-eq0-clause-keeps : goal.returns-then-count-eq0-clause-keeps
-returns-then-count-eq0-clause-keeps g c = λ first h.
-    let inv = c.loop-count.invariant.kept first h in
+returns-then-count-eq0-clause-keeps g c = λ first saved h.
+    let inv = c.loop-count.invariant.kept first saved h in
     let left = g.S.Source.left c.loop-count.input in
     let rest = g.S.Source.left c.take.new.self in
     let end = end_before left rest c.in-Ok.count c.take.new.buf c.if-count-eq0.true c.in-Ok.ensures.bytes.1 c.in-Ok.ensures.bytes.2 in
     let disk = g.D.Disk.history c.finish.new.disk in
     let given = g.K.Sink.given c.finish.new.out in
-    inv.1 disk given c.finish.result
-    (end_kept first c.loop-count.lines c.loop-count.script (g.D.Disk.history c.loop-count.disk)
-    (g.K.Sink.given c.loop-count.out) left disk given c.finish.result end (c.finish.ensures.keeps first inv.0.holds))
-
-pub returns-then-count-eq0-clause-stays : goal.returns-then-count-eq0-clause-stays
-returns-then-count-eq0-clause-stays g c = λ first h.
-    let inv = c.loop-count.invariant.kept first h in
-    let k = c.finish.ensures.keeps first inv.0.holds in
-    stays_on first (g.D.Disk.history c.loop-count.disk) (g.D.Disk.history c.finish.new.disk) c.args.start c.loop-count.script c.finish.result inv.0 k.stays
+    inv.2 disk given c.finish.result
+    (end_kept first inv.0 c.loop-count.lines c.loop-count.script (g.D.Disk.history c.loop-count.disk)
+    (g.K.Sink.given c.loop-count.out) left disk given c.finish.result end (c.finish.ensures.keeps first inv.0 inv.1))
 
 pub returns-then-count-eq0-clause-cause : goal.returns-then-count-eq0-clause-cause
 returns-then-count-eq0-clause-cause g c =
@@ -92,16 +119,15 @@ loop-count-preserved g c =
           (g.S.Source.left c.loop-count.input) (g.S.Source.left c.take.new.self)
           (g.K.Sink.given c.loop-count.out) (g.K.Sink.given c.take_piece.new.out) c.in-Ok.ensures.bytes.1 c.in-Ok-take_piece.ensures.serves taken.0 taken.1
           rest new result h);
-      kept = λ first h.
-          let inv = c.loop-count.invariant.kept first h in
-          let now = g.D.Disk.history c.loop-count.disk in
-          let disk = g.D.Disk.history c.take_piece.new.disk in
-          let k = c.in-Ok-take_piece.ensures.keeps first inv.0.holds in (
-            stays_then first now disk c.args.start c.loop-count.script c.in-Ok-take_piece.next inv.0 k.stays,
-            λ new given result rest. inv.1 new given result
-                (piece_kept first c.loop-count.lines c.loop-count.script now (g.K.Sink.given c.loop-count.out) (g.S.Source.left c.loop-count.input)
-                (g.S.Source.left c.take.new.self) piece
-                c.take_piece.new.lines c.in-Ok-take_piece.next disk new (g.K.Sink.given c.take_piece.new.out) given result c.in-Ok.ensures.bytes.1
+      kept = λ first saved h.
+          let inv = c.loop-count.invariant.kept first saved h in
+          let k = c.in-Ok-take_piece.ensures.keeps first inv.0 inv.1 in (
+            saved_over (turns (scan c.loop-count.lines piece)) c.loop-count.script inv.0,
+            k.stays.holds,
+            λ new given result rest. inv.2 new given result
+                (piece_kept first inv.0 c.loop-count.lines c.loop-count.script (g.D.Disk.history c.loop-count.disk) (g.K.Sink.given c.loop-count.out)
+                (g.S.Source.left c.loop-count.input) (g.S.Source.left c.take.new.self) piece c.take_piece.new.lines c.in-Ok-take_piece.next
+                (g.D.Disk.history c.take_piece.new.disk) new (g.K.Sink.given c.take_piece.new.out) given result c.in-Ok.ensures.bytes.1
                 c.in-Ok-take_piece.ensures.serves taken.0 taken.1 k rest),
           );
     }
@@ -116,15 +142,15 @@ returns-in-Err-clause-comes g c =
     (g.K.Sink.given c.loop-count.out) new c.in-Err.stop c.in-Ok.ensures.bytes.1 c.in-Err.ensures.serves)
 
 pub returns-in-Err-clause-keeps : goal.returns-in-Err-clause-keeps
-returns-in-Err-clause-keeps g c = λ first h.
-    let inv = c.loop-count.invariant.kept first h in
+returns-in-Err-clause-keeps g c = λ first saved h.
+    let inv = c.loop-count.invariant.kept first saved h in
     let piece = take c.in-Ok.count c.take.new.buf in
     let disk = g.D.Disk.history c.take_piece.new.disk in
     let new = g.K.Sink.given c.take_piece.new.out in
-    inv.1 disk new (Err c.in-Err.stop)
-    (cut_kept first c.loop-count.lines c.loop-count.script (g.D.Disk.history c.loop-count.disk) (g.K.Sink.given c.loop-count.out)
+    inv.2 disk new (Err c.in-Err.stop)
+    (cut_kept first inv.0 c.loop-count.lines c.loop-count.script (g.D.Disk.history c.loop-count.disk) (g.K.Sink.given c.loop-count.out)
     (g.S.Source.left c.loop-count.input) (g.S.Source.left c.take.new.self) piece disk new
-    c.in-Err.stop c.in-Ok.ensures.bytes.1 c.in-Err.ensures.serves (c.in-Err.ensures.keeps first inv.0.holds))
+    c.in-Err.stop c.in-Ok.ensures.bytes.1 c.in-Err.ensures.serves (c.in-Err.ensures.keeps first inv.0 inv.1))
 
 pub returns-in-Err-clause-cause : goal.returns-in-Err-clause-cause
 returns-in-Err-clause-cause g c =

@@ -5,7 +5,8 @@ use Rattle.script_course.specs.Served.{Carries}
 use Rattle.run_commands.specs.Keeps.{IsOpen}
 use Rattle.run_commands.specs.Onces.{on_line}
 use Rattle.run_commands.specs.Outs.{no_line}
-use Rattle.run_commands.specs.Turns.{HoldsScript, Stays}
+use Rattle.store_openings.specs.Saved.{Saved}
+use Rattle.run_commands.specs.Turns.{HoldsScript}
 use Rattle.run_commands.proofs.Pieces.{CarriesText}
 use Rattle.run_commands.proofs.loops.read_script.Given as goal
 
@@ -26,8 +27,8 @@ invariant-loop-count g l =
       leads : Carries (told on_line l.lines l.script.doing) (told_whole on_line l.lines l.script.doing) (g.S.Source.left l.input) (g.K.Sink.given l.out)
           (told on_line no_line l.initial.script.doing) (told_whole on_line no_line l.initial.script.doing)
           (g.S.Source.left l.initial.input) (g.K.Sink.given l.initial.out);
-      kept : (first : ℕ) → HoldsScript first start l.initial.script → Stays first now l.initial.script l.script
-          × CarriesText first l.lines l.script now (g.S.Source.left l.input) (g.K.Sink.given l.out) no_line l.initial.script start
+      kept : (first : ℕ) (saved : Saved) → HoldsScript first saved start l.initial.script → (here : Saved) × HoldsScript first here now l.script
+          × CarriesText first here l.lines l.script now (g.S.Source.left l.input) (g.K.Sink.given l.out) saved no_line l.initial.script start
           (g.S.Source.left l.initial.input) (g.K.Sink.given l.initial.out);
     }
 

@@ -20,16 +20,16 @@ returns-in-Err-clause-serves g c =
     (g.K.Sink.given c.each_line.new.out) c.in-Err.stop c.in-Err.ensures.serves
 
 pub returns-in-Ok-clause-keeps : goal.returns-in-Ok-clause-keeps
-returns-in-Ok-clause-keeps g c = λ first h.
+returns-in-Ok-clause-keeps g c = λ first saved h.
     let given = g.K.Sink.given c.each_line.new.out in
     let last = g.K.Sink.given c.refuse.new.out in
-    fault_kept first c.args.lines.now c.args.refusal.now c.args.script (g.D.Disk.history c.args.disk.now) (g.D.Disk.history c.each_line.new.disk)
+    fault_kept first saved c.args.lines.now c.args.refusal.now c.args.script (g.D.Disk.history c.args.disk.now) (g.D.Disk.history c.each_line.new.disk)
     (g.K.Sink.given c.args.out.now) given c.in-Ok.field-0 last
     c.refuse.result c.in-Ok.ensures.serves (refused_doing (refusal_text c.args.refusal.now) given last c.refuse.result c.refuse.ensures.serves)
-    (c.in-Ok.ensures.keeps first h)
+    (c.in-Ok.ensures.keeps first saved h)
 
 pub returns-in-Err-clause-keeps : goal.returns-in-Err-clause-keeps
-returns-in-Err-clause-keeps g c = λ first h.
-    fault_cut first c.args.lines.now c.args.refusal.now c.args.script (g.D.Disk.history c.args.disk.now) (g.D.Disk.history c.each_line.new.disk)
+returns-in-Err-clause-keeps g c = λ first saved h.
+    fault_cut first saved c.args.lines.now c.args.refusal.now c.args.script (g.D.Disk.history c.args.disk.now) (g.D.Disk.history c.each_line.new.disk)
     (g.K.Sink.given c.args.out.now) (g.K.Sink.given c.each_line.new.out)
-    c.in-Err.stop c.in-Err.ensures.serves (c.in-Err.ensures.keeps first h)
+    c.in-Err.stop c.in-Err.ensures.serves (c.in-Err.ensures.keeps first saved h)

@@ -4,7 +4,7 @@ use Rattle.script_course.specs.Courses.{told, told_whole}
 use Rattle.run_commands.specs.Onces.{on_end, on_line}
 use Rattle.run_commands.specs.Outs.{no_line}
 use Rattle.run_commands.proofs.Causes.{reads_since}
-use Rattle.run_commands.proofs.Whole.{cut_refused, keeps_on_cut, keeps_on_end, laid_on_cut, laid_on_end}
+use Rattle.run_commands.proofs.Whole.{cut_refused, keeps_on_cut, keeps_on_end, laid_on_cut, laid_on_end, left_on_cut, left_on_end}
 use Rattle.run_commands.proofs.texts.run_text.Goals as goal
 
 pub returns-in-Ok-clause-completes : goal.returns-in-Ok-clause-completes
@@ -23,32 +23,32 @@ returns-in-Err-clause-completes g c =
     (g.K.Sink.given c.read_script.new.out) c.in-Err.stop c.in-Err.ensures.comes
 
 pub returns-in-Ok-clause-keeps : goal.returns-in-Ok-clause-keeps
-returns-in-Ok-clause-keeps g c first holds =
-    keeps_on_end c.args.drains first c.args.start (g.D.Disk.history c.args.disk.now) (g.D.Disk.history c.read_script.new.disk) (g.K.Sink.given c.args.out.now)
+returns-in-Ok-clause-keeps g c first saved holds =
+    keeps_on_end c.args.drains first saved c.args.start (g.D.Disk.history c.args.disk.now) (g.D.Disk.history c.read_script.new.disk) (g.K.Sink.given c.args.out.now)
     (g.K.Sink.given c.read_script.new.out)
     (g.S.Source.left c.args.input.now) c.in-Ok.last (g.D.Disk.history c.end_of.new.disk) (g.K.Sink.given c.end_of.new.out) c.in-Ok.ensures.comes.0
-    (c.in-Ok.ensures.keeps first holds)
-    (λ h. c.end_of.ensures.keeps first h)
+    (c.in-Ok.ensures.keeps first saved holds)
+    (λ here h. c.end_of.ensures.keeps first here h)
 
 pub returns-in-Err-clause-keeps : goal.returns-in-Err-clause-keeps
-returns-in-Err-clause-keeps g c first holds =
-    keeps_on_cut c.args.drains first c.args.start (g.D.Disk.history c.args.disk.now) (g.D.Disk.history c.read_script.new.disk) (g.K.Sink.given c.args.out.now)
+returns-in-Err-clause-keeps g c first saved holds =
+    keeps_on_cut c.args.drains first saved c.args.start (g.D.Disk.history c.args.disk.now) (g.D.Disk.history c.read_script.new.disk) (g.K.Sink.given c.args.out.now)
     (g.K.Sink.given c.read_script.new.out)
-    (g.S.Source.left c.args.input.now) c.in-Err.stop (c.in-Err.ensures.keeps first holds)
+    (g.S.Source.left c.args.input.now) c.in-Err.stop (c.in-Err.ensures.keeps first saved holds)
 
 pub returns-in-Ok-clause-laid : goal.returns-in-Ok-clause-laid
-returns-in-Ok-clause-laid g c first holds ended =
-    laid_on_end c.args.drains first c.args.start (g.D.Disk.history c.args.disk.now) (g.D.Disk.history c.read_script.new.disk) (g.K.Sink.given c.args.out.now)
+returns-in-Ok-clause-laid g c first saved holds ended =
+    laid_on_end c.args.drains first saved c.args.start (g.D.Disk.history c.args.disk.now) (g.D.Disk.history c.read_script.new.disk) (g.K.Sink.given c.args.out.now)
     (g.K.Sink.given c.read_script.new.out)
     (g.S.Source.left c.args.input.now) c.in-Ok.last (g.D.Disk.history c.end_of.new.disk) (g.K.Sink.given c.end_of.new.out) c.in-Ok.ensures.comes.0
-    (c.in-Ok.ensures.keeps first holds)
-    (λ h. c.end_of.ensures.laid first h ended)
+    (c.in-Ok.ensures.keeps first saved holds)
+    (λ here h. c.end_of.ensures.laid first here h ended)
 
 pub returns-in-Err-clause-laid : goal.returns-in-Err-clause-laid
-returns-in-Err-clause-laid g c first holds ended =
-    laid_on_cut c.args.drains first c.args.start (g.D.Disk.history c.args.disk.now) (g.D.Disk.history c.read_script.new.disk) (g.K.Sink.given c.args.out.now)
+returns-in-Err-clause-laid g c first saved holds ended =
+    laid_on_cut c.args.drains first saved c.args.start (g.D.Disk.history c.args.disk.now) (g.D.Disk.history c.read_script.new.disk) (g.K.Sink.given c.args.out.now)
     (g.K.Sink.given c.read_script.new.out)
-    (g.S.Source.left c.args.input.now) c.in-Err.stop (cut_refused c.in-Err.stop ended) c.in-Err.ensures.comes.0 (c.in-Err.ensures.keeps first holds)
+    (g.S.Source.left c.args.input.now) c.in-Err.stop (cut_refused c.in-Err.stop ended) c.in-Err.ensures.comes.0 (c.in-Err.ensures.keeps first saved holds)
 
 pub returns-in-Ok-clause-cause : goal.returns-in-Ok-clause-cause
 returns-in-Ok-clause-cause g c =
@@ -59,3 +59,17 @@ returns-in-Ok-clause-cause g c =
     (g.K.Sink.faults c.end_of.new.out) c.in-Ok.ensures.sink
     start.faults mid.faults new.faults c.in-Ok.ensures.disk (Rose (g.S.Source.faults c.args.input.now) (g.S.Source.faults c.read_script.new.input))
     c.end_of.result c.end_of.ensures.cause
+
+pub returns-in-Ok-clause-left : goal.returns-in-Ok-clause-left
+returns-in-Ok-clause-left g c first saved holds =
+    left_on_end c.args.drains first saved c.args.start (g.D.Disk.history c.args.disk.now) (g.D.Disk.history c.read_script.new.disk)
+    (g.K.Sink.given c.args.out.now) (g.K.Sink.given c.read_script.new.out)
+    (g.S.Source.left c.args.input.now) c.in-Ok.last (g.D.Disk.history c.end_of.new.disk) (g.K.Sink.given c.end_of.new.out) c.in-Ok.ensures.comes.0
+    (c.in-Ok.ensures.keeps first saved holds)
+    (λ here h. c.end_of.ensures.left first here h)
+
+pub returns-in-Err-clause-left : goal.returns-in-Err-clause-left
+returns-in-Err-clause-left g c first saved holds =
+    left_on_cut c.args.drains first saved c.args.start (g.D.Disk.history c.args.disk.now) (g.D.Disk.history c.read_script.new.disk)
+    (g.K.Sink.given c.args.out.now) (g.K.Sink.given c.read_script.new.out)
+    (g.S.Source.left c.args.input.now) c.in-Err.stop (c.in-Err.ensures.keeps first saved holds)

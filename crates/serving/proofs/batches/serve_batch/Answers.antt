@@ -8,11 +8,11 @@ use Rattle.aria_base.specs.Faults.{Rose}
 use Rattle.aria_store.specs.Stands.{Kept, added}
 use Rattle.serving.specs.Deliveries.{IsUntold}
 use Rattle.serving.specs.Lives.{IsNext, next_state, next_text, plan_of}
-use Rattle.serving.specs.Stored.{Holds, ReopensToEither, logged, next_batch, stored_state, with_logged}
+use Rattle.serving.specs.Stored.{Holds, ReopensOnWay, logged, next_batch, next_due, stored_state, with_logged}
 use Rattle.serving.specs.declared.batches.Delivery.{Delivery}
 use Rattle.serving.specs.declared.lives.Live.{Live}
 use Rattle.script_course.proofs.Turns.{front_all}
-use Rattle.serving.proofs.Served.{holds_after, holds_leaves, images_after, left_after, next_after, none_given, untold_tells}
+use Rattle.serving.proofs.Served.{holds_after, holds_left, images_after, left_after, next_after, none_given, untold_tells, way_more}
 use Rattle.serving.proofs.batches.serve_batch.Goals as goal
 
 pub returns-in-Err-clause-tells : goal.returns-in-Err-clause-tells
@@ -23,9 +23,13 @@ returns-in-Err-clause-tells g c =
 
 pub returns-in-Err-clause-images : goal.returns-in-Err-clause-images
 returns-in-Err-clause-images g c k later h =
+    (way_more (g.D.Disk.history c.args.disk.now) (g.D.Disk.history c.log_batch.new.disk) (next_due c.args.live c.args.new.items) k later
+    (added later c.args.live.config.rule c.args.live.config.fallback c.args.new.items) (plan_of c.args.live) (stored_state c.args.live)
+    (next_state c.args.live c.args.new.items)
     (subst (λ (l : List Call). LeavesAll (g.D.Disk.history c.args.disk.now) (g.D.Disk.history c.log_batch.new.disk)
-    (ReopensToEither (plan_of c.args.live) (stored_state c.args.live) (next_state c.args.live l))) c.as_slice.ensures.value
-    (c.log_batch.ensures.images k later h))
+    (ReopensOnWay false k later (added later c.args.live.config.rule c.args.live.config.fallback l) (plan_of c.args.live) (stored_state c.args.live)
+    (next_state c.args.live l))) c.as_slice.ensures.value
+    (c.log_batch.ensures.images k later h)))
 
 pub returns-in-Err-tell_batch-clause-tells : goal.returns-in-Err-tell_batch-clause-tells
 returns-in-Err-tell_batch-clause-tells g c =
@@ -38,9 +42,13 @@ returns-in-Err-tell_batch-clause-tells g c =
 
 pub returns-in-Err-tell_batch-clause-images : goal.returns-in-Err-tell_batch-clause-images
 returns-in-Err-tell_batch-clause-images g c k later h =
+    (way_more (g.D.Disk.history c.args.disk.now) (g.D.Disk.history c.log_batch.new.disk) (next_due c.args.live c.args.new.items) k later
+    (added later c.args.live.config.rule c.args.live.config.fallback c.args.new.items) (plan_of c.args.live) (stored_state c.args.live)
+    (next_state c.args.live c.args.new.items)
     (subst (λ (l : List Call). LeavesAll (g.D.Disk.history c.args.disk.now) (g.D.Disk.history c.log_batch.new.disk)
-    (ReopensToEither (plan_of c.args.live) (stored_state c.args.live) (next_state c.args.live l))) c.as_slice.ensures.value
-    (c.log_batch.ensures.images k later h))
+    (ReopensOnWay false k later (added later c.args.live.config.rule c.args.live.config.fallback l) (plan_of c.args.live) (stored_state c.args.live)
+    (next_state c.args.live l))) c.as_slice.ensures.value
+    (c.log_batch.ensures.images k later h)))
 
 pub returns-in-Err-tell_batch-clause-answered : goal.returns-in-Err-tell_batch-clause-answered
 returns-in-Err-tell_batch-clause-answered g c k later h answered =
@@ -51,7 +59,7 @@ returns-in-Err-tell_batch-clause-answered g c k later h answered =
     → Holds (g.D.Disk.history c.log_batch.new.disk) (plan_of c.args.live) (next_state c.args.live l) c.log_batch.new.live.store k
     (added later c.args.live.config.rule c.args.live.config.fallback l))
     c.as_slice.ensures.value (c.in_default.ensures.holds k later) in
-    holds_leaves (g.D.Disk.history c.log_batch.new.disk) (plan_of c.args.live) (next_state c.args.live c.args.new.items) c.log_batch.new.live.store k
+    holds_left (next_due c.args.live c.args.new.items) (g.D.Disk.history c.log_batch.new.disk) (plan_of c.args.live) (next_state c.args.live c.args.new.items) c.log_batch.new.live.store k
     (added later c.args.live.config.rule c.args.live.config.fallback c.args.new.items) (logs h)
 
 pub returns-in-Ok-rotate_where_due-clause-tells : goal.returns-in-Ok-rotate_where_due-clause-tells
@@ -94,9 +102,13 @@ returns-in-Ok-rotate_where_due-clause-images g c k later h =
     images_after c.args.live c.log_batch.new.live c.in-Ok.next c.args.new.items log c.in-Ok.ensures.next c.in-Ok.ensures.store
     (g.D.Disk.history c.args.disk.now) (g.D.Disk.history c.log_batch.new.disk) (g.D.Disk.history c.rotate_where_due.new.disk) k later logs
     (c.rotate_where_due.ensures.images k (added later c.args.live.config.rule c.args.live.config.fallback c.args.new.items)) h
+    (way_more (g.D.Disk.history c.args.disk.now) (g.D.Disk.history c.log_batch.new.disk) (next_due c.args.live c.args.new.items) k later
+    (added later c.args.live.config.rule c.args.live.config.fallback c.args.new.items) (plan_of c.args.live) (stored_state c.args.live)
+    (next_state c.args.live c.args.new.items)
     (subst (λ (l : List Call). LeavesAll (g.D.Disk.history c.args.disk.now) (g.D.Disk.history c.log_batch.new.disk)
-    (ReopensToEither (plan_of c.args.live) (stored_state c.args.live) (next_state c.args.live l))) c.as_slice.ensures.value
-    (c.log_batch.ensures.images k later h))
+    (ReopensOnWay false k later (added later c.args.live.config.rule c.args.live.config.fallback l) (plan_of c.args.live) (stored_state c.args.live)
+    (next_state c.args.live l))) c.as_slice.ensures.value
+    (c.log_batch.ensures.images k later h)))
 
 pub returns-in-Ok-rotate_where_due-clause-answered : goal.returns-in-Ok-rotate_where_due-clause-answered
 returns-in-Ok-rotate_where_due-clause-answered g c k later h answered =
@@ -109,7 +121,8 @@ returns-in-Ok-rotate_where_due-clause-answered g c k later h answered =
     → Holds (g.D.Disk.history c.log_batch.new.disk) (plan_of c.args.live) (next_state c.args.live l) c.log_batch.new.live.store k
     (added later c.args.live.config.rule c.args.live.config.fallback l))
     c.as_slice.ensures.value (c.in_default.ensures.holds k later) in
-    left_after c.args.live c.log_batch.new.live c.in-Ok.next c.args.new.items log c.in-Ok.ensures.next c.in-Ok.ensures.store (g.D.Disk.history c.args.disk.now)
+    left_after c.args.live c.log_batch.new.live c.in-Ok.next c.args.new.items log c.in-Ok.ensures.next c.in-Ok.ensures.store
+    (g.D.Disk.history c.args.disk.now)
     (g.D.Disk.history c.log_batch.new.disk) (g.D.Disk.history c.rotate_where_due.new.disk) k later logs
     (c.rotate_where_due.ensures.images k (added later c.args.live.config.rule c.args.live.config.fallback c.args.new.items)) h
 
@@ -137,9 +150,13 @@ returns-in-Err-rotate_where_due-clause-images g c k later h =
     images_after c.args.live c.log_batch.new.live c.in-Ok.next c.args.new.items log c.in-Ok.ensures.next c.in-Ok.ensures.store
     (g.D.Disk.history c.args.disk.now) (g.D.Disk.history c.log_batch.new.disk) (g.D.Disk.history c.rotate_where_due.new.disk) k later logs
     (c.rotate_where_due.ensures.images k (added later c.args.live.config.rule c.args.live.config.fallback c.args.new.items)) h
+    (way_more (g.D.Disk.history c.args.disk.now) (g.D.Disk.history c.log_batch.new.disk) (next_due c.args.live c.args.new.items) k later
+    (added later c.args.live.config.rule c.args.live.config.fallback c.args.new.items) (plan_of c.args.live) (stored_state c.args.live)
+    (next_state c.args.live c.args.new.items)
     (subst (λ (l : List Call). LeavesAll (g.D.Disk.history c.args.disk.now) (g.D.Disk.history c.log_batch.new.disk)
-    (ReopensToEither (plan_of c.args.live) (stored_state c.args.live) (next_state c.args.live l))) c.as_slice.ensures.value
-    (c.log_batch.ensures.images k later h))
+    (ReopensOnWay false k later (added later c.args.live.config.rule c.args.live.config.fallback l) (plan_of c.args.live) (stored_state c.args.live)
+    (next_state c.args.live l))) c.as_slice.ensures.value
+    (c.log_batch.ensures.images k later h)))
 
 pub returns-in-Err-rotate_where_due-clause-answered : goal.returns-in-Err-rotate_where_due-clause-answered
 returns-in-Err-rotate_where_due-clause-answered g c k later h answered =
@@ -152,7 +169,8 @@ returns-in-Err-rotate_where_due-clause-answered g c k later h answered =
     → Holds (g.D.Disk.history c.log_batch.new.disk) (plan_of c.args.live) (next_state c.args.live l) c.log_batch.new.live.store k
     (added later c.args.live.config.rule c.args.live.config.fallback l))
     c.as_slice.ensures.value (c.in_default.ensures.holds k later) in
-    left_after c.args.live c.log_batch.new.live c.in-Ok.next c.args.new.items log c.in-Ok.ensures.next c.in-Ok.ensures.store (g.D.Disk.history c.args.disk.now)
+    left_after c.args.live c.log_batch.new.live c.in-Ok.next c.args.new.items log c.in-Ok.ensures.next c.in-Ok.ensures.store
+    (g.D.Disk.history c.args.disk.now)
     (g.D.Disk.history c.log_batch.new.disk) (g.D.Disk.history c.rotate_where_due.new.disk) k later logs
     (c.rotate_where_due.ensures.images k (added later c.args.live.config.rule c.args.live.config.fallback c.args.new.items)) h
 

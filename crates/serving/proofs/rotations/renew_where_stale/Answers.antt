@@ -13,7 +13,7 @@ returns-then-not-is_stale-clause-logging g c =
 
 pub returns-then-not-is_stale-clause-images : goal.returns-then-not-is_stale-clause-images
 returns-then-not-is_stale-clause-images g c k later h =
-    still_leaves (g.D.Disk.history c.args.disk.now) (plan_of c.args.live.now) (state_of c.args.live.now) c.args.live.now.store k later h
+    still_leaves (stale_by c.args.live.now.store) (g.D.Disk.history c.args.disk.now) (plan_of c.args.live.now) (state_of c.args.live.now) c.args.live.now.store k later h
 
 pub rotate-requires-clause-may : goal.rotate-requires-clause-may
 rotate-requires-clause-may g c =
@@ -36,5 +36,13 @@ returns-clause-turned g c =
 
 pub returns-clause-images : goal.returns-clause-images
 returns-clause-images g c k later h =
-    turned_images c.args.live.now c.first.result.now c.first.ensures.first c.in-Some.store c.in-Some.is
+    let on : is_stale c.in-Some.store ≡ true = grind (arith, c.is_stale.ensures, c.if-not-is_stale.false) in
+    let due : stale_by c.args.live.now.store ≡ true = ap (λ (s : Option Kept). stale_by s) c.in-Some.is ∙ on in
+    turned_images c.args.live.now c.first.result.now c.first.ensures.first c.in-Some.store c.in-Some.is (stale_by c.args.live.now.store) due
     (g.D.Disk.history c.args.disk.now) (g.D.Disk.history c.rotate.new.disk) k later (c.rotate.ensures.images k later) h
+
+pub returns-clause-untouched : goal.returns-clause-untouched
+returns-clause-untouched g c off =
+    let on : is_stale c.in-Some.store ≡ true = grind (arith, c.is_stale.ensures, c.if-not-is_stale.false) in
+    let due : stale_by c.args.live.now.store ≡ true = ap (λ (s : Option Kept). stale_by s) c.in-Some.is ∙ on in
+    absurd (let no : true ≡ false = sym due ∙ off in cc)

@@ -1,6 +1,7 @@
-use Rattle.store_openings.proofs.Keeping.{kept, may_renew, not_kept, rotating_of, turned_some}
-use Rattle.serving.specs.Lives.{plan_of, state_of}
-use Rattle.serving.specs.Stored.{is_stale}
+use Rattle.std.proofs.Common.{ap}
+use Rattle.serving.specs.Lives.{state_of}
+use Rattle.serving.specs.declared.lives.Live.{Live}
+use Rattle.store_openings.proofs.Keeping.{kept, may_renew, not_kept, rotating_of}
 use Rattle.store_openings.proofs.openings.keep_store.Goals as goal
 
 pub returns-in-Ok-clause-kept : goal.returns-in-Ok-clause-kept
@@ -9,11 +10,11 @@ returns-in-Ok-clause-kept g c =
     c.requires.store
     c.renew_where_stale.new.live c.in-Ok.ensures.turned c.in-Ok.ensures.logging
 
+pub returns-in-Ok-clause-store : goal.returns-in-Ok-clause-store
+returns-in-Ok-clause-store g c = ap (λ (l : Live). l.store) c.in-Ok.ensures.turned
+
 pub returns-in-Ok-clause-holds : goal.returns-in-Ok-clause-holds
-returns-in-Ok-clause-holds g c k later h =
-    turned_some (is_stale c.args.store) (g.D.Disk.history c.renew_where_stale.new.disk) (plan_of c.args.live)
-    (state_of c.args.live) c.renew_where_stale.new.live.store k later
-    (c.in-Ok.ensures.holds k later h)
+returns-in-Ok-clause-holds g c = c.in-Ok.ensures.holds
 
 pub returns-in-Err-clause-refused : goal.returns-in-Err-clause-refused
 returns-in-Err-clause-refused g c =

@@ -1,12 +1,16 @@
 use Rattle.std.proofs.Common.{sym, subst, arith, ℕ}
 use Rattle.batch_core.specs.Steps.{State}
+use Rattle.aria_store.specs.Reopens.{Found}
 use Rattle.aria_store.specs.Stands.{batches_in}
 use Rattle.serving.specs.Lives.{plan_of}
-use Rattle.serving.specs.Stored.{Holds}
+use Rattle.serving.specs.Stored.{stored_state}
 use Rattle.slot_images.specs.Said.{checkpoint_in}
 use Rattle.store_openings.specs.Openings.{opened}
+use Rattle.store_openings.specs.Runs.{saved_by}
+use Rattle.store_openings.specs.Saved.{HoldsSaved, renewed}
 use Rattle.store_openings.proofs.Keeping.{err_more, ok_both, ok_more, unwritten_of}
-use Rattle.store_openings.proofs.Readings.{attach_fault, attach_refusal, attached_leaves, attaching_of, found_fault, found_is, found_refusal, opened_as, opened_leaves, reads_on, told_all, unwritten_then}
+use Rattle.store_openings.proofs.Readings.{attach_fault, attach_refusal, attached_leaves, attaching_of, found_fault, found_is, found_refusal, looked_then, opened_as, opened_leaves, reads_left, reads_on, told_all, unwritten_then}
+use Rattle.store_openings.proofs.Savings.{by_files, fresh_is}
 use Rattle.store_openings.proofs.openings.open.Goals as goal
 
 pub not_attached-requires : goal.not_attached-requires
@@ -85,11 +89,35 @@ returns-in-Ok-clause-workers g c = ok_more c.open_found.result (λ live f. f.fou
 
 pub returns-in-Ok-clause-holds : goal.returns-in-Ok-clause-holds
 returns-in-Ok-clause-holds g c =
+    let old = g.D.Disk.history c.args.disk.now in
+    let mid = g.D.Disk.history c.attach.new.disk in
     let new = g.D.Disk.history c.open_found.new.disk in
-    ok_both c.open_found.result (λ live f h told.
-    let held = h (c.in-Ok.ensures.stands (c.attach.ensures.told told)) in
-    (held.0, held.1, subst (λ (s : State). Holds new (plan_of live) s live.store held.0 held.1) (sym f.settings) held.2)) c.open_found.ensures.opened
-    c.open_found.ensures.holds
+    let image = checkpoint_in c.in-Ok.found.image in
+    let later = batches_in c.in-Ok.found.later.items in
+    let law = λ (file : ℕ). g.met.D.Disk.reads c.attach.new.disk mid.now file in
+    ok_both c.open_found.result (λ live f h images k more reads reopens.
+    let there = reads_on old mid images c.attach.ensures.reads reads in
+    let stands = c.in-Ok.ensures.stands (told_all mid images there) in
+    by_files mid images (reads_left mid images there law) c.in-Ok.store image later stands (Found k more)
+    (found_is mid images there law c.in-Ok.store image later (Found k more) c.in-Ok.ensures.stands reopens) new (plan_of live) (stored_state live) live.store
+    (subst (λ (s : State). HoldsSaved new (plan_of live) s live.store (renewed (saved_by c.in-Ok.store image later))) (sym f.settings) (h stands)))
+    c.open_found.ensures.opened c.open_found.ensures.holds
+
+pub returns-in-Ok-clause-fresh : goal.returns-in-Ok-clause-fresh
+returns-in-Ok-clause-fresh g c images k more reads reopens off =
+    let old = g.D.Disk.history c.args.disk.now in
+    let mid = g.D.Disk.history c.attach.new.disk in
+    let image = checkpoint_in c.in-Ok.found.image in
+    let later = batches_in c.in-Ok.found.later.items in
+    let law = λ (file : ℕ). g.met.D.Disk.reads c.attach.new.disk mid.now file in
+    let there = reads_on old mid images c.attach.ensures.reads reads in
+    looked_then old mid (g.D.Disk.history c.open_found.new.disk) c.attach.ensures.images
+    (c.open_found.ensures.fresh (fresh_is mid images (reads_left mid images there law) c.in-Ok.store image later
+    (c.in-Ok.ensures.stands (told_all mid images there)) (Found k more)
+    (found_is mid images there law c.in-Ok.store image later (Found k more) c.in-Ok.ensures.stands reopens) off))
+
+pub returns-in-Err-clause-fresh : goal.returns-in-Err-clause-fresh
+returns-in-Err-clause-fresh g c images k more reads reopens off = c.attach.ensures.images
 
 pub returns-in-Ok-clause-images : goal.returns-in-Ok-clause-images
 returns-in-Ok-clause-images g c images found reads reopens =

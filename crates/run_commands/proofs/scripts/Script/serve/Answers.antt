@@ -45,7 +45,7 @@ returns-in-Ok-clause-serves g c =
     (sym same ∙ line_is place work c.counts-counts.result line c.counts-counts.ensures (Ok c.in-Ok.asked) c.in-Ok.ensures) c.with.ensures.serves
 
 pub returns-in-Ok-clause-keeps : goal.returns-in-Ok-clause-keeps
-returns-in-Ok-clause-keeps g c = λ first.
+returns-in-Ok-clause-keeps g c = λ first saved.
     let place = c.self.inside.place in
     let after = c.in-Ok.asked.0 in
     let work = c.self.inside.work in
@@ -60,18 +60,20 @@ returns-in-Ok-clause-keeps g c = λ first.
     line_is place work counts line c.counts-counts.ensures (Ok c.in-Ok.asked) c.in-Ok.ensures in
     let serves = moved_to (on_line (doing_of place work) line) (done (doing_of after work) asks) ga gb
     (doing_result c.with.result) moves c.with.ensures.serves in
-    subst (λ (s : Running). HoldsScript first old s → KeepsTurns first (Line line ∷ []) s old new ga gb c.with.result) c.self.view_is (λ h.
-    let held = ask_holds place after work c.self.invariant counts c.counts-counts.ensures line asks c.in-Ok.ensures first old h in
-    line_kept place after work c.self.invariant counts c.counts-counts.ensures line asks c.in-Ok.ensures first old h new ga gb c.with.result serves
-    (c.with.ensures.keeps held.c held.later (doing_of place work) line held.holds refl moves) (c.with.ensures.stays first held)
-    (c.with.ensures.held first held (doing_of place work) refl))
+    subst (λ (s : Running). HoldsScript first saved old s → KeepsTurns first saved (Line line ∷ []) s old new ga gb c.with.result) c.self.view_is (λ h.
+    let held = ask_holds place after work c.self.invariant counts c.counts-counts.ensures line asks c.in-Ok.ensures first saved old h in
+    line_kept place after work c.self.invariant counts c.counts-counts.ensures line asks c.in-Ok.ensures first saved old h new ga gb c.with.result serves
+    (c.with.ensures.keeps saved.c saved.later (doing_of place work) line held.stands.holds refl moves)
+    (c.with.ensures.stays first saved held (doing_of place work) refl refl)
+    (c.with.ensures.held first saved held (doing_of place work) refl)
+    (c.with.ensures.left first saved held (doing_of place work) line refl refl moves))
 
 pub returns-in-Err-Memory-clause-keeps : goal.returns-in-Err-Memory-clause-keeps
-returns-in-Err-Memory-clause-keeps g c = λ first h.
-    none_kept first (Line c.args.line.now ∷ []) c.args.self (g.D.Disk.history c.args.disk.now) (g.K.Sink.given c.args.out.now) stop.NoMemory (λ e. absurd cc) h
+returns-in-Err-Memory-clause-keeps g c = λ first saved h.
+    none_kept first saved (Line c.args.line.now ∷ []) c.args.self (g.D.Disk.history c.args.disk.now) (g.K.Sink.given c.args.out.now) stop.NoMemory (λ e. absurd cc) h
 
 pub returns-in-Err-Line-clause-keeps : goal.returns-in-Err-Line-clause-keeps
-returns-in-Err-Line-clause-keeps g c = λ first.
+returns-in-Err-Line-clause-keeps g c = λ first saved.
     let place = c.self.inside.place in
     let work = c.self.inside.work in
     let disk = g.D.Disk.history c.args.disk.now in
@@ -81,6 +83,6 @@ returns-in-Err-Line-clause-keeps g c = λ first.
     let said : asked place c.counts-counts.result c.args.line.now ≡ Err refusal.kind = search rules in
     let at : refusal.line ≡ line_after place.lines = search rules in
     let is = refused_by place work c.counts-counts.result c.args.line.now c.counts-counts.ensures refusal said at in
-    subst (λ (s : Running). HoldsScript first disk s → KeepsTurns first (Line c.args.line.now ∷ []) s disk disk ga gb c.refuse.result) c.self.view_is
-    (λ h. line_refused first c.args.line.now (running_of place work) (refusal_text refusal) disk ga gb c.refuse.result is
+    subst (λ (s : Running). HoldsScript first saved disk s → KeepsTurns first saved (Line c.args.line.now ∷ []) s disk disk ga gb c.refuse.result) c.self.view_is
+    (λ h. line_refused first saved c.args.line.now (running_of place work) (refusal_text refusal) disk ga gb c.refuse.result is
     (refused_doing (refusal_text refusal) ga gb c.refuse.result c.refuse.ensures.serves) h)

@@ -1,4 +1,4 @@
-use Rattle.std.proofs.Common.{◌≡◌, ◌∙◌, sym, true, false}
+use Rattle.std.proofs.Common.{◌≡◌, ◌∙◌, sym, true, false, [], ◌∷◌}
 use Rattle.aria_base.specs.Faults.{Rose}
 use Rattle.std.specs.Prelude.{IsSomeAnd}
 use Rattle.script_course.specs.Courses.{Goes}
@@ -10,6 +10,8 @@ use Rattle.run_commands.proofs.Moved.{moved_to}
 use Rattle.run_commands.proofs.Lined.{quiet_held, quiet_stays}
 use Rattle.run_commands.proofs.Ran.{held_leaves_all}
 use Rattle.run_commands.proofs.Stepped.{causes_more, quiet_keeps, quiet_opens, run_done, run_may, store_on}
+use Rattle.run_commands.proofs.Turns.{left_still}
+use Rattle.run_commands.specs.Passes.{Line}
 use Rattle.run_commands.proofs.works.Work.with.Goals as goal
 use Rattle.script_places.specs.Places.{plan_in}
 
@@ -57,15 +59,26 @@ returns-clause-cause g c =
     (IsSomeAnd (store_in c.args.self.base) (λ _. Rose disk.faults disk.faults)) c.quietly.result c.quietly.ensures.cause
 
 pub returns-clause-stays : goal.returns-clause-stays
-returns-clause-stays g c = λ first h.
+returns-clause-stays g c = λ first saved h before same calls.
     let off : runs_batch c.args.deed ≡ false = sym c.runs_batch.ensures ∙ c.if-runs_batch.false in
-    quiet_stays c.args.place c.args.self (g.K.Sink.given c.args.out.now) (g.K.Sink.given c.quietly.new.out) first
-    (g.D.Disk.history c.args.disk.now) h c.args.deed off c.requires.may
+    quiet_stays c.args.place c.args.self (g.K.Sink.given c.args.out.now) (g.K.Sink.given c.quietly.new.out) first saved
+    (g.D.Disk.history c.args.disk.now) h c.args.deed off c.requires.may before same
     c.quietly.result c.quietly.ensures.store c.quietly.ensures.checkpoint c.quietly.ensures.serves
 
 pub returns-clause-held : goal.returns-clause-held
-returns-clause-held g c = λ first h before same.
+returns-clause-held g c = λ first saved h before same.
     let off : runs_batch c.args.deed ≡ false = sym c.runs_batch.ensures ∙ c.if-runs_batch.false in
-    quiet_held c.args.place c.args.self (g.K.Sink.given c.args.out.now) (g.K.Sink.given c.quietly.new.out) first
+    quiet_held c.args.place c.args.self (g.K.Sink.given c.args.out.now) (g.K.Sink.given c.quietly.new.out) first saved
     (g.D.Disk.history c.args.disk.now) h c.args.deed off c.requires.may
     before same c.quietly.result c.quietly.ensures.store c.quietly.ensures.serves
+
+pub returns-then-runs_batch-clause-left : goal.returns-then-runs_batch-clause-left
+returns-then-runs_batch-clause-left g c = λ first saved h before line same calls is.
+    let on : runs_batch c.args.deed ≡ true = sym c.runs_batch.ensures ∙ c.if-runs_batch.true in
+    c.run.ensures.left first saved h before line same calls (is ∙ run_done (doing_of c.args.place c.args.self) c.args.deed on)
+
+pub returns-clause-left : goal.returns-clause-left
+returns-clause-left g c = λ first saved h before line same calls is.
+    let script = running_of c.args.place c.args.self in
+    left_still (checkpoint_in c.args.self.base) first (Line line ∷ []) before saved (g.D.Disk.history c.args.disk.now) (plan_in c.args.place.head)
+    (held_of script) (store_in c.args.self.base) h
