@@ -75,19 +75,39 @@ impl<R: Files + Drop> Disk for DirDisk<R> {
     ghost reads = { λ disk moment file. tt };
 
     fn len(&mut self, file: u8) -> Result<u64, Failed> {
-        counted(self.folder.len(file), file, &mut self.faults, &mut self.last)
+        counted(
+            self.folder.len(file),
+            file,
+            &mut self.faults,
+            &mut self.last,
+        )
     }
 
     fn read_at(&mut self, file: u8, at: u64, buf: &mut [u8]) -> Result<(), Failed> {
-        counted(self.folder.read_at(file, at, buf), file, &mut self.faults, &mut self.last)
+        counted(
+            self.folder.read_at(file, at, buf),
+            file,
+            &mut self.faults,
+            &mut self.last,
+        )
     }
 
     fn write_at(&mut self, file: u8, at: u64, bytes: &[u8]) -> Result<(), Failed> {
-        counted(self.folder.write_at(file, at, bytes), file, &mut self.faults, &mut self.last)
+        counted(
+            self.folder.write_at(file, at, bytes),
+            file,
+            &mut self.faults,
+            &mut self.last,
+        )
     }
 
     fn sync(&mut self, file: u8) -> Result<(), Failed> {
-        counted(self.folder.sync(file), file, &mut self.faults, &mut self.last)
+        counted(
+            self.folder.sync(file),
+            file,
+            &mut self.faults,
+            &mut self.last,
+        )
     }
 
     fn faults(&self) -> u64 {
