@@ -1,7 +1,8 @@
 load "style.gp"
 set output "sizes.svg"
 set logscale x
-set format x "%.0f"
+set xtics ("100" 100, "1,000" 1000, "10,000" 10000, "100,000" 100000, "1,000,000" 1000000)
+set rmargin 6
 set yrange [0:*]
 set xlabel "rows in the database"
 set ylabel "microseconds of one processor a request"

@@ -16,6 +16,14 @@ use std::io;
 pub struct DirDisk<R: Files> {
     folder: Folder<R>,
     faults: u64,
+    last: Option<Fault>,
+}
+
+/// The error of the system at a call on a file.
+#[derive(Clone, Copy)]
+struct Fault {
+    file: u8,
+    error: io::Error,
 }
 
 impl<R: Files + Drop> DirDisk<R> {
@@ -28,20 +36,34 @@ impl<R: Files + Drop> DirDisk<R> {
         Ok(DirDisk {
             folder: Folder::new(alloc, system, folder)?,
             faults: 0,
+            last: None,
         })
+    }
+
+    /// The path of the file that the last call with a fault was on, and the system's error at it; none
+    /// where no call had a fault.
+    pub fn last_fault(&self) -> Option<(&str, io::Error)> {
+        let fault = self.last?;
+        Some((self.folder.path(fault.file), fault.error))
     }
 }
 
-/// The answer of a call, whose error is counted.
-fn counted<T>(answer: io::Result<T>, faults: &mut u64) -> Result<T, Failed>
+/// The answer of a call on a file, whose error is counted and kept.
+fn counted<T>(
+    answer: io::Result<T>,
+    file: u8,
+    faults: &mut u64,
+    last: &mut Option<Fault>,
+) -> Result<T, Failed>
     ensures kept { IfOk result (λ _. faults.new ≡ faults.old) }
     ensures rose { OnErr result (Rose faults.old faults.new) }
     ensures more { faults.old ≤ faults.new }
 {
     match answer {
         Ok(value) => Ok(value),
-        Err(_) => {
+        Err(error) => {
             *faults = faults.saturating_add(1);
+            *last = Some(Fault { file, error });
             Err(Failed)
         }
     }
@@ -53,19 +75,39 @@ impl<R: Files + Drop> Disk for DirDisk<R> {
     ghost reads = { λ disk moment file. tt };
 
     fn len(&mut self, file: u8) -> Result<u64, Failed> {
-        counted(self.folder.len(file), &mut self.faults)
+        counted(
+            self.folder.len(file),
+            file,
+            &mut self.faults,
+            &mut self.last,
+        )
     }
 
     fn read_at(&mut self, file: u8, at: u64, buf: &mut [u8]) -> Result<(), Failed> {
-        counted(self.folder.read_at(file, at, buf), &mut self.faults)
+        counted(
+            self.folder.read_at(file, at, buf),
+            file,
+            &mut self.faults,
+            &mut self.last,
+        )
     }
 
     fn write_at(&mut self, file: u8, at: u64, bytes: &[u8]) -> Result<(), Failed> {
-        counted(self.folder.write_at(file, at, bytes), &mut self.faults)
+        counted(
+            self.folder.write_at(file, at, bytes),
+            file,
+            &mut self.faults,
+            &mut self.last,
+        )
     }
 
     fn sync(&mut self, file: u8) -> Result<(), Failed> {
-        counted(self.folder.sync(file), &mut self.faults)
+        counted(
+            self.folder.sync(file),
+            file,
+            &mut self.faults,
+            &mut self.last,
+        )
     }
 
     fn faults(&self) -> u64 {

@@ -32,6 +32,14 @@ impl<R: Files + Drop> Folder<R> {
         })
     }
 
+    /// The path of a file. Of a number that no file has it is the folder's.
+    pub fn path(&self, file: u8) -> &str {
+        match self.paths.get(usize::from(file)) {
+            Some(path) => path,
+            None => &self.folder,
+        }
+    }
+
     /// The length of a file.
     pub fn len(&mut self, file: u8) -> io::Result<u64> {
         self.file(file)?.seek(SeekFrom::End(0))

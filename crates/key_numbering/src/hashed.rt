@@ -28,6 +28,7 @@ pub(crate) struct Hashed {
     map: IndexMap<Key, u32>,
     counts: Vec<u8>,
     capacity: usize,
+    closed: bool,
 }
 
 impl Model for Hashed {
@@ -42,14 +43,15 @@ impl Model for Hashed {
 }
 
 impl Hashed {
-    /// No numbers.
-    pub(crate) fn new(alloc: Global) -> Hashed
+    /// No numbers. It takes none where it is closed.
+    pub(crate) fn new(alloc: Global, closed: bool) -> Hashed
         ensures { result ≡ fin.empty }
     {
         Hashed {
             map: IndexMap::new(alloc),
             counts: Vec::new(alloc),
             capacity: 0,
+            closed,
         }
     }
 
@@ -73,6 +75,9 @@ impl Hashed {
     pub(crate) fn admits(&mut self, key: &Key) -> Result<bool, Memory>
         ensures { self.new ≡ self.old }
     {
+        if self.closed {
+            return Ok(false);
+        }
         if self.counts.is_empty() || self.map.capacity() != self.capacity {
             self.count_anew()?;
         }

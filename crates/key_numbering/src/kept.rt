@@ -46,9 +46,16 @@ impl Kept {
     pub fn new(alloc: Global) -> Kept
         ensures { result ≡ fin.empty }
     {
+        Kept::with(alloc, false)
+    }
+
+    /// No keys. Those to come are looked up by their order alone where this is asked for.
+    pub(crate) fn with(alloc: Global, order_alone: bool) -> Kept
+        ensures { result ≡ fin.empty }
+    {
         Kept {
             alloc,
-            places: Places::new(alloc),
+            places: Places::new(alloc, order_alone),
             len: 0,
         }
     }

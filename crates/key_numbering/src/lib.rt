@@ -26,4 +26,4 @@ mod places;
 mod tests;
 
 pub use kept::{Kept, MOST_KEPT, MOST_TOUCHED};
-pub use numbering::{may_be_numbered, number};
+pub use numbering::{may_be_numbered, number, number_ordered};

@@ -45,7 +45,32 @@ pub fn number(alloc: Global, sets: &[Sets]) -> Result<Numbered, Memory>
     ensures one_to_one { IfOk result (λ _. IsOneToOneOn key_cmp (fin.keys (numbers_of sets.now)) (number_in (numbers_of sets.now))) }
     ensures numbers { IfOk result (λ _. AreNumbers (numbers_of sets.now)) }
 {
-    let kept = Kept::new(alloc);
+    number_from(alloc, Kept::new(alloc), sets)
+}
+
+/// The same, by the order of keys alone. It takes longer than [`number`], and no choice of keys makes it
+/// slower than another.
+pub fn number_ordered(alloc: Global, sets: &[Sets]) -> Result<Numbered, Memory>
+    requires count { length sets.now ≤ MOST_REQUESTS }
+    requires touched { fin.len (numbers_of sets.now) ≤ MOST_TOUCHED }
+    ensures lists { IfOk result (IsNumbered key_cmp reads_of writes_of (fin.keys (numbers_of sets.now)) (number_in (numbers_of sets.now)) sets.now) }
+    ensures keys { IfOk result (λ n. n.keys ≡ fin.len (numbers_of sets.now)) }
+    ensures one_to_one { IfOk result (λ _. IsOneToOneOn key_cmp (fin.keys (numbers_of sets.now)) (number_in (numbers_of sets.now))) }
+    ensures numbers { IfOk result (λ _. AreNumbers (numbers_of sets.now)) }
+{
+    number_from(alloc, Kept::with(alloc, true), sets)
+}
+
+/// The same, where this has no keys yet.
+fn number_from(alloc: Global, kept: Kept, sets: &[Sets]) -> Result<Numbered, Memory>
+    requires none { kept ≡ fin.empty }
+    requires count { length sets.now ≤ MOST_REQUESTS }
+    requires touched { fin.len (numbers_of sets.now) ≤ MOST_TOUCHED }
+    ensures lists { IfOk result (IsNumbered key_cmp reads_of writes_of (fin.keys (numbers_of sets.now)) (number_in (numbers_of sets.now)) sets.now) }
+    ensures keys { IfOk result (λ n. n.keys ≡ fin.len (numbers_of sets.now)) }
+    ensures one_to_one { IfOk result (λ _. IsOneToOneOn key_cmp (fin.keys (numbers_of sets.now)) (number_in (numbers_of sets.now))) }
+    ensures numbers { IfOk result (λ _. AreNumbers (numbers_of sets.now)) }
+{
     let all = find_all(alloc, &kept, sets)?;
     let (_kept, numbered) = numbered(kept, sets, all)?;
     Ok(numbered)

@@ -9,8 +9,9 @@ use std::alloc::Global;
 use std::marker::Model;
 
 /// Numbers of keys in a hash table, and in an ordered map where the table is crowded: nearly always a
-/// look-up looks into the table alone, and with keys that somebody chose against the hash it is as
-/// quick as in an ordered map. A contract sees the map of all.
+/// look-up looks into the table alone. With keys that somebody chose against the hash it compares those
+/// of one stretch of the table, at most 176, before it goes on in the ordered map. A contract sees the map
+/// of all.
 #[derive(Drop)]
 pub(crate) struct Places {
     hashed: Hashed,
@@ -31,12 +32,12 @@ impl Model for Places {
 }
 
 impl Places {
-    /// No numbers.
-    pub(crate) fn new(alloc: Global) -> Places
+    /// No numbers. Those to come stand in the ordered map alone where the table is closed.
+    pub(crate) fn new(alloc: Global, closed: bool) -> Places
         ensures { result ≡ fin.empty }
     {
         Places {
-            hashed: Hashed::new(alloc),
+            hashed: Hashed::new(alloc, closed),
             ordered: Ordered::new(alloc),
         }
     }

@@ -4,7 +4,7 @@ ghost use Rattle.std.specs.Prelude.{◌≤◌, vec_len};
 ghost use Rattle.aria_base.specs.declared.limits.TheConstants.{MOST_WORKERS};
 
 use crate::hashed::{Hashed, stretch_of};
-use crate::{Kept, may_be_numbered, number};
+use crate::{Kept, may_be_numbered, number, number_ordered};
 use aria_base::{Draws, Key, Keys, Memory, Part, Parts, Txt};
 use dep_rules::{Numbered, Sets};
 use std::alloc::Global;
@@ -90,13 +90,15 @@ fn copy(alloc: Global, list: &[u32]) -> Result<Vec<u32>, Memory> {
     Ok(copy)
 }
 
-/// The lists by the numbers of these requests alone.
+/// The lists by the numbers of these requests alone, which are the same by the order of keys.
 fn alone(rt: &impl Abort, alloc: Global, sets: &[Sets]) -> Result<Vec<Vec<u32>>, Fail> {
     if !may_be_numbered(sets) {
         panic!(rt; "too many sets");
     }
-    let numbered = number(alloc, sets)?;
-    Ok(lists_of(alloc, &numbered)?)
+    let lists = lists_of(alloc, &number(alloc, sets)?)?;
+    let by_order = lists_of(alloc, &number_ordered(alloc, sets)?)?;
+    same(rt, &"by order", &by_order, &lists);
+    Ok(lists)
 }
 
 /// The lists by the numbers that are kept, and those that are kept then.
@@ -241,7 +243,7 @@ fn keys_of_all_kinds_are_told_apart(rt: HostRuntime) -> Result<(), Fail> {
 fn crowded_stretch_takes_no_more_keys(rt: HostRuntime) -> Result<(), Fail> {
     let alloc = rt.alloc();
     let hasher = BuildHasherDefault::<FoldHasher>::new();
-    let mut hashed = Hashed::new(alloc);
+    let mut hashed = Hashed::new(alloc, false);
     let mut chosen = 0_u32;
     let mut refused = 0_u32;
     for number in 0..40_000_u32 {

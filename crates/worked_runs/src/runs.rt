@@ -1,168 +1,136 @@
-// Runs of the examples on snapshots.
-use crate::catalogs::{Given, NONE, catalog, declared, request, tables};
-use crate::expressions::EXPRESSIONS;
-use crate::statements::STATEMENTS;
-use crate::words::{outcome_words, within_words};
-use exec_phase::{execute, execute_within};
+// One call: what it comes to, on the catalogue and on a copy, and copies of that.
+use crate::windows::run_through;
+use crate::words::Words;
+use crate::wrongs::Wrong;
+use aria_base::{Duplicate, Free, MOST_WORKERS, Memory, Request};
+use exec_phase::{execute, execute_all, execute_within};
+use proc_exec::{Declared, Late, Outcome, Ran, Waiting, Within};
+use proc_lang::Catalog;
 use std::alloc::Global;
-use std::test::Fail;
+use std::thread::Threads;
 use tbl_rows::Tables;
 use tbl_snapshot::Snapshot;
 
-/// What the run comes to. A copy of the catalogue has to come to the same.
-fn run(alloc: Global, tables: &Tables, statements: &str, given: &Given) -> Result<String, Fail> {
-    let catalog = catalog(alloc, statements)?;
-    let request = request(alloc, given)?;
-    if !catalog.takes(&request.call) {
-        return Err(Fail::new("the catalogue does not take the call"));
+/// How many workers run the requests of a procedure at once.
+const CREWS: [u32; 4] = [1, 2, 7, 64];
+
+/// Asks that a copy passes for the first by `==`.
+fn ask_copy<T: Duplicate + PartialEq>(alloc: Global, first: &T) -> Result<(), Wrong> {
+    if first.duplicate(alloc)? == *first {
+        return Ok(());
     }
-    let outcome = execute(alloc, &catalog, &request, Snapshot::of(tables))?;
+    Err(Wrong::Form("a copy of what it comes to is another"))
+}
+
+/// What a request comes to on these rows. A copy of the catalogue has to come to the same.
+pub fn run(
+    alloc: Global,
+    catalog: &Catalog,
+    tables: &Tables,
+    request: &Request,
+) -> Result<Outcome, Wrong> {
+    let outcome = execute(alloc, catalog, request, Snapshot::of(tables))?;
+    ask_copy(alloc, &outcome)?;
+    if is_same_on_copy(alloc, catalog, tables, request, &outcome)? {
+        return Ok(outcome);
+    }
+    Err(Wrong::Form("a copy of the catalogue comes to something else"))
+}
+
+fn is_same_on_copy(
+    alloc: Global,
+    catalog: &Catalog,
+    tables: &Tables,
+    request: &Request,
+    outcome: &Outcome,
+) -> Result<bool, Memory> {
     let copy = catalog.copy(alloc)?;
-    if execute(alloc, &copy, &request, Snapshot::of(tables))? != outcome {
-        return Err(Fail::new("the copy comes to something else"));
-    }
-    Ok(outcome_words(alloc, &outcome)?)
+    Ok(execute(alloc, &copy, request, Snapshot::of(tables))? == *outcome)
 }
 
-#[test]
-fn runs_come_to_their_outcomes(rt: HostRuntime) -> Result<(), Fail> {
-    let tables = tables(rt.alloc())?;
-    for (statements, given, wanted) in &STATEMENTS {
-        let found = run(rt.alloc(), &tables, statements, given)?;
-        assert_eq!(rt; found.as_str(), *wanted, "{statements} with {given:?}");
+/// What a request comes to on these rows within declared keys.
+pub fn run_within(
+    alloc: Global,
+    catalog: &Catalog,
+    tables: &Tables,
+    request: &Request,
+    declared: &Declared,
+) -> Result<Within, Wrong> {
+    let within = execute_within(alloc, catalog, request, Snapshot::of(tables), declared)?;
+    ask_copy(alloc, &within)?;
+    ask_copy(alloc, declared)?;
+    ask_copy(alloc, &waiting(alloc, request, declared)?)?;
+    Ok(within)
+}
+
+/// The request, which waits with these keys declared.
+fn waiting(alloc: Global, request: &Request, declared: &Declared) -> Result<Waiting, Memory> {
+    Ok(Waiting {
+        request: request.duplicate(alloc)?,
+        declared: declared.duplicate(alloc)?,
+    })
+}
+
+/// Adds what a request comes to through a window, within declared keys if there are any.
+pub fn add_run_through(
+    alloc: Global,
+    catalog: &Catalog,
+    request: &Request,
+    declared: Option<&Declared>,
+    out: &mut String,
+) -> Result<(), Wrong> {
+    let ran = run_through(alloc, catalog, request, declared, out)?;
+    ask_copy(alloc, &ran)?;
+    ran.add(catalog.schema().as_slice(), out)?;
+    ask_copy(alloc, &late(ran))
+}
+
+/// What becomes of a waiting request whose run again comes to this.
+fn late(ran: Ran) -> Late {
+    match ran {
+        Ran::Ended(end) => Late::Finished(end),
+        Ran::Moved(key) => Late::Moved(key),
     }
-    for (expression, given, wanted) in &EXPRESSIONS {
-        let statements = format!(in rt.alloc(); "[\"give\",{expression}]")?;
-        let found = run(rt.alloc(), &tables, &statements, given)?;
-        assert_eq!(rt; found.as_str(), *wanted, "{expression} with {given:?}");
+}
+
+/// Asks that any number of workers brings each request to the outcome that it had alone.
+pub fn ask_crews<R: Threads + Sync>(
+    rt: &R,
+    alloc: Global,
+    catalog: &Catalog,
+    tables: &Tables,
+    requests: &[Request],
+    outcomes: &[Outcome],
+) -> Result<(), Wrong> {
+    for workers in CREWS {
+        let found = run_all(rt, alloc, catalog, tables, requests, workers)?;
+        if found.as_slice() != outcomes {
+            return Err(Wrong::Form("several workers come to something else"));
+        }
     }
     Ok(())
 }
 
-/// A run within declared accounts: its statements, what the procedure is called with, which accounts
-/// it may read and which it may write, and what it comes to.
-type RunWithin = (
-    &'static str,
-    Given,
-    &'static [i64],
-    &'static [i64],
-    &'static str,
-);
-
-/// Reads one account, writes what it holds into another, reads a third and gives what that holds.
-const COPY: &str =
-    r#"["get","acct",[["arg",0]],[0]],["put","acct",[["arg",1]],[["reg",0]]],["need","acct",[["arg",2]],[0],2],["give",["reg",0]]"#;
-
-const RUNS_WITHIN: [RunWithin; 18] = [
-    // all that is touched is declared
-    (
-        COPY,
-        ([1, 2, 3], [0, 0], 0),
-        &[1, 3],
-        &[2],
-        "reads acct 1, acct 3 / writes acct 2 = (10) / done 30",
-    ),
-    (
-        COPY,
-        ([1, 2, 7], [0, 0], 0),
-        &[1, 7],
-        &[2],
-        "reads acct 1, acct 7 / fail 2",
-    ),
-    (
-        COPY,
-        ([8, 2, 3], [0, 0], 0),
-        &[8],
-        &[],
-        "reads acct 8 / trap absent",
-    ),
-    ("", NONE, &[], &[], "done"),
-    // what may be written may be read, before it is written too
-    (
-        COPY,
-        ([1, 2, 2], [0, 0], 0),
-        &[1],
-        &[2],
-        "reads acct 1 / writes acct 2 = (10) / done 10",
-    ),
-    (
-        COPY,
-        ([2, 9, 1], [0, 0], 0),
-        &[],
-        &[1, 2, 9],
-        "reads acct 2, acct 1 / writes acct 9 = (20) / done 10",
-    ),
-    // the first access outside
-    (COPY, ([8, 2, 3], [0, 0], 0), &[], &[2], "moved acct 8"),
-    (COPY, ([1, 9, 7], [0, 0], 0), &[1], &[2], "moved acct 9"),
-    (COPY, ([1, 2, 3], [0, 0], 0), &[1], &[2], "moved acct 3"),
-    (COPY, ([1, 2, 7], [0, 0], 0), &[1], &[2], "moved acct 7"),
-    // what may be read may not be written
-    (COPY, ([1, 3, 2], [0, 0], 0), &[1, 3], &[2], "moved acct 3"),
-    (
-        r#"["del","acct",[5]],["fail",1]"#,
-        NONE,
-        &[5],
-        &[6],
-        "moved acct 5",
-    ),
-    // the key counts with its table
-    (
-        r#"["find","seat",[4],[],0]"#,
-        NONE,
-        &[4],
-        &[4],
-        "moved seat 4",
-    ),
-    (
-        r#"["find","acct",[4],[0],1],["give",["reg",1]]"#,
-        NONE,
-        &[4],
-        &[],
-        "reads acct 4 / done 0",
-    ),
-    // a trap before the access comes first, and so do 256 accesses
-    (
-        r#"["get","acct",[["div",1,0]],[0]]"#,
-        NONE,
-        &[],
-        &[],
-        "trap zero",
-    ),
-    (
-        r#"["each",5,[["put","acct",[1],[["item",0]]]]],["put","acct",[9],[1]]"#,
-        ([0, 0, 0], [0, 0], 255),
-        &[],
-        &[1],
-        "moved acct 9",
-    ),
-    (
-        r#"["each",5,[["put","acct",[1],[["item",0]]]]],["put","acct",[9],[1]]"#,
-        ([0, 0, 0], [0, 0], 256),
-        &[],
-        &[1],
-        "trap many",
-    ),
-    (
-        r#"["each",5,[["put","acct",[1],[["item",0]]]]],["put","acct",[9],[1]]"#,
-        ([0, 0, 0], [0, 0], 255),
-        &[],
-        &[1, 9],
-        "writes acct 1 = (264), acct 9 = (1) / done",
-    ),
-];
-
-#[test]
-fn runs_stop_at_the_first_key_outside(rt: HostRuntime) -> Result<(), Fail> {
-    let tables = tables(rt.alloc())?;
-    for (statements, given, reads, writes, wanted) in &RUNS_WITHIN {
-        let catalog = catalog(rt.alloc(), statements)?;
-        let request = request(rt.alloc(), given)?;
-        let declared = declared(rt.alloc(), reads, writes)?;
-        let snapshot = Snapshot::of(&tables);
-        let within = execute_within(rt.alloc(), &catalog, &request, snapshot, &declared)?;
-        let found = within_words(rt.alloc(), &within)?;
-        assert_eq!(rt; found.as_str(), *wanted, "{statements} with {given:?}");
+/// What so many workers make of the requests.
+fn run_all<R: Threads + Sync>(
+    rt: &R,
+    alloc: Global,
+    catalog: &Catalog,
+    tables: &Tables,
+    requests: &[Request],
+    workers: u32,
+) -> Result<Vec<Outcome>, Memory> {
+    if requests.len() > 1000 {
+        return Err(Memory);
     }
-    Ok(())
+    let workers = workers.clamp(1, MOST_WORKERS);
+    execute_all(
+        rt,
+        alloc,
+        catalog,
+        Snapshot::of(tables),
+        requests,
+        workers,
+        &Free,
+    )
 }

@@ -1,104 +1,112 @@
-// What a run comes to, in words.
-use crate::catalogs::TABLES;
-use aria_base::{Changes, Key, Keys, Part, Row, Txt, Value};
-use proc_exec::{Outcome, Within};
+// What runs come to, in words, which are added to a text.
+use aria_base::{Changes, Key, Part, Row, Table, Txt, Value};
+use proc_exec::{Outcome, Ran, Within};
 use proc_lang::{End, Trap};
-use std::alloc::{AllocError, Global};
+use std::alloc::AllocError;
 
-/// Texts with commas between them. Of more than eight only their number, the first and the last.
-pub fn listed(alloc: Global, texts: &[String]) -> Result<String, AllocError> {
-    if texts.len() > 8 {
-        let (first, last) = (&texts[0], &texts[texts.len() - 1]);
-        let count = texts.len();
-        return format!(in alloc; "{count}: {first} .. {last}");
-    }
-    let mut all = String::new(alloc);
-    for (at, text) in texts.iter().enumerate() {
-        if at > 0 {
-            all.push_str(", ")?;
-        }
-        all.push_str(text)?;
-    }
-    Ok(all)
+/// What has words, under the tables whose names they have.
+pub trait Words {
+    /// Adds its words.
+    fn add(&self, tables: &[Table], out: &mut String) -> Result<(), AllocError>;
 }
 
-/// A text in quotes; a long one as its runs of equal letters, such as `<a250 b250>`.
-fn quoted(alloc: Global, text: &Txt) -> Result<String, AllocError> {
+/// Adds all of these with commas between them; of more than eight only their number, the first and the last.
+pub fn add_all<T: Words>(
+    tables: &[Table],
+    items: &[T],
+    out: &mut String,
+) -> Result<(), AllocError> {
+    let count = items.len();
+    if count > 8 {
+        write!(out, "{count}: ")?;
+        items[0].add(tables, out)?;
+        out.push_str(" .. ")?;
+        return items[count - 1].add(tables, out);
+    }
+    for (at, item) in items.iter().enumerate() {
+        if at > 0 {
+            out.push_str(", ")?;
+        }
+        item.add(tables, out)?;
+    }
+    Ok(())
+}
+
+/// Adds a text in quotes; a long one as its runs of equal letters, such as `<a250 b250>`.
+fn add_text(text: &Txt, out: &mut String) -> Result<(), AllocError> {
     let bytes = text.as_slice();
     if bytes.len() > 30 {
-        return runs_of(alloc, bytes);
+        return add_letters(bytes, out);
     }
     let text = str::from_utf8(bytes).unwrap_or("?");
-    format!(in alloc; "'{text}'")
+    write!(out, "'{text}'")
 }
 
-fn runs_of(alloc: Global, bytes: &[u8]) -> Result<String, AllocError> {
-    let mut runs = String::from_str(alloc, "<")?;
+fn add_letters(bytes: &[u8], out: &mut String) -> Result<(), AllocError> {
+    out.push_str("<")?;
     for run in bytes.chunk_by(|one, next| one == next) {
         if let [letter, ..] = run {
             let (letter, count) = (char::from(*letter), run.len());
-            write!(runs, "{letter}{count}")?;
+            write!(out, "{letter}{count}")?;
         }
     }
-    runs.push_str(">")?;
-    Ok(runs)
+    out.push_str(">")
 }
 
-fn value_words(alloc: Global, value: &Value) -> Result<String, AllocError> {
-    match value {
-        Value::Int(number) => format!(in alloc; "{number}"),
-        Value::Text(text) => quoted(alloc, text),
+impl Words for Value {
+    fn add(&self, _tables: &[Table], out: &mut String) -> Result<(), AllocError> {
+        match self {
+            Value::Int(number) => write!(out, "{number}"),
+            Value::Text(text) => add_text(text, out),
+        }
     }
 }
 
-/// A key by its table's name and its parts.
-pub fn key_words(alloc: Global, key: &Key) -> Result<String, AllocError> {
-    let name = TABLES.get(usize::from(key.table)).unwrap_or(&"?");
-    let mut words = String::from_str(alloc, name)?;
-    for part in key.parts.as_slice() {
-        let part = match part {
-            Part::Int(number) => format!(in alloc; "{number}")?,
-            Part::Text(text) => quoted(alloc, text)?,
-        };
-        write!(words, " {part}")?;
+fn add_part(part: &Part, out: &mut String) -> Result<(), AllocError> {
+    out.push_str(" ")?;
+    match part {
+        Part::Int(number) => write!(out, "{number}"),
+        Part::Text(text) => add_text(text, out),
     }
-    Ok(words)
 }
 
-/// What is written at a key: a row, or that there is none.
-pub fn change_words(alloc: Global, key: &Key, row: &Option<Row>) -> Result<String, AllocError> {
-    let key = key_words(alloc, key)?;
+/// The name of the table of this number.
+fn name_of(tables: &[Table], number: u16) -> &str {
+    match tables.get(usize::from(number)) {
+        Some(table) => str::from_utf8(table.name.as_slice()).unwrap_or("?"),
+        None => "?",
+    }
+}
+
+/// A key is its table's name and its parts.
+impl Words for Key {
+    fn add(&self, tables: &[Table], out: &mut String) -> Result<(), AllocError> {
+        out.push_str(name_of(tables, self.table))?;
+        for part in self.parts.as_slice() {
+            add_part(part, out)?;
+        }
+        Ok(())
+    }
+}
+
+/// What is written at a key is a row, or that there is none.
+impl Words for (Key, Option<Row>) {
+    fn add(&self, tables: &[Table], out: &mut String) -> Result<(), AllocError> {
+        self.0.add(tables, out)?;
+        add_row(&self.1, out)
+    }
+}
+
+/// Adds the row that is written, or that there is none.
+pub fn add_row(row: &Option<Row>, out: &mut String) -> Result<(), AllocError> {
     match row {
+        None => out.push_str(" gone"),
         Some(row) => {
-            let row = values_words(alloc, row.as_slice())?;
-            format!(in alloc; "{key} = ({row})")
+            out.push_str(" = (")?;
+            add_all(&[], row.as_slice(), out)?;
+            out.push_str(")")
         }
-        None => format!(in alloc; "{key} gone"),
     }
-}
-
-fn values_words(alloc: Global, values: &[Value]) -> Result<String, AllocError> {
-    let mut all = Vec::new(alloc);
-    for value in values {
-        all.push(value_words(alloc, value)?)?;
-    }
-    listed(alloc, &all)
-}
-
-fn keys_words(alloc: Global, keys: &Keys) -> Result<String, AllocError> {
-    let mut all = Vec::new(alloc);
-    for key in keys.as_slice() {
-        all.push(key_words(alloc, key)?)?;
-    }
-    listed(alloc, &all)
-}
-
-fn changes_words(alloc: Global, changes: &Changes) -> Result<String, AllocError> {
-    let mut all = Vec::new(alloc);
-    for (key, row) in changes.as_slice() {
-        all.push(change_words(alloc, key, row)?)?;
-    }
-    listed(alloc, &all)
 }
 
 fn trap_word(trap: Trap) -> &'static str {
@@ -111,46 +119,70 @@ fn trap_word(trap: Trap) -> &'static str {
     }
 }
 
-pub fn end_words(alloc: Global, end: &End) -> Result<String, AllocError> {
-    match end {
-        End::Done(given) if given.as_slice().is_empty() => String::from_str(alloc, "done"),
-        End::Done(given) => {
-            let given = values_words(alloc, given.as_slice())?;
-            format!(in alloc; "done {given}")
-        }
-        End::Back(code) => format!(in alloc; "fail {code}"),
-        End::Trap(trap) => {
-            let trap = trap_word(*trap);
-            format!(in alloc; "trap {trap}")
+impl Words for End {
+    fn add(&self, _tables: &[Table], out: &mut String) -> Result<(), AllocError> {
+        match self {
+            End::Done(given) => add_given(given.as_slice(), out),
+            End::Back(code) => write!(out, "fail {code}"),
+            End::Trap(trap) => {
+                let trap = trap_word(*trap);
+                write!(out, "trap {trap}")
+            }
         }
     }
 }
 
-/// What is read, what is written and the end, of which the empty ones are left out.
-pub fn outcome_words(alloc: Global, outcome: &Outcome) -> Result<String, AllocError> {
-    let mut words = String::new(alloc);
-    if !outcome.reads.as_slice().is_empty() {
-        let reads = keys_words(alloc, &outcome.reads)?;
-        write!(words, "reads {reads} / ")?;
+fn add_given(given: &[Value], out: &mut String) -> Result<(), AllocError> {
+    out.push_str("done")?;
+    if given.is_empty() {
+        return Ok(());
     }
-    if !outcome.writes.as_slice().is_empty() {
-        let writes = changes_words(alloc, &outcome.writes)?;
-        write!(words, "writes {writes} / ")?;
-    }
-    let end = end_words(alloc, &outcome.end)?;
-    words.push_str(&end)?;
-    Ok(words)
+    out.push_str(" ")?;
+    add_all(&[], given, out)
 }
 
-/// The same of a run within declared keys, or the key at which it stopped.
-pub fn within_words(alloc: Global, within: &Within) -> Result<String, AllocError> {
-    match within {
-        Within::Ended(outcome) => outcome_words(alloc, outcome),
-        Within::Moved(key) => moved_words(alloc, key),
+/// Adds a part of an outcome, where there is anything in it.
+fn add_keys<T: Words>(
+    name: &str,
+    tables: &[Table],
+    items: &[T],
+    out: &mut String,
+) -> Result<(), AllocError> {
+    if items.is_empty() {
+        return Ok(());
+    }
+    out.push_str(name)?;
+    add_all(tables, items, out)?;
+    out.push_str(" / ")
+}
+
+impl Words for Outcome {
+    fn add(&self, tables: &[Table], out: &mut String) -> Result<(), AllocError> {
+        add_keys("reads ", tables, self.reads.as_slice(), out)?;
+        add_keys("writes ", tables, self.writes.as_slice(), out)?;
+        self.end.add(tables, out)
     }
 }
 
-pub fn moved_words(alloc: Global, key: &Key) -> Result<String, AllocError> {
-    let key = key_words(alloc, key)?;
-    format!(in alloc; "moved {key}")
+fn add_moved(key: &Key, tables: &[Table], out: &mut String) -> Result<(), AllocError> {
+    out.push_str("moved ")?;
+    key.add(tables, out)
+}
+
+impl Words for Within {
+    fn add(&self, tables: &[Table], out: &mut String) -> Result<(), AllocError> {
+        match self {
+            Within::Ended(outcome) => outcome.add(tables, out),
+            Within::Moved(key) => add_moved(key, tables, out),
+        }
+    }
+}
+
+impl Words for Ran {
+    fn add(&self, tables: &[Table], out: &mut String) -> Result<(), AllocError> {
+        match self {
+            Ran::Ended(end) => end.add(tables, out),
+            Ran::Moved(key) => add_moved(key, tables, out),
+        }
+    }
 }

@@ -1,0 +1,7 @@
+mod Deciding
+mod Few
+pub mod Judging
+mod Marking
+mod Sheeting
+mod Spots
+mod Touching

@@ -1,0 +1,4 @@
+pub mod Answers
+pub mod Commits
+pub mod Engines
+pub mod Lists
