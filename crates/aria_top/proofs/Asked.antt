@@ -5,14 +5,14 @@ use Rattle.std.specs.Io.KnownBytes.{Appends}
 use Rattle.std.specs.Option.{IfSome}
 use Rattle.std.specs.Prelude.{option_map}
 use Rattle.aria_base.specs.Streams.{AppendsFront}
-use Rattle.aria_store.specs.Reopens.{Reopened, NoStore, Damaged, Found}
+use Rattle.aria_store.specs.Reopens.{Reopened, Reopens, NoStore, Damaged, Found}
 use Rattle.disk_model.proofs.Spans.{leaves_still, still_none}
 use Rattle.disk_model.specs.Histories.{History, LeavesAll, MayLeave, Still}
 use Rattle.script_course.proofs.Turns.{front_none}
 use Rattle.script_course.specs.Courses.{Out}
 use Rattle.command_words.specs.declared.settings.Run.{Run}
 use Rattle.run_commands.specs.Keeps.{ReopensToPassed}
-use Rattle.run_commands.specs.Resumes.{LeavesOver, PassesOver, start_over}
+use Rattle.run_commands.specs.Resumes.{IsLeftOver, LeavesOver, PassesOver, StandsOver, start_over}
 use Rattle.script_course.specs.declared.statuses.TheConstants.{DONE}
 use Rattle.store_commands.specs.Inits as init
 use Rattle.store_openings.specs.Openings.{opened}
@@ -102,6 +102,16 @@ untouched_text : (settings : Run) (found : Reopened) (left : Option (List ℕ)) 
 untouched_text settings found None disk now = tt
 untouched_text settings found (Some text) disk now = untouched_over settings found text disk now
 
+untouched_stands : (settings : Run) (files : ℕ → List ℕ) (found : Reopened) (text : List ℕ) (disk : History) (now : Option (List ℕ))
+    → StandsOver settings files found text disk disk now now
+untouched_stands settings files NoStore text disk now = tt
+untouched_stands settings files (Damaged file at) text disk now = tt
+untouched_stands settings files (Found c later) text disk now = record {
+  images = untouched_all disk (λ images. MayLeave disk disk.now images ⊎ Reopens images (Found c later)
+      ⊎ IsLeftOver settings files c later text images) (λ images may. inl may);
+  exit = λ images may. inr (Appends-nil now);
+}
+
 each_text : (left : Option (List ℕ)) (P : List ℕ → Type 0) → ((text : List ℕ) → P text) → IfSome left P
 each_text None P h = tt
 each_text (Some text) P h = h text
@@ -120,6 +130,8 @@ leaves_untouched (Some (task.Init settings)) left disk now = λ images reads. re
 }
 leaves_untouched (Some (task.Run settings)) left disk now = λ images found reads reopens. record {
   leaves = untouched_text settings (opened images found) left disk now;
+  stands = each_text left (λ text. StandsOver settings images (opened images found) text disk disk now now)
+      (λ text. untouched_stands settings images (opened images found) text disk now);
   holds = λ e. absurd (grind (arith, e));
 }
 leaves_untouched (Some (task.Replay settings)) left disk now = untouched_all disk (MayLeave disk disk.now) (λ images may. may)

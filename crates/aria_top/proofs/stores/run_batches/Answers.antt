@@ -18,7 +18,7 @@ returns-in-Ok-clause-front g c images found reads reopens =
 pub returns-in-Ok-clause-leaves : goal.returns-in-Ok-clause-leaves
 returns-in-Ok-clause-leaves g c images found reads reopens = record {
   leaves = c.in-Ok.ensures.leaves images found reads reopens;
-  stands = c.run.ensures.stands images found reads reopens;
+  stands = c.in-Ok.ensures.stands images found reads reopens;
   holds = λ ended. c.in-Ok.ensures.holds images found reads reopens (ended_ok c.in-Ok.status c.in-Ok.ensures.status ended);
 }
 
@@ -43,6 +43,6 @@ returns-in-Err-clause-told g c images found reads reopens failed =
 pub returns-in-Err-clause-leaves : goal.returns-in-Err-clause-leaves
 returns-in-Err-clause-leaves g c images found reads reopens = record {
   leaves = c.in-Err.ensures.leaves images found reads reopens;
-  stands = c.run.ensures.stands images found reads reopens;
+  stands = c.in-Err.ensures.stands images found reads reopens;
   holds = λ ended. c.in-Err.ensures.holds images found reads reopens (ended_cut c.in-Err.stop c.status.result c.status.ensures ended);
 }
