@@ -25,7 +25,7 @@ import threading
 DATA = os.path.join(os.path.dirname(os.path.dirname(os.path.abspath(__file__))), "crates", "worked_cases", "data")
 FILES = ["ckpt0", "ckpt1", "log0", "log1"]
 PIECES = [1, 7, 4096]
-CREWS = [(1, 1, False), (1, 2, False), (3, 1, False), (3, 2, False), (1, 1, True), (3, 1, True)]
+CREWS = [(1, 1, False), (1, 2, False), (3, 1, False), (3, 2, False), (3, 1, True)]
 CREWED = ["once", "run", "replay", "bench"]
 MOST_SECONDS = 120
 

@@ -175,6 +175,9 @@ module _ (was : Kept) (engine : Between) (config : Config) (plan : Plan) (rows :
       (ReopensBy true c later engine.plan (state_in config engine)) all
       (λ images either. elim either [
         | inl was_there ↦ inl (held_reopens old engine.plan (state_in config engine) was c later h images was_there)
-        | inr is ↦ inr (refl, subst (λ (d : Checkpoint). ReopensAs d [] engine.plan (state_in config engine) images) (next_is c h.stands.known.head h.plan_is)
-            (record { reopens = is; roomy = refl; plan_is = p; state_is = next_state_is }))
+        | inr is ↦ inr (
+          refl,
+          subst (λ (d : Checkpoint). ReopensAs d [] engine.plan (state_in config engine) images) (next_is c h.stands.known.head h.plan_is)
+              (record { reopens = is; roomy = refl; plan_is = p; state_is = next_state_is }),
+        )
       ])

@@ -1,5 +1,5 @@
 -- What `replay` prints of a log is what `run` printed.
-use Rattle.std.proofs.Common.{◌≡◌, ◌⊎◌, inl, inr, ◌∙◌, sym, ap, subst, refl, ℕ, ◌+◌, ◌≤◌, ◌==◌, nat_lt, Bool, true, false, List, [], ◌∷◌, ◌++◌, length, map, Option, Some, None, append_assoc, append-nil, length-append, arith}
+use Rattle.std.proofs.Common.{◌≡◌, ◌⊎◌, inl, inr, ◌∙◌, sym, ap, subst, refl, ℕ, ◌+◌, ◌≤◌, ◌<◌, ◌==◌, nat_lt, Bool, true, false, List, [], ◌∷◌, ◌++◌, length, map, Option, Some, None, append_assoc, append-nil, length-append, arith}
 use Rattle.std.specs.Prelude.{if◌then◌else◌, Result, Ok, Err}
 use Rattle.std.proofs.lemmas.Bool.{cond-true, cond-false}
 use Rattle.std.proofs.lemmas.Bool.Decides.{nat_tests}
@@ -119,7 +119,7 @@ up_more n [] more h k = k
 up_more n (a ∷ rest) more h k = (h.0, up_more n rest more h.1 k)
 
 -- none of them is later
-none_later : (n : ℕ) (answered : List (ℕ × List ℕ)) → UpTo n answered → later_than n answered ≡ []
+pub none_later : (n : ℕ) (answered : List (ℕ × List ℕ)) → UpTo n answered → later_than n answered ≡ []
 none_later n [] h = refl
 none_later n (a ∷ rest) h =
     let off : nat_lt n a.0 ≡ false = grind (arith, nat_tests, h.0) in
@@ -142,7 +142,7 @@ module _ (plan : Plan) (each : Bool) where
   replies_later n state (batch ∷ later) le =
       let on : nat_lt n (state.batches + 1) ≡ true = grind (arith, nat_tests, le) in
       let next = step (run_of plan) state (handed_in batch) in
-      let one = (state.batches + 1, batch_text plan each state (handed_in batch)) in
+      let one : ℕ × List ℕ = (state.batches + 1, batch_text plan each state (handed_in batch)) in
       cond-true (nat_lt n (state.batches + 1)) (one ∷ later_than n (replies plan each next later)) (later_than n (replies plan each next later)) on
       ∙ ap (λ (l : List (ℕ × List ℕ)). one ∷ l) (replies_later n next later (omega (arith, le)))
 
@@ -194,7 +194,7 @@ abbrev TurnTo : Bool → Plan → Doing → Course Doing → Type 0
 TurnTo closed plan d (Stops bytes) = Unit {0}
 TurnTo closed plan d (Goes bytes next) = Quiet closed plan d next ⊎ Ran closed plan d bytes next
 
-holds_own : (state : State) → HoldsAs state state
+pub holds_own : (state : State) → HoldsAs state state
 holds_own state = record { rows = refl; waiting = refl; batches = refl; requests = refl }
 
 module _ (plan : Plan) (each : Bool) (saved : Saved) (past : List (ℕ × List ℕ)) (d : Doing) where

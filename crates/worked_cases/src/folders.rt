@@ -12,12 +12,11 @@ use std::thread::Threads;
 const PIECES: [usize; 3] = [1, 7, 4096];
 
 /// How many workers and replicas there are, and whether what waits is run again by rows that are handed on.
-const CREWS: [(&str, &str, bool); 6] = [
+const CREWS: [(&str, &str, bool); 5] = [
     ("1", "1", false),
     ("1", "2", false),
     ("3", "1", false),
     ("3", "2", false),
-    ("1", "1", true),
     ("3", "1", true),
 ];
 

@@ -47,7 +47,7 @@ returns-in-Ok-clause-holds g c =
     let found = c.in-Ok.ensures.found in
     let same : mid ≡ g.D.Disk.history c.args.disk.now = ap g.D.Disk.history c.in-Ok.ensures.untouched in
     let Own : Live → Type 0 = λ next. Stands mid c.args.store image later
-        → HoldsSaved new (plan_of live) (state_of live) next.store (renewed (saved_by c.args.store image later)) in
+    → HoldsSaved new (plan_of live) (state_of live) next.store (renewed (saved_by c.args.store image later)) in
     let own : IfOk c.keep_store.result Own = ok_both c.keep_store.result (λ next kept h stands.
     renewed_saved new (plan_of live) (state_of live) c.args.store image later next.store c.requires.known.head (sym found.plan) (sym found.state) kept
     (h image later (held_found mid c.args.store c.args.engines.now image later live found stands))) c.keep_store.ensures.store c.keep_store.ensures.holds in
