@@ -37,7 +37,7 @@ import time
 BATCHES, SIZE = 60, 300
 SETTINGS = ["--rule", "reorder", "--fallback", "30"]
 # Of each replica the options that have no say in what is printed.
-REPLICAS = (["--checkpoint", "3"], ["--workers", "2"], ["--replicas", "2", "--workers", "2", "--checkpoint", "20"])
+REPLICAS = (["--checkpoint", "3"], ["--workers", "2", "--batons"], ["--replicas", "2", "--workers", "2", "--checkpoint", "20"])
 LONGEST_CALL = 60
 
 
