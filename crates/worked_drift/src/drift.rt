@@ -101,20 +101,15 @@ fn empty_disk(rt: &impl Abort, alloc: Global) -> MemDisk {
     MemDisk::new(alloc, 1000, 1_000_000, Vec::new(alloc)).expect(rt, MEMORY)
 }
 
-/// The options of a run of a script. How many workers and replicas there are is drawn, and how what waits is
-/// run again; when rows are listed is not.
+/// The options of a run of a script. How many workers and replicas there are is drawn, when rows are listed
+/// is not.
 fn options(rt: &impl Abort, alloc: Global, draws: &mut Draws, each: bool, drain: bool) -> String {
     let workers = drawn(draws, 3);
     let replicas = drawn(draws, 2);
-    let batons = if drawn(draws, 2) == 1 {
-        " --batons"
-    } else {
-        ""
-    };
     let state = if each { "each" } else { "last" };
     let drain = if drain { " --drain" } else { "" };
     let options = format!(in alloc;
-        " --workers {workers} --replicas {replicas}{batons} --state {state}{drain}"
+        " --workers {workers} --replicas {replicas} --state {state}{drain}"
     );
     options.expect(rt, MEMORY)
 }
