@@ -1,34 +1,22 @@
 //! The program `aria`: the standard streams, the folder of its store, and the top call.
-//!
-//! Where the standard error is a terminal a person is told more than a script is: which word cannot stand,
-//! which line was refused, and what the system said of the disk.
 #![tactic(auto)]
 
-mod hints;
-mod watched;
-
-use crate::hints::{refusal, shown, wrong_word};
-use crate::watched::{WatchedSink, WatchedSource, WatchedWriter};
-use aria_base::{FileSink, FileSource, Free, Sink, Source};
-use aria_top::{DISK_FAULT, NO_MEMORY, READ_FAULT, REFUSED, USAGE, WRITE_FAULT, aria};
+use aria_base::{FileSink, FileSource, Free};
+use aria_top::{DISK_FAULT, NO_MEMORY, READ_FAULT, WRITE_FAULT, aria};
 use dir_disk::DirDisk;
-use std::alloc::Global;
-use std::cell::Cell;
 use std::env::Env;
 use std::fs::Files;
-use std::io::{Eprint, ErrorKind, Input, IsTerminal, Print};
+use std::io::{ErrorKind, Input, Print};
 use std::process::ExitCode;
 use std::thread::Threads;
 use std::{env, io};
 
 fn main(rt: HostRuntime) -> ExitCode {
-    let is_watched = rt.stderr().is_terminal();
-    let status = match words(&rt) {
-        Ok(words) => run(&rt, &words, is_watched),
-        Err(error) if error.kind() == ErrorKind::OutOfMemory => NO_MEMORY,
-        // No command has an argument that is no text.
-        Err(_) => run(&rt, &[], is_watched),
-    };
+    let status = run(&rt);
+    if let Some(fault) = fault_of(status) {
+        // Where this fails too, nobody is left to tell.
+        let _ = eprintln!(&rt; "aria: {fault}");
+    }
     ExitCode::from(status)
 }
 
@@ -36,32 +24,28 @@ fn main(rt: HostRuntime) -> ExitCode {
 /// the disk.
 const STORE: &str = "aria-store";
 
-/// Runs the command that the arguments are, says on the standard error what went wrong, and answers its
-/// status. What it says is one line, and more where a person is watching.
-fn run<R: AllocGlobal + Eprint + Files + Input + Print + Threads + Sync>(
+/// Runs the command that the program's arguments are, and answers its status.
+fn run<R: Env + AllocGlobal + Files + Input + Print + Threads + Sync>(rt: &R) -> u8 {
+    match words(rt) {
+        Ok(words) => run_words(rt, &words),
+        Err(error) if error.kind() == ErrorKind::OutOfMemory => NO_MEMORY,
+        // No command has an argument that is no text.
+        Err(_) => run_words(rt, &[]),
+    }
+}
+
+/// Runs the command that the arguments are, and answers its status.
+fn run_words<R: AllocGlobal + Files + Input + Print + Threads + Sync>(
     rt: &R,
     words: &[String],
-    is_watched: bool,
 ) -> u8 {
     let alloc = rt.alloc();
-    let is_closed = Cell::new(false);
-    let writer = WatchedWriter::new(io::writer(rt), &is_closed);
-    let mut input = WatchedSource::new(alloc, FileSource::new(rt.reader()), is_watched);
-    let mut output = WatchedSink::new(alloc, FileSink::new(writer), is_watched);
+    let mut input = FileSource::new(rt.reader());
+    let mut output = FileSink::new(io::writer(rt));
     let Ok(mut disk) = DirDisk::new(alloc, rt, STORE) else {
-        say(rt, NO_MEMORY);
         return NO_MEMORY;
     };
-    let status = aria(rt, alloc, words, &mut input, &mut output, &mut disk, &Free);
-    match status {
-        USAGE if is_watched => say_word(rt, alloc, words),
-        REFUSED if is_watched => say_line(rt, alloc, &input, &output),
-        DISK_FAULT if is_watched => say_disk(rt, &disk),
-        // Who reads the output has seen enough, as behind `head`.
-        WRITE_FAULT if is_watched && is_closed.get() => {}
-        _ => say(rt, status),
-    }
-    status
+    aria(rt, alloc, words, &mut input, &mut output, &mut disk, &Free)
 }
 
 /// The program's arguments, without its name.
@@ -73,58 +57,13 @@ fn words<R: Env + AllocGlobal>(rt: &R) -> io::Result<Vec<String>> {
     Ok(words)
 }
 
-/// Says what is wrong by a status, if anything is. Where that fails nobody is left to tell, here and below.
-fn say<R: Eprint>(rt: &R, status: u8) {
-    let fault = match status {
-        READ_FAULT => "read fault",
-        WRITE_FAULT => "write fault",
-        DISK_FAULT => "disk fault",
-        NO_MEMORY => "no memory",
-        _ => return,
-    };
-    let _ = eprintln!(rt; "aria: {fault}");
-}
-
-/// Says which word cannot stand, and where the commands are listed.
-fn say_word<R: Eprint>(rt: &R, alloc: Global, words: &[String]) {
-    let Ok(Some(word)) = wrong_word(alloc, words) else {
-        let _ = eprintln!(rt; "aria: docs/commands.md lists the commands");
-        return;
-    };
-    let Ok(word) = shown(alloc, word.as_bytes()) else {
-        return;
-    };
-    let _ = eprintln!(rt; "aria: `{word}` cannot stand there; docs/commands.md lists the commands");
-}
-
-/// Says what the refused line is, where it is in hand.
-fn say_line<S, K, R: Eprint>(
-    rt: &R,
-    alloc: Global,
-    input: &WatchedSource<S>,
-    output: &WatchedSink<K>,
-)
-where
-    S: Source,
-    K: Sink,
-{
-    let Some((number, cause)) = refusal(output.last_line()) else {
-        return;
-    };
-    let Some(line) = input.line(number) else {
-        return;
-    };
-    if let Ok(line) = shown(alloc, line) {
-        let _ = eprintln!(rt; "aria: line {number} is refused by `{cause}`: {line}");
-    }
-}
-
-/// Says which file of the store the system refused, and why.
-fn say_disk<D: Files + Drop, R: Eprint>(rt: &R, disk: &DirDisk<D>) {
-    match disk.last_fault() {
-        Some((path, error)) => {
-            let _ = eprintln!(rt; "aria: disk fault: {path}: {error}");
-        }
-        None => say(rt, DISK_FAULT),
+/// What the standard error says of a status, if anything.
+fn fault_of(status: u8) -> Option<&'static str> {
+    match status {
+        READ_FAULT => Some("read fault"),
+        WRITE_FAULT => Some("write fault"),
+        DISK_FAULT => Some("disk fault"),
+        NO_MEMORY => Some("no memory"),
+        _ => None,
     }
 }
