@@ -1,7 +1,7 @@
 -- Lines that stand alone: what a command begins with, and why it does nothing.
 use Rattle.std.specs.Prelude.{ℕ, List, ◌++◌, codes, decimal}
-use Rattle.answer_text.specs.declared.notices.Refused.{Refused}
-use Rattle.answer_text.specs.declared.notices.Refused.TheVariants.{Usage, NoStore, StoreExists}
+use Rattle.answer_text.specs.declared.notices.NotDone.{NotDone}
+use Rattle.answer_text.specs.declared.notices.NotDone.TheVariants.{Usage, NoStore, StoreExists}
 
 -- a line that is a word, with the space behind it, and a number
 abbrev pub counted : List ℕ → ℕ → List ℕ
@@ -18,7 +18,7 @@ kept_text number = codes "batch " ++ decimal number ++ codes " kept\n"
 abbrev pub ready_text : List ℕ
 ready_text = codes "ready\n"
 
-abbrev pub refused_text : Refused → List ℕ
+abbrev pub refused_text : NotDone → List ℕ
 refused_text Usage = codes "refused usage\n"
 refused_text NoStore = codes "refused store none\n"
 refused_text StoreExists = codes "refused store exists\n"

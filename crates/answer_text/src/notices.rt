@@ -7,7 +7,7 @@ use script_text::append_number;
 
 /// Why a command does nothing.
 #[derive(Clone, Copy, Debug, PartialEq, Eq)]
-pub enum Refused {
+pub enum NotDone {
     /// The arguments are no command.
     Usage,
     /// The disk holds no store.
@@ -17,13 +17,13 @@ pub enum Refused {
 }
 
 /// The line that says so. No memory.
-pub fn refused_line(refused: Refused) -> &'static [u8]
+pub fn refused_line(refused: NotDone) -> &'static [u8]
     ensures { result.now ≡ refused_text refused }
 {
     match refused {
-        Refused::Usage => b"refused usage\n",
-        Refused::NoStore => b"refused store none\n",
-        Refused::StoreExists => b"refused store exists\n",
+        NotDone::Usage => b"refused usage\n",
+        NotDone::NoStore => b"refused store none\n",
+        NotDone::StoreExists => b"refused store exists\n",
     }
 }
 

@@ -14,8 +14,8 @@ use Rattle.store_commands.specs.Replays as replay
 use Rattle.store_openings.specs.Openings.{opened}
 use Rattle.aria_top.specs.Out.{LinesAreOne, bench_by, out_by, out_of_task}
 use Rattle.aria_top.specs.Tasks.{alone, task_in}
-use Rattle.aria_top.specs.declared.tasks.Task.{Task}
-use Rattle.aria_top.specs.declared.tasks.Task.TheVariants as task
+use Rattle.aria_top.specs.declared.tasks.CommandTask.{CommandTask}
+use Rattle.aria_top.specs.declared.tasks.CommandTask.TheVariants as task
 
 -- ---- each kind of settings
 
@@ -43,7 +43,7 @@ bench_alone load.Tpcc settings = refl
 
 -- ---- each task
 
-task_alone : (t : Task) (left : Option (List ℕ)) (images : ℕ → List ℕ) (found : Reopened)
+task_alone : (t : CommandTask) (left : Option (List ℕ)) (images : ℕ → List ℕ) (found : Reopened)
     → out_of_task t left images found ≡ out_of_task (alone t) left images found
 task_alone (task.Once settings) left images found = once_alone settings left
 task_alone (task.Init settings) left images found = refl
@@ -54,7 +54,7 @@ task_alone (task.Bench settings) left images found = ap (λ (o : Out). Some o) (
 task_alone task.Audit left images found = refl
 task_alone task.Check left images found = refl
 
-asked_alone : (o : Option Task) (left : Option (List ℕ)) (images : ℕ → List ℕ) (found : Reopened)
+asked_alone : (o : Option CommandTask) (left : Option (List ℕ)) (images : ℕ → List ℕ) (found : Reopened)
     → out_by o left images found ≡ out_by (option_map alone o) left images found
 asked_alone None left images found = refl
 asked_alone (Some t) left images found = task_alone t left images found
@@ -62,5 +62,5 @@ asked_alone (Some t) left images found = task_alone t left images found
 pub lines_are_one : LinesAreOne
 lines_are_one first second left images found same =
     asked_alone (task_in first) left images found
-    ∙ ap (λ (o : Option Task). out_by o left images found) same
+    ∙ ap (λ (o : Option CommandTask). out_by o left images found) same
     ∙ sym (asked_alone (task_in second) left images found)

@@ -19,28 +19,28 @@ use Rattle.store_openings.specs.Openings.{opened}
 use Rattle.aria_top.specs.Disks.{LeavesDisk, Sees, is_taken}
 use Rattle.aria_top.specs.Out.{IsToldFor, out_by, out_of_task, refused_usage}
 use Rattle.aria_top.specs.Tasks.{makes, opens, reads, uses_disk}
-use Rattle.aria_top.specs.declared.tasks.Task.{Task}
-use Rattle.aria_top.specs.declared.tasks.Task.TheVariants as task
+use Rattle.aria_top.specs.declared.tasks.CommandTask.{CommandTask}
+use Rattle.aria_top.specs.declared.tasks.CommandTask.TheVariants as task
 
 -- a task that reads its input
 pub by_left : (out : List ℕ → Out) (left : Option (List ℕ)) (P : Out → Type 0) → IfSome left (λ text. P (out text)) → IfSome (option_map out left) P
 by_left out None P h = tt
 by_left out (Some text) P h = h
 
-module _ (asked : Option Task) (task : Task) (is : asked ≡ Some task) (images : ℕ → List ℕ) (found : Reopened) where
+module _ (asked : Option CommandTask) (task : CommandTask) (is : asked ≡ Some task) (images : ℕ → List ℕ) (found : Reopened) where
   pub sees_asked : (disk : History) → Sees asked disk images found → Sees (Some task) disk images found
-  sees_asked disk h = subst (λ (a : Option Task). Sees a disk images found) is h
+  sees_asked disk h = subst (λ (a : Option CommandTask). Sees a disk images found) is h
 
   pub out_asked : (left : Option (List ℕ)) (P : Out → Type 0) → IfSome (out_of_task task left images found) P → IfSome (out_by asked left images found) P
-  out_asked left P h = subst (λ (a : Option Task). IfSome (out_by a left images found) P) (sym is) h
+  out_asked left P h = subst (λ (a : Option CommandTask). IfSome (out_by a left images found) P) (sym is) h
 
   pub told_asked : (left rest old new : Option (List ℕ)) → IsToldFor (Some task) images found left rest old new → IsToldFor asked images found left rest old new
-  told_asked left rest old new h = subst (λ (a : Option Task). IsToldFor a images found left rest old new) (sym is) h
+  told_asked left rest old new h = subst (λ (a : Option CommandTask). IsToldFor a images found left rest old new) (sym is) h
 
-module _ (asked : Option Task) (task : Task) (is : asked ≡ Some task) where
+module _ (asked : Option CommandTask) (task : CommandTask) (is : asked ≡ Some task) where
   pub leaves_asked : (left : Option (List ℕ)) (was is_now : History) (old new : Option (List ℕ)) (status : ℕ)
       → LeavesDisk (Some task) left was is_now old new status → LeavesDisk asked left was is_now old new status
-  leaves_asked left was is_now old new status h = subst (λ (a : Option Task). LeavesDisk a left was is_now old new status) (sym is) h
+  leaves_asked left was is_now old new status h = subst (λ (a : Option CommandTask). LeavesDisk a left was is_now old new status) (sym is) h
 
   pub reads_asked : (b : Bool) → reads asked ≡ b → reads (Some task) ≡ b
   reads_asked b h = sym (ap reads is) ∙ h
@@ -59,22 +59,22 @@ module _ (asked : Option Task) (task : Task) (is : asked ≡ Some task) where
 
 -- ---- arguments that are no command
 
-pub out_refused : (asked : Option Task) (left : Option (List ℕ)) (images : ℕ → List ℕ) (found : Reopened) (P : Out → Type 0) → asked ≡ None → P refused_usage
+pub out_refused : (asked : Option CommandTask) (left : Option (List ℕ)) (images : ℕ → List ℕ) (found : Reopened) (P : Out → Type 0) → asked ≡ None → P refused_usage
     → IfSome (out_by asked left images found) P
-out_refused asked left images found P is h = subst (λ (a : Option Task). IfSome (out_by a left images found) P) (sym is) h
+out_refused asked left images found P is h = subst (λ (a : Option CommandTask). IfSome (out_by a left images found) P) (sym is) h
 
-pub leaves_refused : (asked : Option Task) (left : Option (List ℕ)) (was is_now : History) (old new : Option (List ℕ)) (status : ℕ) → asked ≡ None
+pub leaves_refused : (asked : Option CommandTask) (left : Option (List ℕ)) (was is_now : History) (old new : Option (List ℕ)) (status : ℕ) → asked ≡ None
     → LeavesDisk asked left was is_now old new status
 leaves_refused asked left was is_now old new status is =
-    subst (λ (a : Option Task). LeavesDisk a left was is_now old new status) (sym is) tt
+    subst (λ (a : Option CommandTask). LeavesDisk a left was is_now old new status) (sym is) tt
 
-pub reads_none : (asked : Option Task) → asked ≡ None → reads asked ≡ true → ⊥
+pub reads_none : (asked : Option CommandTask) → asked ≡ None → reads asked ≡ true → ⊥
 reads_none asked is h = absurd (let both : false ≡ true = sym (ap reads is) ∙ h in cc)
 
-pub opens_none : (asked : Option Task) → asked ≡ None → opens asked ≡ true → ⊥
+pub opens_none : (asked : Option CommandTask) → asked ≡ None → opens asked ≡ true → ⊥
 opens_none asked is h = absurd (let both : false ≡ true = sym (ap opens is) ∙ h in cc)
 
-pub makes_none : (asked : Option Task) → asked ≡ None → makes asked ≡ true → ⊥
+pub makes_none : (asked : Option CommandTask) → asked ≡ None → makes asked ≡ true → ⊥
 makes_none asked is h = absurd (let both : false ≡ true = sym (ap makes is) ∙ h in cc)
 
 -- ---- nothing was done
@@ -117,7 +117,7 @@ each_text None P h = tt
 each_text (Some text) P h = h text
 
 -- there was no memory to read the arguments
-pub leaves_untouched : (asked : Option Task) (left : Option (List ℕ)) (disk : History) (now : Option (List ℕ)) → LeavesDisk asked left disk disk now now 7
+pub leaves_untouched : (asked : Option CommandTask) (left : Option (List ℕ)) (disk : History) (now : Option (List ℕ)) → LeavesDisk asked left disk disk now now 7
 leaves_untouched None left disk now = tt
 leaves_untouched (Some (task.Once settings)) left disk now = tt
 leaves_untouched (Some (task.Init settings)) left disk now = λ images reads. record {

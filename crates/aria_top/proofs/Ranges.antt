@@ -23,7 +23,7 @@ use Rattle.run_commands.specs.Outs.{IsInRange}
 use Rattle.workloads.specs.Laws.{WordsAreWithin}
 use Rattle.aria_top.specs.Tasks as tasks
 use Rattle.aria_top.specs.Tasks.{command_in, task_by, task_in}
-use Rattle.aria_top.specs.declared.tasks.Task.{Task}
+use Rattle.aria_top.specs.declared.tasks.CommandTask.{CommandTask}
 
 -- ---- where a reader reads something, this holds of it
 
@@ -240,5 +240,5 @@ by_line law None = tt
 by_line law (Some l) = by_command law l (command_of l) refl
 
 -- the settings that arguments ask for
-pub in_bounds : WordsAreWithin → (words : List (List ℕ)) (found : Option Task) → found ≡ task_in words → IfSome found tasks.IsInRange
-in_bounds law words found is = subst (λ (f : Option Task). IfSome f tasks.IsInRange) (sym is) (by_line law (line_of commands words))
+pub in_bounds : WordsAreWithin → (words : List (List ℕ)) (found : Option CommandTask) → found ≡ task_in words → IfSome found tasks.IsInRange
+in_bounds law words found is = subst (λ (f : Option CommandTask). IfSome f tasks.IsInRange) (sym is) (by_line law (line_of commands words))

@@ -10,8 +10,8 @@ use Rattle.run_commands.specs.Resumes.{HoldsOver, LeavesOver, StandsOver}
 use Rattle.script_course.specs.declared.statuses.TheConstants.{DONE, READ_FAULT, REFUSED, STORE_REFUSED}
 use Rattle.store_commands.specs.Inits as init
 use Rattle.store_openings.specs.Openings.{ReadsAs, opened}
-use Rattle.aria_top.specs.declared.tasks.Task.{Task}
-use Rattle.aria_top.specs.declared.tasks.Task.TheVariants as task
+use Rattle.aria_top.specs.declared.tasks.CommandTask.{CommandTask}
+use Rattle.aria_top.specs.declared.tasks.CommandTask.TheVariants as task
 
 -- ---- before
 
@@ -20,7 +20,7 @@ abbrev pub is_taken : (ℕ → List ℕ) → Bool
 is_taken images = is_open (images 0) || is_open (images 1)
 
 -- The four files have these bytes, and reopen as that, where the task asks for it. Nothing is asked where the disk is not used.
-abbrev pub Sees : Option Task → History → (ℕ → List ℕ) → Reopened → Type 0
+abbrev pub Sees : Option CommandTask → History → (ℕ → List ℕ) → Reopened → Type 0
 Sees (Some (task.Init settings)) disk images found = ReadsAs disk images
 Sees (Some (task.Run settings)) disk images found = ReadsAs disk images × Reopens images found
 Sees (Some (task.Replay settings)) disk images found = ReadsAs disk images × Reopens images found
@@ -47,7 +47,7 @@ pub record RunLeaves (settings : Run) (images : ℕ → List ℕ) (found : Reope
 
 -- Of the disk is asked what each of these needs to know of it, and of `replay` nothing. A task that does not use the disk has a clause of
 -- its own.
-abbrev pub LeavesDisk : Option Task → Option (List ℕ) → History → History → Option (List ℕ) → Option (List ℕ) → ℕ → Type 0
+abbrev pub LeavesDisk : Option CommandTask → Option (List ℕ) → History → History → Option (List ℕ) → Option (List ℕ) → ℕ → Type 0
 LeavesDisk (Some (task.Init settings)) left was is old new status =
     (images : ℕ → List ℕ) → ReadsAs was images → InitLeaves settings (is_taken images) left was is old new status
 LeavesDisk (Some (task.Run settings)) left was is old new status =

@@ -1,7 +1,7 @@
 -- What the program prints, and how it ends.
 use Rattle.std.specs.Prelude.{◌≡◌, ℕ, List, ◌++◌, Option, Some, None, option_map}
 use Rattle.answer_text.specs.Notices.{refused_text}
-use Rattle.answer_text.specs.declared.notices.Refused.TheVariants.{Usage}
+use Rattle.answer_text.specs.declared.notices.NotDone.TheVariants.{Usage}
 use Rattle.audit_command.specs.Audits as audit
 use Rattle.audit_command.specs.Findings.{finding_text, status_of}
 use Rattle.bench_command.specs.Benches.{ran_of}
@@ -25,8 +25,8 @@ use Rattle.script_course.specs.declared.statuses.TheConstants.{DONE, USAGE}
 use Rattle.tpcc_audit.specs.Conditions.{audited}
 use Rattle.tpcc_audit.specs.declared.findings.Audit.{Audit}
 use Rattle.aria_top.specs.Tasks.{alone, task_in}
-use Rattle.aria_top.specs.declared.tasks.Task.{Task}
-use Rattle.aria_top.specs.declared.tasks.Task.TheVariants as task
+use Rattle.aria_top.specs.declared.tasks.CommandTask.{CommandTask}
+use Rattle.aria_top.specs.declared.tasks.CommandTask.TheVariants as task
 
 abbrev pub refused_usage : Out
 refused_usage = record { bytes = refused_text Usage; status = USAGE }
@@ -45,7 +45,7 @@ bench_out settings = bench_by settings.workload.kind settings
 
 -- What a task prints on an input, where the source tells its bytes; what reads nothing prints without it. A command on a store has
 -- its output by the bytes of the four files and by what they reopen as.
-abbrev pub out_of_task : Task → Option (List ℕ) → (ℕ → List ℕ) → Reopened → Option Out
+abbrev pub out_of_task : CommandTask → Option (List ℕ) → (ℕ → List ℕ) → Reopened → Option Out
 out_of_task (task.Once settings) left images found = option_map (out_of settings) left
 out_of_task (task.Init settings) left images found = option_map (init.out_of settings (is_taken images)) left
 out_of_task (task.Run settings) left images found = out_over settings (opened images found) left
@@ -55,7 +55,7 @@ out_of_task (task.Bench settings) left images found = Some (bench_out settings)
 out_of_task task.Audit left images found = option_map audit.out_of left
 out_of_task task.Check left images found = option_map check.out_of left
 
-abbrev pub out_by : Option Task → Option (List ℕ) → (ℕ → List ℕ) → Reopened → Option Out
+abbrev pub out_by : Option CommandTask → Option (List ℕ) → (ℕ → List ℕ) → Reopened → Option Out
 out_by None left images found = Some refused_usage
 out_by (Some asked) left images found = out_of_task asked left images found
 
@@ -63,7 +63,7 @@ abbrev pub out_for : List (List ℕ) → Option (List ℕ) → (ℕ → List ℕ
 out_for words left images found = out_by (task_in words) left images found
 
 -- what was written is all that the bytes that were taken tell, and no line of them was refused
-abbrev pub IsToldFor : Option Task → (ℕ → List ℕ) → Reopened → Option (List ℕ) → Option (List ℕ)
+abbrev pub IsToldFor : Option CommandTask → (ℕ → List ℕ) → Reopened → Option (List ℕ) → Option (List ℕ)
     → Option (List ℕ) → Option (List ℕ) → Type 0
 IsToldFor (Some (task.Once settings)) images found left rest old new = IsToldOf (told_of settings) left rest old new
 IsToldFor (Some (task.Init settings)) images found left rest old new = IsToldOf init_told left rest old new

@@ -9,11 +9,11 @@ use Rattle.command_words.specs.declared.settings.Command.TheVariants as command
 use Rattle.bench_command.specs.Benches as bench
 use Rattle.run_commands.specs.Outs as once
 use Rattle.workloads.specs.Laws.{IsAsked}
-use Rattle.aria_top.specs.declared.tasks.Task.{Task}
-use Rattle.aria_top.specs.declared.tasks.Task.TheVariants as task
+use Rattle.aria_top.specs.declared.tasks.CommandTask.{CommandTask}
+use Rattle.aria_top.specs.declared.tasks.CommandTask.TheVariants as task
 
 -- the task of a command that the program has; every other command is refused as arguments that are none
-abbrev pub task_by : Command → Option Task
+abbrev pub task_by : Command → Option CommandTask
 task_by (command.Once settings) = Some (task.Once settings)
 task_by (command.Init settings) = Some (task.Init settings)
 task_by (command.Run settings) = Some (task.Run settings)
@@ -28,11 +28,11 @@ task_by other = None
 abbrev pub command_in : List (List ℕ) → Option Command
 command_in words = option_and_then command_of (line_of commands words)
 
-abbrev pub task_in : List (List ℕ) → Option Task
+abbrev pub task_in : List (List ℕ) → Option CommandTask
 task_in words = option_and_then task_by (command_in words)
 
 -- its settings are within their ranges
-abbrev pub IsInRange : Task → Type 0
+abbrev pub IsInRange : CommandTask → Type 0
 IsInRange (task.Once settings) = once.IsInRange settings
 IsInRange (task.Init settings) = settings.fallback ≤ MOST_PERCENT
 IsInRange (task.Run settings) = ((1 ≤ settings.workers) × (settings.workers ≤ MOST_WORKERS))
@@ -45,7 +45,7 @@ IsInRange task.Audit = Unit {0}
 IsInRange task.Check = Unit {0}
 
 -- whether the input is read for it
-abbrev pub reads : Option Task → Bool
+abbrev pub reads : Option CommandTask → Bool
 reads (Some (task.Once settings)) = true
 reads (Some (task.Init settings)) = true
 reads (Some (task.Run settings)) = true
@@ -54,32 +54,32 @@ reads (Some task.Check) = true
 reads other = false
 
 -- whether it needs a store that can be opened
-abbrev pub opens : Option Task → Bool
+abbrev pub opens : Option CommandTask → Bool
 opens (Some (task.Run settings)) = true
 opens (Some (task.Replay settings)) = true
 opens other = false
 
 -- whether it makes a store of what it reads
-abbrev pub makes : Option Task → Bool
+abbrev pub makes : Option CommandTask → Bool
 makes (Some (task.Init settings)) = true
 makes other = false
 
 -- whether a call is made on the disk for it
-abbrev pub uses_disk : Option Task → Bool
+abbrev pub uses_disk : Option CommandTask → Bool
 uses_disk (Some (task.Init settings)) = true
 uses_disk (Some (task.Run settings)) = true
 uses_disk (Some (task.Replay settings)) = true
 uses_disk other = false
 
 -- whether it ends in a finding, which may be that something fails
-abbrev pub finds : Option Task → Bool
+abbrev pub finds : Option CommandTask → Bool
 finds (Some (task.Bench settings)) = true
 finds (Some task.Audit) = true
 finds (Some task.Check) = true
 finds other = false
 
 -- the same task by one worker on one replica, without batons
-abbrev pub alone : Task → Task
+abbrev pub alone : CommandTask → CommandTask
 alone (task.Once settings) = task.Once (record settings { workers = 1; replicas = 1; batons = false })
 alone (task.Run settings) = task.Run (record settings { workers = 1; replicas = 1; batons = false })
 alone (task.Replay settings) = task.Replay (record settings { workers = 1; replicas = 1; batons = false })

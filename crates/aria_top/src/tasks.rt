@@ -10,7 +10,7 @@ use workloads::words_are_within;
 
 /// A command that the program has, with its settings.
 #[derive(Drop)]
-pub enum Task {
+pub enum CommandTask {
     Once(Once),
     Init(Init),
     Run(Run),
@@ -23,7 +23,7 @@ pub enum Task {
 
 /// What the arguments ask for, where they are the line of a command that the program has. Its settings are
 /// within their ranges.
-pub fn read_task(alloc: Global, words: &[String]) -> Result<Option<Task>, Memory>
+pub fn read_task(alloc: Global, words: &[String]) -> Result<Option<CommandTask>, Memory>
     ensures asked { IfOk result (λ found. found ≡ task_in (map string_bytes words.now)) }
     ensures range { IfOk result (λ found. IfSome found IsInRange) }
 {
@@ -35,18 +35,18 @@ pub fn read_task(alloc: Global, words: &[String]) -> Result<Option<Task>, Memory
 }
 
 /// The task of a command, where the program has it.
-fn task_by(command: Command) -> Option<Task>
+fn task_by(command: Command) -> Option<CommandTask>
     ensures { result ≡ task_by command }
 {
     match command {
-        Command::Once(settings) => Some(Task::Once(settings)),
-        Command::Init(settings) => Some(Task::Init(settings)),
-        Command::Run(settings) => Some(Task::Run(settings)),
-        Command::Replay(settings) => Some(Task::Replay(settings)),
-        Command::Gen(settings) => Some(Task::Gen(settings)),
-        Command::Bench(settings) => Some(Task::Bench(settings)),
-        Command::Audit => Some(Task::Audit),
-        Command::Check => Some(Task::Check),
+        Command::Once(settings) => Some(CommandTask::Once(settings)),
+        Command::Init(settings) => Some(CommandTask::Init(settings)),
+        Command::Run(settings) => Some(CommandTask::Run(settings)),
+        Command::Replay(settings) => Some(CommandTask::Replay(settings)),
+        Command::Gen(settings) => Some(CommandTask::Gen(settings)),
+        Command::Bench(settings) => Some(CommandTask::Bench(settings)),
+        Command::Audit => Some(CommandTask::Audit),
+        Command::Check => Some(CommandTask::Check),
         Command::Mix(_) | Command::Nodes(_) => None,
     }
 }

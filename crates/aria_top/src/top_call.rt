@@ -10,14 +10,14 @@ ghost use Rattle.aria_store.specs.Reopens.{Reopened};
 ghost use Rattle.aria_top.specs.Disks.{LeavesDisk, Sees};
 ghost use Rattle.aria_top.specs.Tasks.{finds, makes, opens, reads, task_in, uses_disk, IsInRange};
 ghost use Rattle.answer_text.specs.Notices.{refused_text};
-ghost use Rattle.answer_text.specs.declared.notices.Refused.TheVariants.{Usage};
+ghost use Rattle.answer_text.specs.declared.notices.NotDone.TheVariants.{Usage};
 ghost use Rattle.run_commands.specs.Serial.{EachIsSerial, EachReplayIsSerial, EachRunIsSerial};
 
 use crate::commands::{run_audit, run_bench, run_check, run_gen, run_once};
 use crate::laws::lines_are_one;
 use crate::stores::{run_batches, run_init, run_replay};
-use crate::tasks::{Task, read_task};
-use answer_text::{Refused, refused_line};
+use crate::tasks::{CommandTask, read_task};
+use answer_text::{NotDone, refused_line};
 use aria_base::{Memory, Pace, Sink, Source};
 use disk_model::Disk;
 use run_commands::{each_is_serial, each_replay_is_serial, each_run_is_serial};
@@ -113,7 +113,7 @@ pub fn aria<S: Source, K: Sink, D: Disk, P: Pace + Sync, R: Threads + Sync>(
 fn run_task<S: Source, K: Sink, D: Disk, P: Pace + Sync, R: Threads + Sync>(
     rt: &R,
     alloc: Global,
-    task: &Task,
+    task: &CommandTask,
     input: &mut S,
     out: &mut K,
     disk: &mut D,
@@ -143,14 +143,16 @@ fn run_task<S: Source, K: Sink, D: Disk, P: Pace + Sync, R: Threads + Sync>(
     ensures leaves { LeavesDisk (Some task.now) (S.left input.old) (D.history disk.old) (D.history disk.new) (K.given out.old) (K.given out.new) result }
 {
     match task {
-        Task::Once(settings) => return run_once(rt, alloc, settings, input, out, disk, pace),
-        Task::Init(settings) => return run_init(alloc, settings, input, out, disk),
-        Task::Run(settings) => return run_batches(rt, alloc, settings, input, out, disk, pace),
-        Task::Replay(settings) => return run_replay(rt, alloc, settings, out, disk, pace),
-        Task::Gen(settings) => return run_gen(alloc, settings, out),
-        Task::Bench(settings) => return run_bench(rt, alloc, settings, out, pace),
-        Task::Audit => return run_audit(alloc, input, out),
-        Task::Check => return run_check(alloc, input, out),
+        CommandTask::Once(settings) => return run_once(rt, alloc, settings, input, out, disk, pace),
+        CommandTask::Init(settings) => return run_init(alloc, settings, input, out, disk),
+        CommandTask::Run(settings) => return run_batches(
+            rt, alloc, settings, input, out, disk, pace,
+        ),
+        CommandTask::Replay(settings) => return run_replay(rt, alloc, settings, out, disk, pace),
+        CommandTask::Gen(settings) => return run_gen(alloc, settings, out),
+        CommandTask::Bench(settings) => return run_bench(rt, alloc, settings, out, pace),
+        CommandTask::Audit => return run_audit(alloc, input, out),
+        CommandTask::Check => return run_check(alloc, input, out),
     }
 }
 
@@ -161,7 +163,7 @@ fn refuse_usage<K: Sink>(out: &mut K) -> u8
     ensures others { (result ≡ USAGE) ⊎ (result ≡ WRITE_FAULT) }
     ensures write { result ≡ WRITE_FAULT → Rose (K.faults out.old) (K.faults out.new) }
 {
-    match out.give(refused_line(Refused::Usage)) {
+    match out.give(refused_line(NotDone::Usage)) {
         Ok(()) => USAGE,
         Err(_) => WRITE_FAULT,
     }

@@ -9,7 +9,7 @@ use Rattle.script_places.specs.declared.deeds.Deed.{Deed}
 use Rattle.script_places.specs.declared.deeds.Deed.TheVariants as deed
 use Rattle.script_places.specs.declared.places.Counts.{Counts}
 use Rattle.script_places.specs.declared.places.Mode.TheVariants as mode
-use Rattle.script_places.specs.declared.places.Place.{Place}
+use Rattle.script_places.specs.declared.places.ScriptPlace.{ScriptPlace}
 use Rattle.script_text.specs.declared.refusals.RefusalKind.{RefusalKind}
 use Rattle.script_text.specs.declared.refusals.LinesRefused.{LinesRefused}
 use Rattle.script_text.specs.declared.refusals.LinesRefused.TheVariants.{Memory, Line}
@@ -50,7 +50,7 @@ abbrev pub finding_out : Audit → Out
 finding_out found = record { bytes = findings.finding_text found; status = findings.status_of found }
 
 -- the finding on the rows, unless the end of the input is refused
-abbrev pub closed_by : Auditing → Result Place RefusalKind → Out
+abbrev pub closed_by : Auditing → Result ScriptPlace RefusalKind → Out
 closed_by a (Ok place) = finding_out (audited a.tables)
 closed_by a (Err kind) = record { bytes = refused_after a.place.lines kind; status = status_of stop.Refused }
 

@@ -12,7 +12,7 @@ ghost use Rattle.script_course.specs.declared.statuses.TheConstants as status;
 use crate::findings::{print_finding, status_of};
 use aria_base::{Memory, Sink};
 use script_course::{Reads, Stop, end_with, refuse};
-use script_places::{Counts, Deed, Mode, Place};
+use script_places::{Counts, Deed, Mode, ScriptPlace};
 use script_text::LinesRefused;
 use std::alloc::Global;
 use tbl_rows::Tables;
@@ -22,7 +22,7 @@ use tpcc_audit::Audit;
 #[derive(Drop)]
 pub struct Auditing {
     /// Where the reading stands.
-    pub place: Place,
+    pub place: ScriptPlace,
     /// The rows so far.
     pub tables: Tables,
 }
@@ -40,7 +40,7 @@ impl Auditing {
         ensures { IfOk result (λ auditing. auditing ≡ audits.start) }
     {
         let tables = Tables::new(alloc)?;
-        let place = Place::start(Mode::Audit);
+        let place = ScriptPlace::start(Mode::Audit);
         Ok(Auditing { place, tables })
     }
 

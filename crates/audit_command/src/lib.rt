@@ -4,7 +4,7 @@
 //! holds, or the first place where it does not.
 //!
 //! ```text
-//! Source ──> read_through (script_course) ──line──> Place (script_places) ──> rows ──> tpcc_audit ──> Sink
+//! Source ──> read_through (script_course) ──line──> ScriptPlace (script_places) ──> rows ──> tpcc_audit ──> Sink
 //! ```
 //!
 //! In `specs/`: `Findings` says how a finding is printed, `Audits` what each line and the end print, and with

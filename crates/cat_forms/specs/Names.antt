@@ -3,8 +3,8 @@ use Rattle.std.specs.Prelude.{ℕ, ◌+◌, Bool, true, false, List, [], ◌∷�
 use Rattle.std.specs.Str.{bytes_eq}
 use Rattle.aria_base.specs.declared.values.Kind.{Kind}
 use Rattle.aria_base.specs.declared.values.Kind.TheVariants as kind
-use Rattle.proc_lang.specs.declared.operators.Source.{Source}
-use Rattle.proc_lang.specs.declared.operators.Source.TheVariants as source
+use Rattle.proc_lang.specs.declared.operators.Operand.{Operand}
+use Rattle.proc_lang.specs.declared.operators.Operand.TheVariants as source
 use Rattle.proc_lang.specs.declared.operators.UnaryOp.{UnaryOp}
 use Rattle.proc_lang.specs.declared.operators.UnaryOp.TheVariants as unary
 use Rattle.proc_lang.specs.declared.operators.BinaryOp.{BinaryOp}
@@ -19,11 +19,11 @@ use Rattle.cat_forms.specs.declared.names.Verb.{Verb}
 use Rattle.cat_forms.specs.declared.names.Verb.TheVariants as verb
 use Rattle.cat_forms.specs.declared.names.TheConstants.{FORMS, VERBS, KINDS, ARG_KINDS}
 
-abbrev pub source_name : Source → List ℕ
-source_name source.Reg = codes "reg"
-source_name source.Arg = codes "arg"
-source_name source.Item = codes "item"
-source_name source.Len = codes "len"
+abbrev pub operand_name : Operand → List ℕ
+operand_name source.Reg = codes "reg"
+operand_name source.Arg = codes "arg"
+operand_name source.Item = codes "item"
+operand_name source.Len = codes "len"
 
 abbrev pub unary_name : UnaryOp → List ℕ
 unary_name unary.Not = codes "not"
@@ -45,7 +45,7 @@ binary_name binary.Cat = codes "cat"
 
 abbrev pub form_name : Form → List ℕ
 form_name form.Me = codes "me"
-form_name (form.Named from) = source_name from
+form_name (form.Named from) = operand_name from
 form_name (form.Unary o) = unary_name o
 form_name (form.Binary o) = binary_name o
 form_name form.MulDiv = codes "muldiv"

@@ -1,16 +1,16 @@
 // What expressions, statements and kinds are called in JSON.
 ghost use Rattle.std.specs.Prelude.{◌≡◌};
-ghost use Rattle.cat_forms.specs.Names.{source_name, unary_name, binary_name, form_name, form_named, verb_name, verb_named, kind_name, kind_named, arg_kind_name, arg_kind_named};
+ghost use Rattle.cat_forms.specs.Names.{operand_name, unary_name, binary_name, form_name, form_named, verb_name, verb_named, kind_name, kind_named, arg_kind_name, arg_kind_named};
 
 use aria_base::Kind;
-use proc_lang::{ArgKind, BinaryOp, MOST_TABLES, Source, UnaryOp};
+use proc_lang::{ArgKind, BinaryOp, MOST_TABLES, Operand, UnaryOp};
 
 /// The forms of expressions that have a name.
 #[derive(Clone, Copy, Debug, PartialEq, Eq)]
 pub enum Form {
     Me,
     /// Of a plain number.
-    Named(Source),
+    Named(Operand),
     /// Of one expression.
     Unary(UnaryOp),
     /// Of two expressions.
@@ -22,10 +22,10 @@ pub enum Form {
 /// All of them.
 pub const FORMS: [Form; 21] = [
     Form::Me,
-    Form::Named(Source::Reg),
-    Form::Named(Source::Arg),
-    Form::Named(Source::Item),
-    Form::Named(Source::Len),
+    Form::Named(Operand::Reg),
+    Form::Named(Operand::Arg),
+    Form::Named(Operand::Item),
+    Form::Named(Operand::Len),
     Form::Unary(UnaryOp::Not),
     Form::Unary(UnaryOp::Show),
     Form::Binary(BinaryOp::Add),
@@ -93,14 +93,14 @@ pub const NO_TABLE: u16 = 65535;
 const _: () = prove!(NO_TABLE as usize >= MOST_TABLES);
 
 /// What the form of a plain number is called.
-fn source_name(source: Source) -> &'static str
-    ensures { result.now ≡ source_name source }
+fn operand_name(source: Operand) -> &'static str
+    ensures { result.now ≡ operand_name source }
 {
     match source {
-        Source::Reg => "reg",
-        Source::Arg => "arg",
-        Source::Item => "item",
-        Source::Len => "len",
+        Operand::Reg => "reg",
+        Operand::Arg => "arg",
+        Operand::Item => "item",
+        Operand::Len => "len",
     }
 }
 
@@ -141,7 +141,7 @@ impl Form {
     {
         match self {
             Form::Me => "me",
-            Form::Named(source) => source_name(source),
+            Form::Named(source) => operand_name(source),
             Form::Unary(operator) => unary_name(operator),
             Form::Binary(operator) => binary_name(operator),
             Form::MulDiv => "muldiv",

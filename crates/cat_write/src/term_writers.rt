@@ -10,7 +10,7 @@ ghost use Rattle.cat_write.specs.Held.{term_held};
 
 use aria_base::{Memory, Txt};
 use cat_forms::Form;
-use proc_lang::{BinaryOp, Expr, Shape, Source, UnaryOp};
+use proc_lang::{BinaryOp, Expr, Operand, Shape, UnaryOp};
 use serde_json::{ToValue, Value};
 use std::alloc::Global;
 use std::str;
@@ -35,7 +35,7 @@ fn alone(alloc: Global, form: Form) -> Result<Value, Memory>
 }
 
 /// The form of a plain number.
-fn named(alloc: Global, source: Source, number: u32) -> Result<Value, Memory>
+fn named(alloc: Global, source: Operand, number: u32) -> Result<Value, Memory>
     ensures { IfOk result (λ v. view v ≡ form_data (form.Named source) (index_data number ∷ [])) }
 {
     let name = Form::Named(source).name().to_value(alloc)?;

@@ -10,7 +10,7 @@ use Rattle.script_places.specs.Follows.{Follows}
 use Rattle.script_places.specs.Places.{asked}
 use Rattle.script_places.specs.declared.deeds.Deed.{Deed}
 use Rattle.script_places.specs.declared.deeds.Deed.TheVariants as deed
-use Rattle.script_places.specs.declared.places.Place.{Place}
+use Rattle.script_places.specs.declared.places.ScriptPlace.{ScriptPlace}
 use Rattle.check_command.specs.Checks.{Doing, counts_of, with_call, with_kept, with_run}
 use Rattle.serial_check.specs.Crowds.{run_behind}
 use Rattle.check_command.specs.Standing.{MayCall, MayDo, MayKeep, MayRun, Stands}
@@ -61,7 +61,7 @@ kept_on d next number may place calls script ends =
     let s = keep_stands d number may in
     record {
       ends = ap (λ (l : List (ℕ × List Call)). run_behind 0 l) script ∙ s.ends ∙ ap length (sym ends);
-      counted = ap (λ (p : Place). p.open_calls) place ∙ s.counted ∙ ap length (sym calls);
+      counted = ap (λ (p : ScriptPlace). p.open_calls) place ∙ s.counted ∙ ap length (sym calls);
     }
 
 pub ran_on : (d next : Doing) → MayRun d → next.place ≡ d.place → next.calls ≡ [] → next.script ≡ d.script ++ (length d.ends + 1, d.calls) ∷ []
@@ -71,12 +71,12 @@ ran_on d next may place calls script ends =
     let s = run_stands d may in
     record {
       ends = ap (λ (l : List (ℕ × List Call)). run_behind 0 l) script ∙ s.ends ∙ ap length (sym ends);
-      counted = ap (λ (p : Place). p.open_calls) place ∙ s.counted ∙ ap length (sym calls);
+      counted = ap (λ (p : ScriptPlace). p.open_calls) place ∙ s.counted ∙ ap length (sym calls);
     }
 
 -- ---- what a line asks for may be done behind it
 
-pub may_do : (d : Doing) (line : List ℕ) (after : Place) (asks : Deed) → Stands d → asked d.place (counts_of d) line ≡ Ok (after, asks)
+pub may_do : (d : Doing) (line : List ℕ) (after : ScriptPlace) (asks : Deed) → Stands d → asked d.place (counts_of d) line ≡ Ok (after, asks)
     → Follows d.place (counts_of d) after asks
     → MayDo (record d { place = after }) asks
 may_do d line after deed.Nothing s e f = record { ends = s.ends; counted = f.allows.calls ∙ s.counted }
@@ -97,7 +97,7 @@ may_do d line after deed.Run s e f = record {
 }
 
 -- as it was asked: the batches are as many as the lines that end them
-pub may_follow : (d : Doing) (n : ℕ) (line : List ℕ) (after : Place) (asks : Deed) → n ≡ length d.ends → Stands d
+pub may_follow : (d : Doing) (n : ℕ) (line : List ℕ) (after : ScriptPlace) (asks : Deed) → n ≡ length d.ends → Stands d
     → asked d.place (record { batches = n; requests = d.requests; waiting = 0 }) line ≡ Ok (after, asks) → MayDo (record d { place = after }) asks
 may_follow d n line after asks same s e =
     let is : asked d.place (counts_of d) line ≡ Ok (after, asks) =

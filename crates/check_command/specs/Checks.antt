@@ -13,7 +13,7 @@ use Rattle.script_places.specs.declared.deeds.Deed.{Deed}
 use Rattle.script_places.specs.declared.deeds.Deed.TheVariants as deed
 use Rattle.script_places.specs.declared.places.Counts.{Counts}
 use Rattle.script_places.specs.declared.places.Mode.TheVariants as mode
-use Rattle.script_places.specs.declared.places.Place.{Place}
+use Rattle.script_places.specs.declared.places.ScriptPlace.{ScriptPlace}
 use Rattle.script_text.specs.declared.refusals.RefusalKind.{RefusalKind}
 use Rattle.script_text.specs.declared.refusals.RefusalKind.TheVariants as kind
 use Rattle.serial_check.specs.Reports.{finding}
@@ -25,7 +25,7 @@ use Rattle.script_course.specs.declared.statuses.TheConstants as status
 -- Between two lines: the place, the rows, the calls of the open batch, and the batches so far, each with its number. Of those that are to
 -- be run, the line that ends each, and how many calls they have; then the lines of the report.
 pub record Doing : Type 0 where
-  pub place : Place
+  pub place : ScriptPlace
   pub rows : Database
   pub calls : List Call
   pub script : List (ℕ × List Call)
@@ -93,7 +93,7 @@ out_of_finding ends (found.Crowded number) =
 abbrev pub judged : Doing → Out
 judged d = out_of_finding d.ends (finding (plan_in d.place.head) d.report d.rows d.script)
 
-abbrev pub closed_by : Doing → Result Place RefusalKind → Out
+abbrev pub closed_by : Doing → Result ScriptPlace RefusalKind → Out
 closed_by d (Ok place) = judged (record d { place = place })
 closed_by d (Err kind) = record { bytes = refused_after d.place.lines kind; status = status_of stop.Refused }
 

@@ -5,14 +5,14 @@ use Rattle.answer_text.specs.Refusals.{refusal_text}
 use Rattle.script_course.specs.Courses.{Course, Goes, Stops}
 use Rattle.script_places.specs.declared.deeds.Deed.{Deed}
 use Rattle.script_places.specs.declared.deeds.Deed.TheVariants as deed
-use Rattle.script_places.specs.declared.places.Place.{Place}
+use Rattle.script_places.specs.declared.places.ScriptPlace.{ScriptPlace}
 use Rattle.script_text.specs.declared.refusals.LinesRefused.{LinesRefused}
 use Rattle.script_text.specs.declared.refusals.LinesRefused.TheVariants as refused
 use Rattle.serial_check.specs.Crowds.{run_behind}
 use Rattle.check_command.specs.Checks.{Doing}
 use Rattle.check_command.specs.declared.works.Work.{Work}
 
-abbrev pub doing_of : Place → Work → Doing
+abbrev pub doing_of : ScriptPlace → Work → Doing
 doing_of place work = record {
   place = place;
   rows = work.tables;

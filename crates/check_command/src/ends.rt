@@ -14,7 +14,7 @@ use crate::texts::{fails_text, line_of};
 use crate::works::Work;
 use aria_base::{Memory, Sink};
 use script_course::{DONE, FAILS, Stop, end_with, refuse};
-use script_places::{Place, catalog_in};
+use script_places::{ScriptPlace, catalog_in};
 use script_text::{LinesRefused, Refusal, RefusalKind};
 use serial_check::{Finding, check, crowded_is_run};
 use std::alloc::Global;
@@ -36,7 +36,7 @@ pub(crate) fn end_of<K: Sink>(alloc: Global, reading: Reading, out: &mut K) -> R
 }
 
 /// What the check finds, where nothing is refused.
-fn judge<K: Sink>(alloc: Global, place: Place, work: Work, out: &mut K) -> Result<u8, Stop>
+fn judge<K: Sink>(alloc: Global, place: ScriptPlace, work: Work, out: &mut K) -> Result<u8, Stop>
     requires { HasEnds (doing_of place work) }
     ensures finishes { Finishes (judged (doing_of place work)) (K.given out.old) (K.given out.new) result }
     ensures read { result ≢ Err stop.NoRead }

@@ -2,7 +2,7 @@
 //! whether that is a report on the script, and which line is the first that cannot stand.
 //!
 //! ```text
-//! Source ──> read_through (script_course) ──line──> Place (script_places) ──> Deed ──> Work
+//! Source ──> read_through (script_course) ──line──> ScriptPlace (script_places) ──> Deed ──> Work
 //!                                                                                       │
 //!                                  Sink <── text <── Finding <── check (serial_check) <─┘
 //! ```

@@ -7,7 +7,7 @@ ghost use Rattle.check_command.specs.Standing.{MayCall, MayDo, MayKeep, MayRun, 
 use crate::works::Work;
 use aria_base::{Bytes, Call, Key, Memory, Row, Sink};
 use script_course::{Reads, Stop, refuse};
-use script_places::{Counts, Deed, Mode, Place, follows};
+use script_places::{Counts, Deed, Mode, ScriptPlace, follows};
 use script_text::LinesRefused;
 use std::alloc::Global;
 use std::marker::Model;
@@ -16,7 +16,7 @@ use tbl_rows::Tables;
 /// A script and its report between two lines.
 #[derive(Drop)]
 pub(crate) struct Reading {
-    pub place: Place,
+    pub place: ScriptPlace,
     pub work: Work,
 }
 
@@ -47,7 +47,7 @@ impl Reading {
             requests: 0,
             report: Vec::new(alloc),
         };
-        let place = Place::start(Mode::Check);
+        let place = ScriptPlace::start(Mode::Check);
         Ok(Reading { place, work })
     }
 
@@ -95,7 +95,13 @@ impl Reads<()> for Reading {
 
 impl Work {
     /// What a line asks for, at the place behind it.
-    fn with(self, alloc: Global, place: Place, deed: Deed, line: &[u8]) -> Result<Reading, Memory>
+    fn with(
+        self,
+        alloc: Global,
+        place: ScriptPlace,
+        deed: Deed,
+        line: &[u8],
+    ) -> Result<Reading, Memory>
         requires { MayDo (doing_of place self) deed }
         ensures { IfOk result (λ reading. done (doing_of place self) line.now deed ≡ Goes [] reading) }
     {
@@ -110,7 +116,7 @@ impl Work {
     }
 
     /// The row stands at the key.
-    fn put(self, place: Place, key: Key, row: Row) -> Result<Reading, Memory>
+    fn put(self, place: ScriptPlace, key: Key, row: Row) -> Result<Reading, Memory>
         requires { Stands (doing_of place self) }
         ensures { IfOk result (λ reading. reading ≡ with_row (doing_of place self) key row) }
     {
@@ -120,7 +126,7 @@ impl Work {
     }
 
     /// One call more.
-    fn call(self, place: Place, call: Call) -> Result<Reading, Memory>
+    fn call(self, place: ScriptPlace, call: Call) -> Result<Reading, Memory>
         requires { MayCall (doing_of place self) }
         ensures { IfOk result (λ reading. reading ≡ with_call (doing_of place self) call) }
     {
@@ -130,7 +136,7 @@ impl Work {
     }
 
     /// A batch that was run before; its calls are dropped.
-    fn keep(self, alloc: Global, place: Place, number: u64) -> Result<Reading, Memory>
+    fn keep(self, alloc: Global, place: ScriptPlace, number: u64) -> Result<Reading, Memory>
         requires { MayKeep (doing_of place self) number }
         ensures { IfOk result (λ reading. reading ≡ with_kept (doing_of place self) number) }
     {
@@ -141,7 +147,7 @@ impl Work {
     }
 
     /// The batch of the open calls, which is to be run.
-    fn run(self, alloc: Global, place: Place) -> Result<Reading, Memory>
+    fn run(self, alloc: Global, place: ScriptPlace) -> Result<Reading, Memory>
         requires { MayRun (doing_of place self) }
         ensures { IfOk result (λ reading. reading ≡ with_run (doing_of place self)) }
     {
@@ -168,7 +174,7 @@ impl Work {
     }
 
     /// One line of the report more.
-    fn tell(self, alloc: Global, place: Place, line: &[u8]) -> Result<Reading, Memory>
+    fn tell(self, alloc: Global, place: ScriptPlace, line: &[u8]) -> Result<Reading, Memory>
         requires { Stands (doing_of place self) }
         ensures { IfOk result (λ reading. reading ≡ with_told (doing_of place self) line.now) }
     {

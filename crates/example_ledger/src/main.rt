@@ -20,7 +20,7 @@ use std::fs::Files;
 use std::io::{Print, writer};
 use std::process::ExitCode;
 use std::thread::Threads;
-use store_openings::{Engines, NotOpened, open};
+use store_openings::{NotOpened, RunSettings, open};
 use tbl_rows::Tables;
 use thiserror::Error;
 
@@ -44,7 +44,7 @@ const BATCHES: [&str; 3] = [
 ];
 
 /// Three replicas of two workers each, and a checkpoint behind each second batch.
-const ENGINES: Engines = Engines {
+const SETTINGS: RunSettings = RunSettings {
     replicas: 3,
     workers: 2,
     batons: false,
@@ -89,11 +89,11 @@ fn run<R: AllocGlobal + Files + Print + Threads + Sync>(rt: &R) -> Result<(), Fa
     let mut out = FileSink::new(writer(rt));
     let mut disk = DirDisk::new(alloc, rt, "ledger-store")?;
     create(alloc, &mut disk)?;
-    let mut ledger = open(rt, alloc, &ENGINES, &mut disk, &Free).map_err(Fault::NotOpened)?;
+    let mut ledger = open(rt, alloc, &SETTINGS, &mut disk, &Free).map_err(Fault::NotOpened)?;
     for lines in BATCHES {
         ledger = serve(rt, alloc, ledger, lines, &mut out, &mut disk)?;
     }
-    let ledger = open(rt, alloc, &ENGINES, &mut disk, &Free).map_err(Fault::NotOpened)?;
+    let ledger = open(rt, alloc, &SETTINGS, &mut disk, &Free).map_err(Fault::NotOpened)?;
     for engine in ledger.replicas.parts().as_slice() {
         let rows = print_state(alloc, engine.catalog(), engine.tables(), engine.batches())?;
         out.give(&rows)

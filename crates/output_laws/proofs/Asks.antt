@@ -13,13 +13,13 @@ use Rattle.proc_lang.specs.Catalogs.{Plan}
 use Rattle.script_places.specs.Places.{Asked, asked, asked_at, at_call, at_catalog, at_item, at_piece, at_row, at_settings, behind_text, by_head, calls, closed, ends, found, in_text, is_byte, is_ready, is_unnamed, item_in_text, next_line, puts, refused_in_text, runs, sets, under, without_head}
 use Rattle.script_places.specs.declared.deeds.Deed.{Deed}
 use Rattle.script_places.specs.declared.deeds.Deed.TheVariants as deed
-use Rattle.script_places.specs.declared.heads.Head.{Head}
-use Rattle.script_places.specs.declared.heads.Head.TheVariants as head
+use Rattle.script_places.specs.declared.heads.ScriptCatalog.{ScriptCatalog}
+use Rattle.script_places.specs.declared.heads.ScriptCatalog.TheVariants as head
 use Rattle.script_places.specs.declared.limits.TheConstants.{MOST_CATALOG}
 use Rattle.script_places.specs.declared.places.Counts.{Counts}
 use Rattle.script_places.specs.declared.places.Mode.{Mode}
 use Rattle.script_places.specs.declared.places.Mode.TheVariants as mode
-use Rattle.script_places.specs.declared.places.Place.{Place}
+use Rattle.script_places.specs.declared.places.ScriptPlace.{ScriptPlace}
 use Rattle.script_text.specs.Fits.{and_then, placed_call, placed_row, placed_settings}
 use Rattle.script_text.specs.Forms.{said}
 use Rattle.script_text.specs.declared.items.Item.{Item}
@@ -34,14 +34,14 @@ use Rattle.output_laws.proofs.Runs.{PrintedPlan}
 use Rattle.output_laws.proofs.Texts.{PrintedArg, PrintedCall, PrintedCells, PrintedKey, PrintedPart}
 
 -- the same place, in this mode
-abbrev pub as_mode : Mode → Place → Place
+abbrev pub as_mode : Mode → ScriptPlace → ScriptPlace
 as_mode m p = record p { mode = m }
 
 -- what `check` counts: nothing is known of what waits
 abbrev pub unwaited : Counts → Counts
 unwaited c = record { batches = c.batches; requests = c.requests; waiting = 0 }
 
-abbrev pub PrintedHead : Head → Type 0
+abbrev pub PrintedHead : ScriptCatalog → Type 0
 PrintedHead head.Unnamed = ⊤
 PrintedHead (head.Text text) = ⊤
 PrintedHead (head.Ready plan) = PrintedPlan plan
@@ -57,7 +57,7 @@ PrintedDeed deed.Run = ⊤
 PrintedDeed deed.Tell = ⊥
 
 -- a batch ends where there is a catalogue
-abbrev pub IsReadyFor : Head → Deed → Type 0
+abbrev pub IsReadyFor : ScriptCatalog → Deed → Type 0
 IsReadyFor h deed.Nothing = ⊤
 IsReadyFor h (deed.Put key row) = ⊤
 IsReadyFor h (deed.Call call) = ⊤
@@ -67,7 +67,7 @@ IsReadyFor h deed.Run = is_ready h ≡ true
 IsReadyFor h deed.Tell = ⊤
 
 -- what is known of what a line of a script asks `once` for
-pub record Asks (r : Place × Deed) : Type 0 where
+pub record Asks (r : ScriptPlace × Deed) : Type 0 where
   pub mode_is : r.0.mode ≡ mode.Once
   pub quiet : r.0.reports ≡ false
   pub head : PrintedHead r.0.head
@@ -88,7 +88,7 @@ beside_then : {T : Type 0} (P : T → Type 0) (f g : T → Asked) (r : Result T 
 beside_then P f g (Ok t) p h = h t p
 beside_then P f g (Err why) p h = tt
 
-beside_under : (h : Head) (f g : Plan → Asked) → PrintedHead h → ((plan : Plan) → PrintedPlan plan → Beside (f plan) (g plan)) → Beside (under h f) (under h g)
+beside_under : (h : ScriptCatalog) (f g : Plan → Asked) → PrintedHead h → ((plan : Plan) → PrintedPlan plan → Beside (f plan) (g plan)) → Beside (under h f) (under h g)
 beside_under head.Unnamed f g p n = tt
 beside_under (head.Text text) f g p n = tt
 beside_under (head.Ready plan) f g p n = n plan p
@@ -98,11 +98,11 @@ any_ok (Ok t) = tt
 any_ok (Err why) = tt
 
 module _ (c : Counts) where
-  module _ (p : Place) (quiet : p.reports ≡ false) (named : PrintedHead p.head) where
-    abbrev Once : Place
+  module _ (p : ScriptPlace) (quiet : p.reports ≡ false) (named : PrintedHead p.head) where
+    abbrev Once : ScriptPlace
     Once = as_mode mode.Once p
 
-    abbrev Check : Place
+    abbrev Check : ScriptPlace
     Check = as_mode mode.Check p
 
     found_beside : (o : Option Plan) → IfSome o PrintedPlan → Beside (found Once o) (found Check o)
@@ -111,7 +111,7 @@ module _ (c : Counts) where
 
     catalog_beside : (name : List ℕ) → Beside (at_catalog Once name) (at_catalog Check name)
     catalog_beside name =
-        let texts : Bool → Place → Asked = λ b q. cond b (Ok (record q { head = head.Text [] }, deed.Nothing)) (found q (builtin_named name)) in
+        let texts : Bool → ScriptPlace → Asked = λ b q. cond b (Ok (record q { head = head.Text [] }, deed.Nothing)) (found q (builtin_named name)) in
         beside_if (not (is_unnamed p.head)) (Err kind.Site) (texts (bytes_eq name (codes "text")) Once) (Err kind.Site)
         (texts (bytes_eq name (codes "text")) Check) tt
         (beside_if (bytes_eq name (codes "text")) (Ok (record Once { head = head.Text [] }, deed.Nothing)) (found Once (builtin_named name))
@@ -172,7 +172,7 @@ module _ (c : Counts) where
         (beside_if (nat_le n c.batches) (Ok (closed Once, deed.Keep n)) (runs Once c n) (Ok (closed Check, deed.Keep n)) (runs Check (unwaited c) n)
         (refl, record { mode_is = refl; quiet = quiet; head = named; deed = tt; ready = ready }) (runs_beside n ready))
 
-    end_beside : (n : ℕ) (h : Head) → is_ready p.head ≡ is_ready h → Beside (under h (λ plan. ends Once c n)) (under h (λ plan. ends Check (unwaited c) n))
+    end_beside : (n : ℕ) (h : ScriptCatalog) → is_ready p.head ≡ is_ready h → Beside (under h (λ plan. ends Once c n)) (under h (λ plan. ends Check (unwaited c) n))
     end_beside n head.Unnamed is = tt
     end_beside n (head.Text text) is = tt
     end_beside n (head.Ready plan) is = ends_beside n is
@@ -189,7 +189,7 @@ module _ (c : Counts) where
 
   -- ---- where the text of a catalogue comes
 
-  module _ (p : Place) (quiet : p.reports ≡ false) (text : List ℕ) where
+  module _ (p : ScriptPlace) (quiet : p.reports ≡ false) (text : List ℕ) where
     behind_by : (r : Result Plan RefusalKind) (i : Item) → IfOk r PrintedPlan → PrintedItem i
         → Beside (and_then (λ ready. at_item ready c i) (and_then (λ plan. Ok (record (as_mode mode.Once p) { head = head.Ready plan })) r))
         (and_then (λ ready. at_item ready (unwaited c) i) (and_then (λ plan. Ok (record (as_mode mode.Check p) { head = head.Ready plan })) r))
@@ -229,7 +229,7 @@ module _ (c : Counts) where
 
   -- ---- a line
 
-  line_beside : (p : Place) → p.reports ≡ false → PrintedHead p.head → (h : Head) → p.head ≡ h → (line : Result Item RefusalKind) → IfOk line PrintedItem
+  line_beside : (p : ScriptPlace) → p.reports ≡ false → PrintedHead p.head → (h : ScriptCatalog) → p.head ≡ h → (line : Result Item RefusalKind) → IfOk line PrintedItem
       → Beside (by_head (as_mode mode.Once p) c h line) (by_head (as_mode mode.Check p) (unwaited c) h line)
   line_beside p quiet named head.Unnamed is line said =
       beside_then PrintedItem (at_item (as_mode mode.Once p) c) (at_item (as_mode mode.Check p) (unwaited c)) line said (λ i k. item_beside p quiet named i k)
@@ -237,7 +237,7 @@ module _ (c : Counts) where
       beside_then PrintedItem (at_item (as_mode mode.Once p) c) (at_item (as_mode mode.Check p) (unwaited c)) line said (λ i k. item_beside p quiet named i k)
   line_beside p quiet named (head.Text text) is line said = in_text_beside (without_head p) quiet text line said
 
-  at_beside : (p : Place) → p.reports ≡ false → PrintedHead p.head → (line : List ℕ)
+  at_beside : (p : ScriptPlace) → p.reports ≡ false → PrintedHead p.head → (line : List ℕ)
       → Beside (asked_at (as_mode mode.Once p) c line) (asked_at (as_mode mode.Check p) (unwaited c) line)
   at_beside p quiet named line = by p.reports quiet
     where
@@ -247,10 +247,10 @@ module _ (c : Counts) where
       by true e = cc
       by false e = line_beside p quiet named p.head refl (said line) (said_printed line)
 
-  beside_of : (a other : Asked) (r : Place × Deed) → a ≡ Ok r → Beside a other → (other ≡ Ok (as_mode mode.Check r.0, r.1)) × Asks r
+  beside_of : (a other : Asked) (r : ScriptPlace × Deed) → a ≡ Ok r → Beside a other → (other ≡ Ok (as_mode mode.Check r.0, r.1)) × Asks r
   beside_of a other r e h = subst (λ (x : Asked). Beside x other) e h
 
-  pub asked_beside : (p : Place) → p.mode ≡ mode.Once → p.reports ≡ false → PrintedHead p.head → (line : List ℕ) (r : Place × Deed) → asked p c line ≡ Ok r
+  pub asked_beside : (p : ScriptPlace) → p.mode ≡ mode.Once → p.reports ≡ false → PrintedHead p.head → (line : List ℕ) (r : ScriptPlace × Deed) → asked p c line ≡ Ok r
       → (asked (as_mode mode.Check p) (unwaited c) line ≡ Ok (as_mode mode.Check r.0, r.1)) × Asks r
   asked_beside p is quiet named line r e =
       let same : asked p c line ≡ asked (as_mode mode.Once p) c line = λ i. asked (record p { mode = is i }) c line in

@@ -6,11 +6,11 @@ use Rattle.proc_lang.specs.Catalogs.{Plan}
 use Rattle.script_places.specs.Places.{Asked, asked, asked_at, at_call, at_catalog, at_end, at_item, at_piece, at_report, at_row, at_settings, behind_text, by_head, calls, closed, closing, ends, found, in_text, is_byte, is_ready, is_unnamed, item_in_text, next_line, puts, read_text, refused_in_text, runs, sets, shut, under, within_text, without_head}
 use Rattle.script_places.specs.Places as places
 use Rattle.script_places.specs.declared.deeds.Deed.TheVariants as deed
-use Rattle.script_places.specs.declared.heads.Head.{Head}
-use Rattle.script_places.specs.declared.heads.Head.TheVariants as head
+use Rattle.script_places.specs.declared.heads.ScriptCatalog.{ScriptCatalog}
+use Rattle.script_places.specs.declared.heads.ScriptCatalog.TheVariants as head
 use Rattle.script_places.specs.declared.places.Counts.{Counts}
 use Rattle.script_places.specs.declared.places.Mode.TheVariants as mode
-use Rattle.script_places.specs.declared.places.Place.{Place}
+use Rattle.script_places.specs.declared.places.ScriptPlace.{ScriptPlace}
 use Rattle.script_text.specs.Fits.{and_then}
 use Rattle.script_text.specs.Forms.{said}
 use Rattle.script_text.specs.declared.items.Item.TheVariants as item
@@ -24,23 +24,23 @@ pub says_report : said (codes "report") ≡ Ok item.Report
 says_report = refl
 
 -- the catalogue is there, or none was named
-abbrev pub IsSettled : Head → Type 0
+abbrev pub IsSettled : ScriptCatalog → Type 0
 IsSettled head.Unnamed = ⊤
 IsSettled (head.Text text) = ⊥
 IsSettled (head.Ready plan) = ⊤
 
-pub record Closes (q : Place) : Type 0 where
+pub record Closes (q : ScriptPlace) : Type 0 where
   pub quiet : q.reports ≡ false
   pub head : PrintedHead q.head
   pub settled : IsSettled q.head
   pub calls : (q.open_calls == 0) ≡ true
 
-abbrev CloseBeside : Result Place RefusalKind → Asked → Type 0
+abbrev CloseBeside : Result ScriptPlace RefusalKind → Asked → Type 0
 CloseBeside (Ok q) other = (other ≡ Ok (record (as_mode mode.Check q) { reports = true }, deed.Nothing)) × Closes q
 CloseBeside (Err why) other = ⊤
 
 module _ (c : Counts) where
-  shut_beside : (p : Place) → p.reports ≡ false → PrintedHead p.head → IsSettled p.head
+  shut_beside : (p : ScriptPlace) → p.reports ≡ false → PrintedHead p.head → IsSettled p.head
       → CloseBeside (shut (as_mode mode.Once p)) (at_report (as_mode mode.Check p))
   shut_beside p quiet named settled = by (p.open_calls == 0) refl
     where
@@ -50,19 +50,19 @@ module _ (c : Counts) where
       by true e = (refl, record { quiet = quiet; head = named; settled = settled; calls = e })
       by false e = tt
 
-  text_beside : (p : Place) → p.reports ≡ false → (r : Result Plan RefusalKind) → IfOk r PrintedPlan
+  text_beside : (p : ScriptPlace) → p.reports ≡ false → (r : Result Plan RefusalKind) → IfOk r PrintedPlan
       → CloseBeside (and_then shut (and_then (λ plan. Ok (record (as_mode mode.Once p) { head = head.Ready plan })) r))
       (and_then (λ ready. at_report ready) (and_then (λ plan. Ok (record (as_mode mode.Check p) { head = head.Ready plan })) r))
   text_beside p quiet (Ok plan) is = shut_beside (record p { head = head.Ready plan }) quiet is tt
   text_beside p quiet (Err why) is = tt
 
-  close_by : (p : Place) → p.reports ≡ false → PrintedHead p.head → (h : Head) → p.head ≡ h
+  close_by : (p : ScriptPlace) → p.reports ≡ false → PrintedHead p.head → (h : ScriptCatalog) → p.head ≡ h
       → CloseBeside (places.closed_by (as_mode mode.Once p) h) (by_head (as_mode mode.Check p) c h (Ok item.Report))
   close_by p quiet named head.Unnamed is = shut_beside p quiet named (subst IsSettled (sym is) tt)
   close_by p quiet named (head.Ready plan) is = shut_beside p quiet named (subst IsSettled (sym is) tt)
   close_by p quiet named (head.Text text) is = text_beside (without_head p) quiet (catalog_of text) (catalog_printed text)
 
-  close_at : (p : Place) → p.reports ≡ false → PrintedHead p.head
+  close_at : (p : ScriptPlace) → p.reports ≡ false → PrintedHead p.head
       → CloseBeside (places.closed_by (as_mode mode.Once p) p.head) (asked_at (as_mode mode.Check p) c (codes "report"))
   close_at p quiet named =
       let at : by_head (as_mode mode.Check p) c p.head (Ok item.Report) ≡ asked_at (as_mode mode.Check p) c (codes "report") = by p.reports quiet in
@@ -74,11 +74,11 @@ module _ (c : Counts) where
       by true e = cc
       by false e = ap (by_head (as_mode mode.Check p) c p.head) (sym says_report)
 
-  close_of : (r : Result Place RefusalKind) (other : Asked) (q : Place) → r ≡ Ok q → CloseBeside r other
+  close_of : (r : Result ScriptPlace RefusalKind) (other : Asked) (q : ScriptPlace) → r ≡ Ok q → CloseBeside r other
       → (other ≡ Ok (record (as_mode mode.Check q) { reports = true }, deed.Nothing)) × Closes q
-  close_of r other q e h = subst (λ (x : Result Place RefusalKind). CloseBeside x other) e h
+  close_of r other q e h = subst (λ (x : Result ScriptPlace RefusalKind). CloseBeside x other) e h
 
-  pub closing_beside : (p : Place) → p.mode ≡ mode.Once → p.reports ≡ false → PrintedHead p.head → (q : Place) → closing p ≡ Ok q
+  pub closing_beside : (p : ScriptPlace) → p.mode ≡ mode.Once → p.reports ≡ false → PrintedHead p.head → (q : ScriptPlace) → closing p ≡ Ok q
       → (asked (as_mode mode.Check p) c (codes "report") ≡ Ok (record (as_mode mode.Check q) { reports = true }, deed.Nothing)) × Closes q
   closing_beside p is quiet named q e =
       let same : closing p ≡ closing (as_mode mode.Once p) = λ i. closing (record p { mode = is i }) in

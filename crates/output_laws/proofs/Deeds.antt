@@ -23,7 +23,7 @@ use Rattle.script_places.specs.declared.deeds.Deed.{Deed}
 use Rattle.script_places.specs.declared.deeds.Deed.TheVariants as deed
 use Rattle.script_places.specs.declared.places.Counts.{Counts}
 use Rattle.script_places.specs.declared.places.Mode.TheVariants as mode
-use Rattle.script_places.specs.declared.places.Place.{Place}
+use Rattle.script_places.specs.declared.places.ScriptPlace.{ScriptPlace}
 use Rattle.output_laws.proofs.Asks.{Asks, PrintedHead, as_mode, asked_beside, unwaited}
 use Rattle.output_laws.proofs.Batches.{PrintedState, plan_step}
 use Rattle.output_laws.proofs.Heads.{named_plan, ready_on, told_on}
@@ -66,7 +66,7 @@ module _ (lines : PrintedLines) (each : Bool) (rule : Rule) (percent : ℕ) wher
   -- ---- what a line asks for
 
   module _ (o : once.Doing) (c : check.Doing) (script : List (ℕ × Handed)) (bytes line : List ℕ) (b : Beside each rule percent o c script bytes)
-      (after : Place) where
+      (after : ScriptPlace) where
     abbrev Before : Counts
     Before = counts_of o.state
 

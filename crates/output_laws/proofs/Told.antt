@@ -6,9 +6,9 @@ use Rattle.script_course.specs.Courses.{Course, Goes, behind, with_lines}
 use Rattle.script_places.specs.Places.{by_head, closing, next_line, plan_in}
 use Rattle.script_places.specs.Places as places
 use Rattle.script_places.specs.declared.deeds.Deed.TheVariants as deed
-use Rattle.script_places.specs.declared.heads.Head.{Head}
-use Rattle.script_places.specs.declared.heads.Head.TheVariants as head
-use Rattle.script_places.specs.declared.places.Place.{Place}
+use Rattle.script_places.specs.declared.heads.ScriptCatalog.{ScriptCatalog}
+use Rattle.script_places.specs.declared.heads.ScriptCatalog.TheVariants as head
+use Rattle.script_places.specs.declared.places.ScriptPlace.{ScriptPlace}
 use Rattle.script_text.specs.Forms.{said}
 use Rattle.script_text.specs.declared.refusals.RefusalKind.TheVariants.{Unfinished}
 use Rattle.serial_check.specs.Reports as serial
@@ -17,11 +17,11 @@ use Rattle.output_laws.proofs.Closings.{IsSettled}
 -- ---- lines
 
 -- so many lines further
-abbrev pub passed : List (List ℕ) → Place → Place
+abbrev pub passed : List (List ℕ) → ScriptPlace → ScriptPlace
 passed [] p = p
 passed (line ∷ lines) p = passed lines (next_line p)
 
-passed_is : (lines : List (List ℕ)) (p : Place) → passed lines p ≡ record p { lines = (passed lines p).lines }
+passed_is : (lines : List (List ℕ)) (p : ScriptPlace) → passed lines p ≡ record p { lines = (passed lines p).lines }
 passed_is [] p = refl
 passed_is (line ∷ lines) p = passed_is lines (next_line p)
 
@@ -41,13 +41,13 @@ told_lines (line ∷ lines) c e =
 
 -- ---- the end
 
-close_check : (p : Place) → IsSettled p.head → (p.open_calls == 0) ≡ true → closing p ≡ Ok (next_line p)
+close_check : (p : ScriptPlace) → IsSettled p.head → (p.open_calls == 0) ≡ true → closing p ≡ Ok (next_line p)
 close_check p settled none = by p.head settled
   where
     shuts : places.shut (next_line p) ≡ Ok (next_line p)
     shuts = ap (λ (b : Bool). cond b (Ok (next_line p)) (Err Unfinished)) none
 
-    by : (h : Head) → IsSettled h → places.closed_by (next_line p) h ≡ Ok (next_line p)
+    by : (h : ScriptCatalog) → IsSettled h → places.closed_by (next_line p) h ≡ Ok (next_line p)
     by head.Unnamed is = shuts
     by (head.Ready plan) is = shuts
     by (head.Text text) is = absurd is
@@ -59,8 +59,8 @@ pub told_end : (c : check.Doing) (lines : List (List ℕ)) → IsSettled c.place
 told_end c lines settled none =
     let p = passed lines c.place in
     let last : check.Doing = record c { place = p; report = c.report ++ lines } in
-    let settled_there = subst (λ (q : Place). IsSettled q.head) (sym (passed_is lines c.place)) settled in
-    let none_there = subst (λ (q : Place). (q.open_calls == 0) ≡ true) (sym (passed_is lines c.place)) none in
-    let plan : plan_in p.head ≡ plan_in c.place.head = ap (λ (q : Place). plan_in q.head) (passed_is lines c.place) in
+    let settled_there = subst (λ (q : ScriptPlace). IsSettled q.head) (sym (passed_is lines c.place)) settled in
+    let none_there = subst (λ (q : ScriptPlace). (q.open_calls == 0) ≡ true) (sym (passed_is lines c.place)) none in
+    let plan : plan_in p.head ≡ plan_in c.place.head = ap (λ (q : ScriptPlace). plan_in q.head) (passed_is lines c.place) in
     ap (check.closed_by last) (close_check p settled_there none_there)
     ∙ ap (λ (x : Plan). check.out_of_finding c.ends (serial.finding x (c.report ++ lines) c.rows c.script)) plan

@@ -26,7 +26,7 @@ use Rattle.script_places.proofs.Allowed.{closes}
 use Rattle.script_places.specs.Places.{asked, closing, plan_in}
 use Rattle.script_places.specs.declared.deeds.Deed.TheVariants as deed
 use Rattle.script_places.specs.declared.places.Mode.TheVariants as mode
-use Rattle.script_places.specs.declared.places.Place.{Place}
+use Rattle.script_places.specs.declared.places.ScriptPlace.{ScriptPlace}
 use Rattle.script_text.specs.Laws.{lines_of}
 use Rattle.script_text.specs.Lines.{line_after}
 use Rattle.script_text.specs.declared.refusals.RefusalKind.{RefusalKind}
@@ -94,7 +94,7 @@ module _ (own : (plan : Plan) (rule : Rule) (percent : ℕ) (rows : Database) �
 
   module _ (o : once.Doing) (bytes : List ℕ) (script : List (ℕ × Handed)) (c : check.Doing)
       (read : with_lines check.on_line (Goes [] check.start) (lines_of text) ≡ Goes [] c) (b : Beside each settings.rule settings.fallback o c script bytes)
-      (q : Place) (shut : closing o.place ≡ Ok q) where
+      (q : ScriptPlace) (shut : closing o.place ≡ Ok q) where
     abbrev plan : Plan
     plan = plan_in q.head
 
@@ -238,13 +238,13 @@ module _ (own : (plan : Plan) (rule : Rule) (percent : ℕ) (rows : Database) �
   module _ (o : once.Doing) (bytes : List ℕ) (script : List (ℕ × Handed)) (c : check.Doing)
       (read : with_lines check.on_line (Goes [] check.start) (lines_of text) ≡ Goes [] c)
       (b : Beside each settings.rule settings.fallback o c script bytes) where
-    by_drained : (q : Place) (shut : closing o.place ≡ Ok q) (d : Course State)
+    by_drained : (q : ScriptPlace) (shut : closing o.place ≡ Ok q) (d : Course State)
         → DrainedBy lines (plan_in q.head) o.each (named_plan q.head (closed o bytes script c read b q shut).1.head) o.state d
         → Passes (out_behind bytes (ended (once.listed (plan_in q.head) o.each) d))
     by_drained q shut (Goes more last) d = finish o bytes script c read b q shut more last d
     by_drained q shut (Stops more) d = λ done. refused_is_not done
 
-    by_closed : (r : Result Place RefusalKind) → closing o.place ≡ r → Passes (out_behind bytes (once.closed_by settings.drain o r))
+    by_closed : (r : Result ScriptPlace RefusalKind) → closing o.place ≡ r → Passes (out_behind bytes (once.closed_by settings.drain o r))
     by_closed (Err kind) e = λ done. refused_is_not done
     by_closed (Ok q) e = by settings.drain
       where

@@ -9,23 +9,23 @@ ghost use Rattle.proc_exec.specs.Scopes.{value_in};
 
 use crate::scopes::RunScope;
 use aria_base::{Arg, Duplicate, Memory, Value};
-use proc_lang::{Expr, Source};
+use proc_lang::{Expr, Operand};
 use std::alloc::Global;
 
 /// The value that a number of the source names.
 pub fn named(
     scope: &RunScope,
     registers: &Vec<Value>,
-    source: Source,
+    source: Operand,
     at: u32,
 ) -> Result<Value, Memory>
     ensures { IfOk result (λ v. v ≡ named_value scope.now.request.now scope.now.item.now registers.now.items source at) }
 {
     match source {
-        Source::Reg => register(scope.alloc, registers, at),
-        Source::Arg => scope.argument(at),
-        Source::Item => Ok(Value::Int(scope.number(at))),
-        Source::Len => Ok(Value::Int(scope.tuples(at).len() as i64)),
+        Operand::Reg => register(scope.alloc, registers, at),
+        Operand::Arg => scope.argument(at),
+        Operand::Item => Ok(Value::Int(scope.number(at))),
+        Operand::Len => Ok(Value::Int(scope.tuples(at).len() as i64)),
     }
 }
 

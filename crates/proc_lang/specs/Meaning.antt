@@ -20,8 +20,8 @@ use Rattle.proc_lang.specs.declared.ends.End.TheVariants as end
 use Rattle.proc_lang.specs.declared.ends.Trap.TheVariants.{Absent, Many}
 use Rattle.aria_base.specs.declared.limits.TheConstants.{MOST_PARTS, MOST_COLUMNS}
 use Rattle.proc_lang.specs.declared.limits.TheConstants.{MOST_ACCESSES, MOST_GIVEN}
-use Rattle.proc_lang.specs.declared.operators.Source.{Source}
-use Rattle.proc_lang.specs.declared.operators.Source.TheVariants as source
+use Rattle.proc_lang.specs.declared.operators.Operand.{Operand}
+use Rattle.proc_lang.specs.declared.operators.Operand.TheVariants as source
 use Rattle.proc_lang.specs.declared.operators.UnaryOp.{UnaryOp}
 use Rattle.proc_lang.specs.declared.operators.UnaryOp.TheVariants as unary
 use Rattle.proc_lang.specs.declared.operators.BinaryOp.{BinaryOp}
@@ -55,7 +55,7 @@ by_binary binary.Cat p = joined (text_of p.0) (text_of p.1)
 
 -- ---- expressions: the request, the current tuple of an `each`, the registers
 
-abbrev pub named_value : Request → List ℤ → List Value → Source → ℕ → Value
+abbrev pub named_value : Request → List ℤ → List Value → Operand → ℕ → Value
 named_value r item regs source.Reg n = slice_index_or regs n (value.Int (pos 0))
 named_value r item regs source.Arg n = value_of_arg (slice_get r.call.args n)
 named_value r item regs source.Item n = value.Int (slice_index_or item n (pos 0))

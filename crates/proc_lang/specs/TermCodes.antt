@@ -4,7 +4,7 @@ use mathlib.Core.Path.{ap, subst}
 use lib.Dec.{T}
 use Rattle.std.specs.Coded.{Coded, coded_ℕ, coded_ℤ, coded_list}
 use base.Stored.{Gv, gnil, gnum, gcons, num}
-use Rattle.proc_lang.specs.contracts.operators.Source as source
+use Rattle.proc_lang.specs.contracts.operators.Operand as source
 use Rattle.proc_lang.specs.contracts.operators.UnaryOp as unary
 use Rattle.proc_lang.specs.contracts.operators.BinaryOp as binary
 use Rattle.proc_lang.specs.Terms.{Term, Num, Text, Me, Named, Unary, Binary, MulDiv, Front}

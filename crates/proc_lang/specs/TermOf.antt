@@ -1,7 +1,7 @@
 -- The term of an expression.
 use Rattle.proc_lang.specs.declared.expressions.Expr.{Expr}
 use Rattle.proc_lang.specs.declared.expressions.Expr.TheVariants as expr
-use Rattle.proc_lang.specs.declared.operators.Source.TheVariants as source
+use Rattle.proc_lang.specs.declared.operators.Operand.TheVariants as source
 use Rattle.proc_lang.specs.declared.operators.UnaryOp.TheVariants as unary
 use Rattle.proc_lang.specs.declared.operators.BinaryOp.TheVariants as binary
 use Rattle.proc_lang.specs.declared.operators.Shape.{Shape}

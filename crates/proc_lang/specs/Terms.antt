@@ -1,7 +1,7 @@
 -- Expressions without memory: what contracts see of an expression. The words are those of the Rust type, where they are explained.
 -- Expressions of one shape are one form here, so that what holds of a shape is said once.
 use Rattle.std.specs.Prelude.{ℕ, ℤ, List, ◌+◌}
-use Rattle.proc_lang.specs.declared.operators.Source.{Source}
+use Rattle.proc_lang.specs.declared.operators.Operand.{Operand}
 use Rattle.proc_lang.specs.declared.operators.UnaryOp.{UnaryOp}
 use Rattle.proc_lang.specs.declared.operators.BinaryOp.{BinaryOp}
 
@@ -9,7 +9,7 @@ pub data Term : Type 0 where
   Num : ℤ → Term
   Text : List ℕ → Term
   Me : Term
-  Named : Source → ℕ → Term
+  Named : Operand → ℕ → Term
   Unary : UnaryOp → Term → Term
   Binary : BinaryOp → Term → Term → Term
   MulDiv : Term → Term → Term → Term

@@ -14,8 +14,8 @@ use Rattle.proc_lang.specs.declared.procs.ArgKind.TheVariants as arg
 use Rattle.proc_lang.specs.declared.procs.Proc.{Proc}
 use Rattle.proc_lang.specs.declared.flaws.TheConstants.{UNKNOWN_TABLE, KEY_LENGTH, COLUMNS, KIND, REGISTER, ARGUMENT, NESTING}
 use Rattle.proc_lang.specs.declared.limits.TheConstants.{MOST_BLOCKS}
-use Rattle.proc_lang.specs.declared.operators.Source.{Source}
-use Rattle.proc_lang.specs.declared.operators.Source.TheVariants as source
+use Rattle.proc_lang.specs.declared.operators.Operand.{Operand}
+use Rattle.proc_lang.specs.declared.operators.Operand.TheVariants as source
 use Rattle.proc_lang.specs.declared.operators.UnaryOp.{UnaryOp}
 use Rattle.proc_lang.specs.declared.operators.UnaryOp.TheVariants as unary
 use Rattle.proc_lang.specs.declared.operators.BinaryOp.{BinaryOp}
@@ -96,7 +96,7 @@ by_three operands = got operands (λ p. got (wanted KIND (same_kind p.0.0 Int &&
 abbrev pub by_equals : Typed (Kind × Kind) → Typed Kind
 by_equals operands = got operands (λ p. got (wanted KIND (same_kind p.0 p.1)) (λ _. Ok Int))
 
-abbrev pub named_kind : Scope → Set → Source → ℕ → Typed Kind
+abbrev pub named_kind : Scope → Set → Operand → ℕ → Typed Kind
 named_kind s set source.Reg n = register_kind s set n
 named_kind s set source.Arg n = argument_kind s n
 named_kind s set source.Item n = item_kind s n

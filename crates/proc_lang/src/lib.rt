@@ -26,6 +26,6 @@ pub use limits::{
     DEEPEST_EXPR, GREATEST_CODE, MOST_ACCESSES, MOST_BLOCKS, MOST_FRONT, MOST_GIVEN, MOST_PROCS,
     MOST_REGS, MOST_STATEMENTS, MOST_TABLES,
 };
-pub use operators::{BinaryOp, Shape, Source, UnaryOp};
+pub use operators::{BinaryOp, Operand, Shape, UnaryOp};
 pub use procs::{ArgKind, ArgKinds, Path, PathPart, Proc};
 pub use statements::{Block, Regs, Stmt, copy_stmt};

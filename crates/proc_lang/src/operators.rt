@@ -8,7 +8,7 @@ use aria_base::Txt;
 
 /// What a number can name in an expression.
 #[derive(Clone, Copy, Debug, PartialEq, Eq)]
-pub enum Source {
+pub enum Operand {
     /// A register.
     Reg,
     /// An argument that is no list.
@@ -48,7 +48,7 @@ pub enum Shape<'a> {
     Num(i64),
     Text(&'a Txt),
     Me,
-    Named(Source, u32),
+    Named(Operand, u32),
     Unary(UnaryOp, &'a Expr),
     Binary(BinaryOp, &'a Expr, &'a Expr),
     MulDiv(&'a Expr, &'a Expr, &'a Expr),
@@ -63,10 +63,10 @@ impl Expr {
         match self {
             Expr::Num(number) => Shape::Num(*number),
             Expr::Text(text) => Shape::Text(text),
-            Expr::Reg(at) => Shape::Named(Source::Reg, *at),
-            Expr::Arg(at) => Shape::Named(Source::Arg, *at),
-            Expr::Item(at) => Shape::Named(Source::Item, *at),
-            Expr::Len(at) => Shape::Named(Source::Len, *at),
+            Expr::Reg(at) => Shape::Named(Operand::Reg, *at),
+            Expr::Arg(at) => Shape::Named(Operand::Arg, *at),
+            Expr::Item(at) => Shape::Named(Operand::Item, *at),
+            Expr::Len(at) => Shape::Named(Operand::Len, *at),
             Expr::Me => Shape::Me,
             Expr::Add(a, b) => Shape::Binary(BinaryOp::Add, a, b),
             Expr::Sub(a, b) => Shape::Binary(BinaryOp::Sub, a, b),
@@ -88,16 +88,16 @@ impl Expr {
     }
 }
 
-impl Source {
+impl Operand {
     /// The expression that names this by its number. No memory.
     pub fn of(self, number: u32) -> Expr
         ensures { term_of result ≡ Named self number }
     {
         match self {
-            Source::Reg => Expr::Reg(number),
-            Source::Arg => Expr::Arg(number),
-            Source::Item => Expr::Item(number),
-            Source::Len => Expr::Len(number),
+            Operand::Reg => Expr::Reg(number),
+            Operand::Arg => Expr::Arg(number),
+            Operand::Item => Expr::Item(number),
+            Operand::Len => Expr::Len(number),
         }
     }
 }

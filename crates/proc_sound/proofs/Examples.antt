@@ -10,7 +10,7 @@ use Rattle.batch_rules.specs.Trees.{Ends}
 use Rattle.proc_lang.specs.declared.ends.Trap.TheVariants.{Zero}
 use Rattle.proc_lang.specs.declared.procs.ArgKind.TheVariants as arg
 use Rattle.proc_lang.specs.declared.procs.Proc.{Proc}
-use Rattle.proc_lang.specs.declared.operators.Source.TheVariants.{Reg, Item}
+use Rattle.proc_lang.specs.declared.operators.Operand.TheVariants.{Reg, Item}
 use Rattle.proc_lang.specs.declared.operators.BinaryOp.TheVariants.{Add, Div, Eq}
 use Rattle.proc_lang.specs.Terms.{Num, Text, Named, Binary}
 use Rattle.proc_lang.specs.Steps.{Traps, Steps, NoMore, More, Let, Read, Put, Del, Each, Give}

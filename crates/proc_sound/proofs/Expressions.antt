@@ -20,8 +20,8 @@ use Rattle.proc_lang.specs.declared.ends.Trap.TheVariants.{Overflow, Zero, Long}
 use Rattle.proc_lang.specs.declared.flaws.TheConstants.{KIND, ARGUMENT, REGISTER}
 use Rattle.proc_lang.specs.declared.procs.ArgKind.{ArgKind}
 use Rattle.proc_lang.specs.declared.procs.ArgKind.TheVariants as kind
-use Rattle.proc_lang.specs.declared.operators.Source.{Source}
-use Rattle.proc_lang.specs.declared.operators.Source.TheVariants as source
+use Rattle.proc_lang.specs.declared.operators.Operand.{Operand}
+use Rattle.proc_lang.specs.declared.operators.Operand.TheVariants as source
 use Rattle.proc_lang.specs.declared.operators.UnaryOp.{UnaryOp}
 use Rattle.proc_lang.specs.declared.operators.UnaryOp.TheVariants as unary
 use Rattle.proc_lang.specs.declared.operators.BinaryOp.{BinaryOp}
@@ -237,7 +237,7 @@ module _ {s : Scope} {r : Request} {item : List ℤ} (c : Context s r item) {set
             (record { same = refl; value = there_is.2 })) (found_is REGISTER (slice_get s.regs n)));
       }
 
-  named_sound : (from : Source) (n : ℕ) → Sound Is (named_kind s set from n) (careful_named r item careful from n) (Ok (named_value r item plain from n))
+  named_sound : (from : Operand) (n : ℕ) → Sound Is (named_kind s set from n) (careful_named r item careful from n) (Ok (named_value r item plain from n))
   named_sound source.Reg n = register_sound n
   named_sound source.Arg n = argument_sound s.args r.call.args n c.args
   named_sound source.Item n = item_sound s.tuple item n c.tuple

@@ -28,8 +28,8 @@ use Rattle.proc_lang.specs.declared.ends.End.{End}
 use Rattle.proc_lang.specs.declared.ends.End.TheVariants as end
 use Rattle.proc_lang.specs.declared.ends.Trap.TheVariants.{Absent, Many}
 use Rattle.proc_lang.specs.declared.limits.TheConstants.{MOST_ACCESSES, MOST_GIVEN}
-use Rattle.proc_lang.specs.declared.operators.Source.{Source}
-use Rattle.proc_lang.specs.declared.operators.Source.TheVariants as source
+use Rattle.proc_lang.specs.declared.operators.Operand.{Operand}
+use Rattle.proc_lang.specs.declared.operators.Operand.TheVariants as source
 use Rattle.proc_lang.specs.declared.operators.UnaryOp.{UnaryOp}
 use Rattle.proc_lang.specs.declared.operators.UnaryOp.TheVariants as unary
 use Rattle.proc_lang.specs.declared.operators.BinaryOp.{BinaryOp}
@@ -135,7 +135,7 @@ careful_binary binary.Cat = on_texts joined
 
 -- ---- expressions: the request, the current tuple of an `each`, and the registers; one that is not set is None
 
-abbrev pub careful_named : Request → List ℤ → List (Option Value) → Source → ℕ → Sure Value
+abbrev pub careful_named : Request → List ℤ → List (Option Value) → Operand → ℕ → Sure Value
 careful_named r item regs source.Reg n = there (slice_index_or regs n None)
 careful_named r item regs source.Arg n = plain_argument r n
 careful_named r item regs source.Item n = and_then (there (slice_get item n)) (λ z. Some (Ok (value.Int z)))

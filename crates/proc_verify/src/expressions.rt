@@ -10,7 +10,7 @@ use crate::causes::{Typed, wanted};
 use crate::registers::SetRegisters;
 use crate::scopes::CheckScope;
 use aria_base::{Kind, Kinds, Memory};
-use proc_lang::{BinaryOp, Expr, Exprs, KIND, REGISTER, Shape, Source, UnaryOp};
+use proc_lang::{BinaryOp, Expr, Exprs, KIND, Operand, REGISTER, Shape, UnaryOp};
 
 /// Whether the kinds are one.
 pub fn same_kind(kind: Kind, other: Kind) -> bool
@@ -67,14 +67,14 @@ fn by_equals(operands: (Kind, Kind)) -> Typed<Kind>
 }
 
 /// The kind of what is named by a number.
-fn named_kind(scope: &CheckScope, set: &SetRegisters, source: Source, number: u32) -> Typed<Kind>
+fn named_kind(scope: &CheckScope, set: &SetRegisters, source: Operand, number: u32) -> Typed<Kind>
     ensures { result ≡ named_kind (seen scope.now) set.now source number }
 {
     match source {
-        Source::Reg => register_kind(scope, set, number),
-        Source::Arg => scope.argument_kind(number),
-        Source::Item => scope.item_kind(number),
-        Source::Len => {
+        Operand::Reg => register_kind(scope, set, number),
+        Operand::Arg => scope.argument_kind(number),
+        Operand::Item => scope.item_kind(number),
+        Operand::Len => {
             scope.argument_width(number)?;
             Ok(Kind::Int)
         }

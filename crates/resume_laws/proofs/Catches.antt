@@ -9,7 +9,7 @@ use Rattle.script_places.specs.Places.{Asked, asked}
 use Rattle.script_places.specs.declared.deeds.Deed.{Deed}
 use Rattle.script_places.specs.declared.deeds.Deed.TheVariants as deed
 use Rattle.script_places.specs.declared.places.Counts.{Counts}
-use Rattle.script_places.specs.declared.places.Place.{Place}
+use Rattle.script_places.specs.declared.places.ScriptPlace.{ScriptPlace}
 use Rattle.script_text.specs.declared.refusals.RefusalKind.{RefusalKind}
 use Rattle.run_commands.specs.Bases.{counts_of}
 use Rattle.run_commands.specs.Onces.{Doing, behind_batch, done, done_by, on_line, text_of, with_call, with_settings, without_calls}
@@ -92,7 +92,7 @@ abbrev Rises : Doing → Course Doing → Type 0
 Rises d (Goes bytes next) = d.state.batches ≤ next.state.batches
 Rises d (Stops bytes) = Unit {0}
 
-done_counts : (d : Doing) (place : Place) (asks : Deed) → Rises d (done (record d { place = place }) asks)
+done_counts : (d : Doing) (place : ScriptPlace) (asks : Deed) → Rises d (done (record d { place = place }) asks)
 done_counts d place deed.Run = omega arith
 done_counts d place deed.Nothing = omega arith
 done_counts d place deed.Tell = omega arith
@@ -235,7 +235,7 @@ caught_same lines d t last e ends = record {
 -- ---- one line of it
 
 -- a line that runs no batch leaves the count
-abbrev quiet_next : Doing → Place → Deed → Doing
+abbrev quiet_next : Doing → ScriptPlace → Deed → Doing
 quiet_next d place deed.Run = d
 quiet_next d place deed.Nothing = record d { place = place }
 quiet_next d place deed.Tell = record d { place = place }
@@ -254,7 +254,7 @@ IsOver (deed.Call call) = Unit {0}
 IsOver (deed.Set rule percent) = Unit {0}
 IsOver (deed.Keep number) = Unit {0}
 
-quiet_goes : (d : Doing) (place : Place) (asks : Deed) → runs_batch asks ≡ false → IsOver asks
+quiet_goes : (d : Doing) (place : ScriptPlace) (asks : Deed) → runs_batch asks ≡ false → IsOver asks
     → (text : List ℕ) × (done (record d { place = place }) asks ≡ Goes text (quiet_next d place asks))
 quiet_goes d place deed.Run q over = absurd cc
 quiet_goes d place deed.Nothing q over = ([], refl)
@@ -264,7 +264,7 @@ quiet_goes d place (deed.Call call) q over = ([], refl)
 quiet_goes d place (deed.Set rule percent) q over = ([], refl)
 quiet_goes d place (deed.Keep number) q over = (_, refl)
 
-quiet_count : (d : Doing) (place : Place) (asks : Deed) → runs_batch asks ≡ false → IsOver asks → (quiet_next d place asks).state.batches ≡ d.state.batches
+quiet_count : (d : Doing) (place : ScriptPlace) (asks : Deed) → runs_batch asks ≡ false → IsOver asks → (quiet_next d place asks).state.batches ≡ d.state.batches
 quiet_count d place deed.Run q over = absurd cc
 quiet_count d place deed.Nothing q over = refl
 quiet_count d place deed.Tell q over = refl
@@ -273,7 +273,7 @@ quiet_count d place (deed.Call call) q over = refl
 quiet_count d place (deed.Set rule percent) q over = refl
 quiet_count d place (deed.Keep number) q over = refl
 
-quiet_catches : (d : Doing) (t : State) (e : Doing) (place : Place) (asks : Deed) → runs_batch asks ≡ false → IsOver asks → Catches d t e
+quiet_catches : (d : Doing) (t : State) (e : Doing) (place : ScriptPlace) (asks : Deed) → runs_batch asks ≡ false → IsOver asks → Catches d t e
     → Catches (quiet_next d place asks) t (quiet_next e place asks)
 quiet_catches d t e place deed.Run q over c = absurd cc
 quiet_catches d t e place deed.Nothing q over (inl h) = inl (ap (λ (x : Doing). quiet_next x place deed.Nothing) h)
@@ -298,24 +298,24 @@ at_count d t e (inl h) = ap (λ (x : Doing). x.state.batches) h
 at_count d t e (inr h) = ap (λ (x : Doing). x.state.batches) h
 
 -- behind a batch that is kept in the one run and run in the other
-abbrev kept_next : Doing → Place → Doing
+abbrev kept_next : Doing → ScriptPlace → Doing
 kept_next e place = without_calls (record e { place = place })
 
-abbrev ran_next : Doing → Place → Doing
+abbrev ran_next : Doing → ScriptPlace → Doing
 ran_next d place = behind_batch (record d { place = place })
 
-kept_same : (d : Doing) (t : State) (e : Doing) (place : Place) → Catches d t e → t ≡ (ran_next d place).state → kept_next e place ≡ ran_next d place
+kept_same : (d : Doing) (t : State) (e : Doing) (place : ScriptPlace) → Catches d t e → t ≡ (ran_next d place).state → kept_next e place ≡ ran_next d place
 kept_same d t e place (inl h) same = ap (λ (x : Doing). kept_next x place) h ∙ ap (λ (s : State). record (ran_next d place) { state = s }) same
 kept_same d t e place (inr h) same =
     ap (λ (x : Doing). kept_next x place) h
     ∙ ap (λ (s : State). record (ran_next d place) { state = record s { rule = d.state.rule; percent = d.state.percent } }) same
 
-kept_catches : (d : Doing) (t : State) (e : Doing) (place : Place) → Catches d t e → Catches (ran_next d place) t (kept_next e place)
+kept_catches : (d : Doing) (t : State) (e : Doing) (place : ScriptPlace) → Catches d t e → Catches (ran_next d place) t (kept_next e place)
 kept_catches d t e place (inl h) = inl (ap (λ (x : Doing). kept_next x place) h)
 kept_catches d t e place (inr h) = inr (ap (λ (x : Doing). kept_next x place) h)
 
 -- a row may not stand in it, and so it is behind each line
-over_of : (d : Doing) (line : List ℕ) (place : Place) (asks : Deed) → asked d.place (counts_of d.state) line ≡ Ok (place, asks) → d.place.rows_ended ≡ true
+over_of : (d : Doing) (line : List ℕ) (place : ScriptPlace) (asks : Deed) → asked d.place (counts_of d.state) line ≡ Ok (place, asks) → d.place.rows_ended ≡ true
     → IsOver asks × (place.rows_ended ≡ true)
 over_of d line place deed.Run e rows = (tt, (follows d.place (counts_of d.state) line place deed.Run e).allows.rows)
 over_of d line place deed.Nothing e rows = (tt, (follows d.place (counts_of d.state) line place deed.Nothing e).allows.rows rows)
@@ -327,7 +327,7 @@ over_of d line place (deed.Call call) e rows = (tt, (follows d.place (counts_of 
 over_of d line place (deed.Set rule percent) e rows = (tt, (follows d.place (counts_of d.state) line place (deed.Set rule percent) e).allows.rows)
 over_of d line place (deed.Keep number) e rows = (tt, (follows d.place (counts_of d.state) line place (deed.Keep number) e).allows.rows)
 
-rows_next : (d : Doing) (place : Place) (asks : Deed) → IsOver asks → place.rows_ended ≡ true → runs_batch asks ≡ false
+rows_next : (d : Doing) (place : ScriptPlace) (asks : Deed) → IsOver asks → place.rows_ended ≡ true → runs_batch asks ≡ false
     → (quiet_next d place asks).place.rows_ended ≡ true
 rows_next d place deed.Run over rows q = absurd cc
 rows_next d place deed.Nothing over rows q = rows
@@ -338,12 +338,12 @@ rows_next d place (deed.Set rule percent) over rows q = rows
 rows_next d place (deed.Keep number) over rows q = rows
 
 -- what is asked for of the later state
-asked_of : (d : Doing) (t : State) (e : Doing) (line : List ℕ) (place : Place) (asks : Deed) → Catches d t e → d.state.batches < t.batches
+asked_of : (d : Doing) (t : State) (e : Doing) (line : List ℕ) (place : ScriptPlace) (asks : Deed) → Catches d t e → d.state.batches < t.batches
     → asked d.place (counts_of d.state) line ≡ Ok (place, asks)
     → on_line e line ≡ done (record e { place = place }) (as_kept d.state.batches asks)
 asked_of d t e line place asks c less is =
     let count : (counts_of e.state).batches ≡ t.batches = at_count d t e c in
-    ap (λ (p : Place). done_by e (asked p (counts_of e.state) line)) (at_place d t e c)
+    ap (λ (p : ScriptPlace). done_by e (asked p (counts_of e.state) line)) (at_place d t e c)
     ∙ ap (λ (a : Asked). done_by e a) (asked_later (counts_of d.state) (counts_of e.state) (omega (arith, less, count)) d.place line place asks is)
 
 quiet_kept : (n : ℕ) (asks : Deed) → runs_batch asks ≡ false → as_kept n asks ≡ asks
@@ -380,7 +380,7 @@ Catch lines = (d : Doing) (t : State) (e last : Doing) → d.place.rows_ended �
 module _ (line : List ℕ) (lines : List (List ℕ)) (rest : Catch lines) (d : Doing) (t : State) (e last : Doing) (rows : d.place.rows_ended ≡ true)
     (c : Catches d t e)
     (reach : Reaches (map Line (line ∷ lines)) d t) (ends : EndsIn (goes (line ∷ lines) d) last) where
-  catch_quiet : (place : Place) (asks : Deed) → asked d.place (counts_of d.state) line ≡ Ok (place, asks) → runs_batch asks ≡ false
+  catch_quiet : (place : ScriptPlace) (asks : Deed) → asked d.place (counts_of d.state) line ≡ Ok (place, asks) → runs_batch asks ≡ false
       → Caught (line ∷ lines) d t e last
   catch_quiet place asks is q =
       let over = over_of d line place asks is rows in
@@ -399,7 +399,7 @@ module _ (line : List ℕ) (lines : List (List ℕ)) (rest : Catch lines) (d : D
       (rest next t after last (rows_next d place asks over.0 over.1 q) (quiet_catches d t e place asks q over.0 c) on
       (ends_next line lines d next last goes_d.0 line_d ends))
 
-  run_rest : (place : Place) → EndsIn (goes lines (ran_next d place)) last → place.rows_ended ≡ true
+  run_rest : (place : ScriptPlace) → EndsIn (goes lines (ran_next d place)) last → place.rows_ended ≡ true
       → (((ran_next d place).state.batches ≢ d.state.batches) × (t ≡ (ran_next d place).state)) ⊎ Reaches (map Line lines) (ran_next d place) t
       → Caught lines (ran_next d place) t (kept_next e place) last
   run_rest place go rows_on (inl h) =
@@ -407,7 +407,7 @@ module _ (line : List ℕ) (lines : List (List ℕ)) (rest : Catch lines) (d : D
       (caught_same lines (ran_next d place) t last (ap (λ (s : State). s.batches) h.1) go)
   run_rest place go rows_on (inr h) = rest (ran_next d place) t (kept_next e place) last rows_on (kept_catches d t e place c) h go
 
-  catch_run : (place : Place) → asked d.place (counts_of d.state) line ≡ Ok (place, deed.Run) → Caught (line ∷ lines) d t e last
+  catch_run : (place : ScriptPlace) → asked d.place (counts_of d.state) line ≡ Ok (place, deed.Run) → Caught (line ∷ lines) d t e last
   catch_run place is =
       let next = ran_next d place in
       let after = kept_next e place in
@@ -420,7 +420,7 @@ module _ (line : List ℕ) (lines : List (List ℕ)) (rest : Catch lines) (d : D
       caught_on line lines d e next after t last text _ line_d line_e refl (omega (arith, less, one))
       (run_rest place go (over_of d line place deed.Run is rows).1 (reach_by line lines d t (Goes text next) line_d reach))
 
-  catch_asks : (place : Place) (asks : Deed) → asked d.place (counts_of d.state) line ≡ Ok (place, asks) → Caught (line ∷ lines) d t e last
+  catch_asks : (place : ScriptPlace) (asks : Deed) → asked d.place (counts_of d.state) line ≡ Ok (place, asks) → Caught (line ∷ lines) d t e last
   catch_asks place deed.Run is = catch_run place is
   catch_asks place deed.Nothing is = catch_quiet place deed.Nothing is refl
   catch_asks place deed.Tell is = catch_quiet place deed.Tell is refl

@@ -7,7 +7,7 @@ use Rattle.proc_lang.specs.Catalogs.{Plan}
 use Rattle.script_course.proofs.Turns.{behind-behind, behind_nothing, stopped_lines}
 use Rattle.script_course.specs.Courses.{Course, Goes, Stops, behind, told_whole, with_fault, with_last, with_line, with_lines}
 use Rattle.script_places.specs.Places.{closing}
-use Rattle.script_places.specs.declared.places.Place.{Place}
+use Rattle.script_places.specs.declared.places.ScriptPlace.{ScriptPlace}
 use Rattle.script_text.specs.declared.refusals.RefusalKind.{RefusalKind}
 use Rattle.script_text.specs.Lines.{Scan, last_line, scan}
 use Rattle.script_text.specs.declared.refusals.Refusal.{Refusal}
@@ -77,7 +77,7 @@ turns_are s none = ap (λ (f : Option Refusal). (map Line s.lines ++ past f) ++ 
 
 -- ---- what comes before and behind its lines leaves no state of its own
 
-unclosed : (d : Doing) (r : Result Place RefusalKind) (t : State) → ReachesBy d (Reaches (Listed ∷ [])) (on_close d r) t → ⊥
+unclosed : (d : Doing) (r : Result ScriptPlace RefusalKind) (t : State) → ReachesBy d (Reaches (Listed ∷ [])) (on_close d r) t → ⊥
 unclosed d (Err why) t h = h
 unclosed d (Ok place) t (inl h) = h.0 refl
 unclosed d (Ok place) t (inr (inl h)) = h.0 refl

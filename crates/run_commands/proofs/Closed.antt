@@ -11,9 +11,9 @@ use Rattle.proc_lang.specs.Catalogs.{Plan}
 use Rattle.cat_text.specs.Texts.{catalog_of}
 use Rattle.script_places.specs.Follows.{HeadStays}
 use Rattle.script_places.specs.Places.{closed_by, closing, next_line, plan_in, shut, without_head}
-use Rattle.script_places.specs.declared.heads.Head.{Head}
-use Rattle.script_places.specs.declared.heads.Head.TheVariants as head
-use Rattle.script_places.specs.declared.places.Place.{Place}
+use Rattle.script_places.specs.declared.heads.ScriptCatalog.{ScriptCatalog}
+use Rattle.script_places.specs.declared.heads.ScriptCatalog.TheVariants as head
+use Rattle.script_places.specs.declared.places.ScriptPlace.{ScriptPlace}
 use Rattle.script_text.specs.Fits.{and_then}
 use Rattle.script_text.specs.Lines.{line_after}
 use Rattle.script_text.specs.declared.refusals.RefusalKind.{RefusalKind}
@@ -38,34 +38,34 @@ use Rattle.run_commands.proofs.Endings.{holds_laid, holds_leave}
 
 -- ---- the place behind the end of the input
 
-shut_by : (p q : Place) (b : Bool) → (if b then Ok p else Err kind.Unfinished) ≡ Ok q → q.lines ≡ p.lines
-shut_by p q true e = let same : p ≡ q = cc in ap (λ (x : Place). x.lines) (sym same)
+shut_by : (p q : ScriptPlace) (b : Bool) → (if b then Ok p else Err kind.Unfinished) ≡ Ok q → q.lines ≡ p.lines
+shut_by p q true e = let same : p ≡ q = cc in ap (λ (x : ScriptPlace). x.lines) (sym same)
 shut_by p q false e = absurd cc
 
-text_by : (p q : Place) (r : Result Plan RefusalKind) → and_then shut (and_then (λ plan. Ok (record p { head = head.Ready plan })) r) ≡ Ok q → q.lines ≡ p.lines
+text_by : (p q : ScriptPlace) (r : Result Plan RefusalKind) → and_then shut (and_then (λ plan. Ok (record p { head = head.Ready plan })) r) ≡ Ok q → q.lines ≡ p.lines
 text_by p q (Ok plan) e = shut_by (record p { head = head.Ready plan }) q (p.open_calls == 0) e
 text_by p q (Err why) e = absurd cc
 
-line_by : (p q : Place) (h : Head) → closed_by p h ≡ Ok q → q.lines ≡ p.lines
+line_by : (p q : ScriptPlace) (h : ScriptCatalog) → closed_by p h ≡ Ok q → q.lines ≡ p.lines
 line_by p q head.Unnamed e = shut_by p q (p.open_calls == 0) e
 line_by p q (head.Ready plan) e = shut_by p q (p.open_calls == 0) e
 line_by p q (head.Text text) e = text_by (without_head p) q (catalog_of text) e
 
 -- the end counts as a line
-pub closing_line : (p q : Place) → closing p ≡ Ok q → q.lines ≡ line_after p.lines
+pub closing_line : (p q : ScriptPlace) → closing p ≡ Ok q → q.lines ≡ line_after p.lines
 closing_line p q e = line_by (next_line p) q p.head e
 
 -- no batch is open then
-shut_calls : (p q : Place) (b : Bool) → (if b then Ok p else Err kind.Unfinished) ≡ Ok q → b ≡ true
+shut_calls : (p q : ScriptPlace) (b : Bool) → (if b then Ok p else Err kind.Unfinished) ≡ Ok q → b ≡ true
 shut_calls p q true e = refl
 shut_calls p q false e = absurd cc
 
-text_calls : (p q : Place) (r : Result Plan RefusalKind) → and_then shut (and_then (λ plan. Ok (record p { head = head.Ready plan })) r) ≡ Ok q
+text_calls : (p q : ScriptPlace) (r : Result Plan RefusalKind) → and_then shut (and_then (λ plan. Ok (record p { head = head.Ready plan })) r) ≡ Ok q
     → (p.open_calls == 0) ≡ true
 text_calls p q (Ok plan) e = shut_calls (record p { head = head.Ready plan }) q (p.open_calls == 0) e
 text_calls p q (Err why) e = absurd cc
 
-closed_calls : (p q : Place) (h : Head) → closed_by p h ≡ Ok q → (p.open_calls == 0) ≡ true
+closed_calls : (p q : ScriptPlace) (h : ScriptCatalog) → closed_by p h ≡ Ok q → (p.open_calls == 0) ≡ true
 closed_calls p q head.Unnamed e = shut_calls p q (p.open_calls == 0) e
 closed_calls p q (head.Ready plan) e = shut_calls p q (p.open_calls == 0) e
 closed_calls p q (head.Text text) e = text_calls (without_head p) q (catalog_of text) e
@@ -74,7 +74,7 @@ none_open : (calls : List Call) (n : ℕ) → n ≡ length calls → (n == 0) �
 none_open [] n counted shut = refl
 none_open (call ∷ calls) n counted shut = absurd (grind (arith, nat_tests, counted, shut))
 
-pub end_is : (p q : Place) (work : Work) (line : ℕ) → p.open_calls ≡ length work.calls.items → closing p ≡ Ok q → line ≡ line_after p.lines
+pub end_is : (p q : ScriptPlace) (work : Work) (line : ℕ) → p.open_calls ≡ length work.calls.items → closing p ≡ Ok q → line ≡ line_after p.lines
     → IsEnd (plan_in q.head) work.each line (state_in work.base) (doing_of q work)
 end_is p q work line counted e same = record {
   plan_is = refl;
@@ -85,7 +85,7 @@ end_is p q work line counted e same = record {
 }
 
 -- a database with a store has a catalogue, and keeps it
-pub plan_stays : (h next : Head) (calls : List Call) (b : Base) → HeadStays h next → IsOf h calls b → store_in b ≢ None → plan_in next ≡ plan_in h
+pub plan_stays : (h next : ScriptCatalog) (calls : List Call) (b : Base) → HeadStays h next → IsOf h calls b → store_in b ≢ None → plan_in next ≡ plan_in h
 plan_stays h next calls (base.Rows tables config) on of some = absurd (some refl)
 plan_stays head.Unnamed next calls (base.Runs live) on of some = absurd of.1
 plan_stays (head.Text text) next calls (base.Runs live) on of some = absurd of.1
@@ -96,7 +96,7 @@ plan_stays (head.Ready plan) next calls (base.Runs live) on of some = ap plan_in
 pub store_some : (first : ℕ) (saved : Saved) (disk : History) (plan : Plan) (b : Base) → HoldsBase first saved disk plan b → store_in b ≢ None
 store_some first saved disk plan b h e = subst (λ (s : Option Kept). Holds disk plan (held_in b) s saved.c saved.later) e h.stands.holds
 
-module _ (h : Head) (b : Base) (each : Bool) (live : Live) (is : b ≡ base.Runs live) (named : IsNamed h b) (listed : IsListed each b) where
+module _ (h : ScriptCatalog) (b : Base) (each : Bool) (live : Live) (is : b ≡ base.Runs live) (named : IsNamed h b) (listed : IsListed each b) where
   named_live : plan_of live ≡ plan_in h
   named_live = subst (λ (x : Base). IsNamed h x) is named
 
@@ -157,7 +157,7 @@ module _ (h : Head) (b : Base) (each : Bool) (live : Live) (is : b ≡ base.Runs
 
 -- ---- the whole end, by the script before it
 
-module _ (p q : Place) (work : Work) (is : closing p ≡ Ok q) (stays : HeadStays p.head q.head) (of : IsOf p.head work.calls.items work.base) (drain : Bool)
+module _ (p q : ScriptPlace) (work : Work) (is : closing p ≡ Ok q) (stays : HeadStays p.head q.head) (of : IsOf p.head work.calls.items work.base) (drain : Bool)
     (first : ℕ) (saved : Saved) (old : History)
     (h : HoldsBase first saved old (plan_in p.head) work.base) where
   same_plan : plan_in q.head ≡ plan_in p.head
@@ -196,7 +196,7 @@ module _ (p q : Place) (work : Work) (is : closing p ≡ Ok q) (stays : HeadStay
       (held_behind Rest (doing_of q work) (held_in work.base))) same_plan laid)
 
 -- where it is refused
-module _ (p : Place) (work : Work) (refusal : Refusal) (at : refusal.line ≡ line_after p.lines) (is : closing p ≡ Err refusal.kind) (drain : Bool) (first : ℕ)
+module _ (p : ScriptPlace) (work : Work) (refusal : Refusal) (at : refusal.line ≡ line_after p.lines) (is : closing p ≡ Err refusal.kind) (drain : Bool) (first : ℕ)
     (saved : Saved) (disk : History)
     (h : HoldsBase first saved disk (plan_in p.head) work.base) where
   pub close_refused : (ga gb : Option (List ℕ)) → AppendsFront ga gb (refusal_text refusal)

@@ -14,7 +14,7 @@ use Rattle.script_course.specs.Served.{Finishes, IsGoing}
 use Rattle.script_course.specs.declared.stops.Stop.{Stop}
 use Rattle.script_course.specs.declared.stops.Stop.TheVariants as stop
 use Rattle.script_places.specs.Places.{closing}
-use Rattle.script_places.specs.declared.places.Place.{Place}
+use Rattle.script_places.specs.declared.places.ScriptPlace.{ScriptPlace}
 use Rattle.script_text.specs.declared.refusals.RefusalKind.{RefusalKind}
 use Rattle.serving.specs.Drains.{drains}
 use Rattle.serving.specs.Stored.{LeavesState}
@@ -117,11 +117,11 @@ module _ (plan : Plan) (each : Bool) (line : ℕ) (state : State) (d : Doing) (e
 -- ---- the end of the input
 
 -- what a stop leaves of it and of what follows
-module _ (d : Doing) (steps : List Turn) (q : Place) (is : closing d.place ≡ Ok q) (first : ℕ) (saved : Saved) (checkpoint : ℕ) (a b : History) where
+module _ (d : Doing) (steps : List Turn) (q : ScriptPlace) (is : closing d.place ≡ Ok q) (first : ℕ) (saved : Saved) (checkpoint : ℕ) (a b : History) where
   pub close_left : (plan : Plan) (state : State) (store : Option Kept) → HoldsState first saved checkpoint a plan state store
       → LeavesAll a b (IsLeft checkpoint steps (record d { place = q }) saved) → LeavesAll a b (IsLeft checkpoint (Close ∷ steps) d saved)
   close_left plan state store h l =
-      let goes : on_turn d Close ≡ Goes [] (record d { place = q }) = ap (λ (r : Result Place RefusalKind). on_close d r) is in
+      let goes : on_turn d Close ≡ Goes [] (record d { place = q }) = ap (λ (r : Result ScriptPlace RefusalKind). on_close d r) is in
       let behind : saved_behind checkpoint (Close ∷ []) d saved ≡ saved =
       held_one on_turn (saved_then checkpoint) Close d (record d { place = q }) saved [] goes ∙ saved_still checkpoint saved d (record d { place = q }) refl in
       left_both checkpoint (Close ∷ []) steps d (record d { place = q }) saved [] (onward_none on_turn (on_turn d Close) ∙ goes) a a b
@@ -129,9 +129,9 @@ module _ (d : Doing) (steps : List Turn) (q : Place) (is : closing d.place ≡ O
       (subst (λ (s : Saved). LeavesAll a b (IsLeft checkpoint steps (record d { place = q }) s)) (sym behind) l)
 
 module _ (d : Doing) (held : State) (steps : List Turn) where
-  module _ (q : Place) (is : closing d.place ≡ Ok q) where
+  module _ (q : ScriptPlace) (is : closing d.place ≡ Ok q) where
     closes_on : on_turn d Close ≡ Goes [] (record d { place = q })
-    closes_on = ap (λ (r : Result Place RefusalKind). on_close d r) is
+    closes_on = ap (λ (r : Result ScriptPlace RefusalKind). on_close d r) is
 
     pub close_keeps : (plan : Plan) (a b : History) (ga gb : Option (List ℕ)) → LeavesState a plan held
         → Keeps (PassesTurns steps (record d { place = q }) held) plan a b ga gb
@@ -158,7 +158,7 @@ module _ (d : Doing) (held : State) (steps : List Turn) where
 
   module _ (kind : RefusalKind) (is : closing d.place ≡ Err kind) where
     stops_on : on_turn d Close ≡ Stops (refused_after d.place.lines kind)
-    stops_on = ap (λ (r : Result Place RefusalKind). on_close d r) is
+    stops_on = ap (λ (r : Result ScriptPlace RefusalKind). on_close d r) is
 
     pub refused_keeps : (plan : Plan) (disk : History) (ga gb : Option (List ℕ)) → AppendsFront ga gb (refused_after d.place.lines kind)
         → LeavesState disk plan held

@@ -16,9 +16,9 @@ use Rattle.proc_lang.specs.Catalogs.{Plan, takes, run_of}
 use Rattle.script_places.specs.Follows.{IsReadyWith}
 use Rattle.script_places.specs.Places.{plan_in, start_with}
 use Rattle.script_places.specs.declared.places.Mode.TheVariants as mode
-use Rattle.script_places.specs.declared.heads.Head.{Head}
-use Rattle.script_places.specs.declared.heads.Head.TheVariants as head
-use Rattle.script_places.specs.declared.places.Place.{Place}
+use Rattle.script_places.specs.declared.heads.ScriptCatalog.{ScriptCatalog}
+use Rattle.script_places.specs.declared.heads.ScriptCatalog.TheVariants as head
+use Rattle.script_places.specs.declared.places.ScriptPlace.{ScriptPlace}
 use Rattle.serving.specs.Lives.{IsNext, IsRunnable, MayServe, batch_text, first_state, handed_at, next_handed, next_state, next_text, plan_of, state_of}
 use Rattle.serving.specs.declared.lives.Live.{Live}
 use Rattle.store_openings.specs.Runs.{settings_with}
@@ -38,7 +38,7 @@ pub put_state : (b : Base) (key : Key) (row : Cells) → IsHead b
 put_state (base.Rows tables config) key row h = refl
 put_state (base.Runs live) key row h = absurd h
 
-put_of : (h : Head) (calls : List Call) (b : Base) (key : Key) (row : Cells) → IsHead b → IsReadyWith h (λ plan. Fits plan.tables key row) → IsOf h calls b
+put_of : (h : ScriptCatalog) (calls : List Call) (b : Base) (key : Key) (row : Cells) → IsHead b → IsReadyWith h (λ plan. Fits plan.tables key row) → IsOf h calls b
     → IsOf h calls (put_in b key row)
 put_of head.Unnamed calls b key row before fits of = absurd fits
 put_of (head.Text text) calls b key row before fits of = absurd fits
@@ -57,7 +57,7 @@ put_listed : (each : Bool) (b : Base) (key : Key) (row : Cells) → IsListed eac
 put_listed each (base.Rows tables config) key row h = tt
 put_listed each (base.Runs live) key row h = h
 
-pub put_stands : (place : Place) (work next : Work) (key : Key) (row : Cells) → MayPut place work key row
+pub put_stands : (place : ScriptPlace) (work next : Work) (key : Key) (row : Cells) → MayPut place work key row
     → next.calls.items ≡ work.calls.items → next.base ≡ put_in work.base key row → next.replicas ≡ work.replicas → next.each ≡ work.each → Stands place next
 put_stands place work next key row may calls b replicas each =
     let h = may.stands.holds in
@@ -77,7 +77,7 @@ put_stands place work next key row may calls b replicas each =
 
 -- ---- a call
 
-call_of : (h : Head) (calls : List Call) (call : Call) (b : Base) → IsReadyWith h (λ plan. takes plan call ≡ true) → IsOf h calls b
+call_of : (h : ScriptCatalog) (calls : List Call) (call : Call) (b : Base) → IsReadyWith h (λ plan. takes plan call ≡ true) → IsOf h calls b
     → IsOf h (calls ++ call ∷ []) b
 call_of head.Unnamed calls call b fits of = absurd fits
 call_of (head.Text text) calls call b fits of = absurd fits
@@ -96,7 +96,7 @@ pub set_state : (b : Base) (rule : Rule) (percent : ℕ) → state_in (set_in b 
 set_state (base.Rows tables config) rule percent = refl
 set_state (base.Runs live) rule percent = set_first live.config rule percent live.replicas
 
-set_of : (h : Head) (calls : List Call) (b : Base) (rule : Rule) (percent : ℕ) → IsOf h calls b → IsOf h calls (set_in b rule percent)
+set_of : (h : ScriptCatalog) (calls : List Call) (b : Base) (rule : Rule) (percent : ℕ) → IsOf h calls b → IsOf h calls (set_in b rule percent)
 set_of head.Unnamed calls (base.Rows tables config) rule percent of = of
 set_of head.Unnamed calls (base.Runs live) rule percent of = of
 set_of (head.Text text) calls (base.Rows tables config) rule percent of = of
@@ -124,7 +124,7 @@ set_listed : (each : Bool) (b : Base) (rule : Rule) (percent : ℕ) → IsListed
 set_listed each (base.Rows tables config) rule percent h = tt
 set_listed each (base.Runs live) rule percent h = h
 
-pub set_stands : (place : Place) (work next : Work) (rule : Rule) (percent : ℕ) → MaySet place work percent
+pub set_stands : (place : ScriptPlace) (work next : Work) (rule : Rule) (percent : ℕ) → MaySet place work percent
     → next.calls.items ≡ work.calls.items → next.base ≡ set_in work.base rule percent → next.replicas ≡ work.replicas → next.each ≡ work.each
     → Stands place next
 set_stands place work next rule percent may calls b replicas each =
@@ -145,12 +145,12 @@ set_stands place work next rule percent may calls b replicas each =
 
 -- ---- the end of a batch
 
-no_calls_of : (h : Head) (calls : List Call) (b : Base) → IsOf h calls b → IsOf h [] b
+no_calls_of : (h : ScriptCatalog) (calls : List Call) (b : Base) → IsOf h calls b → IsOf h [] b
 no_calls_of head.Unnamed calls b of = (refl, of.1)
 no_calls_of (head.Text text) calls b of = (refl, of.1)
 no_calls_of (head.Ready plan) calls b of = (All-nil (λ (call : Call). takes plan call ≡ true), of.1)
 
-pub close_stands : (place : Place) (work next : Work) → MayClose place work → next.calls.items ≡ [] → next.base ≡ work.base → next.replicas ≡ work.replicas
+pub close_stands : (place : ScriptPlace) (work next : Work) → MayClose place work → next.calls.items ≡ [] → next.base ≡ work.base → next.replicas ≡ work.replicas
     → next.each ≡ work.each
     → Stands place next
 close_stands place work next may none b replicas each =
@@ -171,17 +171,17 @@ close_stands place work next may none b replicas each =
 
 -- ---- a batch that is run
 
-pub under_head : (h : Head) (calls : List Call) (b : Base) → IsReadyWith h (λ plan. Unit {0}) → IsOf h calls b → IsReadyWith h (λ plan. IsUnder plan b)
+pub under_head : (h : ScriptCatalog) (calls : List Call) (b : Base) → IsReadyWith h (λ plan. Unit {0}) → IsOf h calls b → IsReadyWith h (λ plan. IsUnder plan b)
 under_head head.Unnamed calls b ready of = absurd ready
 under_head (head.Text text) calls b ready of = absurd ready
 under_head (head.Ready plan) calls b ready of = of.1
 
-fit_head : (h : Head) (calls : List Call) (b : Base) → IsReadyWith h (λ plan. Unit {0}) → IsOf h calls b → All (λ call. takes (plan_in h) call ≡ true) calls
+fit_head : (h : ScriptCatalog) (calls : List Call) (b : Base) → IsReadyWith h (λ plan. Unit {0}) → IsOf h calls b → All (λ call. takes (plan_in h) call ≡ true) calls
 fit_head head.Unnamed calls b ready of = absurd ready
 fit_head (head.Text text) calls b ready of = absurd ready
 fit_head (head.Ready plan) calls b ready of = of.0
 
-pub may_serve : (place : Place) (work : Work) (live : Live) → MayRun place work → IsBegun place.head work.base work.each live → MayServe live work.calls.items
+pub may_serve : (place : ScriptPlace) (work : Work) (live : Live) → MayRun place work → IsBegun place.head work.base work.each live → MayServe live work.calls.items
 may_serve place work live may begun = record {
   fit = subst (λ (plan : Plan). All (λ call. takes plan call ≡ true) work.calls.items) (sym begun.plan)
       (fit_head place.head work.calls.items work.base may.ready may.holds.of_head);
@@ -192,12 +192,12 @@ may_serve place work live may begun = record {
   workers = begun.runnable.workers;
 }
 
-ran_of : (h : Head) (live : Live) → IsReadyWith h (λ plan. Unit {0}) → plan_of live ≡ plan_in h → IsOf h [] (base.Runs live)
+ran_of : (h : ScriptCatalog) (live : Live) → IsReadyWith h (λ plan. Unit {0}) → plan_of live ≡ plan_in h → IsOf h [] (base.Runs live)
 ran_of head.Unnamed live ready e = absurd ready
 ran_of (head.Text text) live ready e = absurd ready
 ran_of (head.Ready plan) live ready e = (All-nil (λ (call : Call). takes plan call ≡ true), e)
 
-pub run_stands : (place : Place) (work next : Work) (before after : Live) → MayRun place work → IsBegun place.head work.base work.each before
+pub run_stands : (place : ScriptPlace) (work next : Work) (before after : Live) → MayRun place work → IsBegun place.head work.base work.each before
     → IsNext before work.calls.items after
     → next.calls.items ≡ [] → next.base ≡ base.Runs after → next.replicas ≡ work.replicas → next.each ≡ work.each → Stands place next
 run_stands place work next before after may begun is none b replicas each =
@@ -216,7 +216,7 @@ run_stands place work next before after may begun is none b replicas each =
     }
 
 -- so the batch is that of the script's state
-module _ (place : Place) (work : Work) (before : Live) (begun : IsBegun place.head work.base work.each before) where
+module _ (place : ScriptPlace) (work : Work) (before : Live) (begun : IsBegun place.head work.base work.each before) where
   abbrev calls : List Call
   calls = work.calls.items
 

@@ -11,8 +11,8 @@ use Rattle.script_course.specs.declared.stops.Stop.{Stop}
 use Rattle.script_course.specs.declared.stops.Stop.TheVariants as stop
 use Rattle.script_places.specs.Follows.{HeadStays}
 use Rattle.script_places.specs.Places.{plan_in}
-use Rattle.script_places.specs.declared.heads.Head.{Head}
-use Rattle.script_places.specs.declared.heads.Head.TheVariants as head
+use Rattle.script_places.specs.declared.heads.ScriptCatalog.{ScriptCatalog}
+use Rattle.script_places.specs.declared.heads.ScriptCatalog.TheVariants as head
 use Rattle.serving.specs.Drains.{drains}
 use Rattle.serving.specs.Lives.{plan_of}
 use Rattle.run_commands.specs.Bases.{IsNamed}
@@ -57,8 +57,8 @@ module _ (drain : Bool) (plan : Plan) (each : Bool) (line : ℕ) (state : State)
   drained_cut on old new why h = cut_if drain on old new why h
 
 -- a database runs by the catalogue of its head, at the end too
-pub named_on : (h next : Head) (calls : List Call) (b : Base) → HeadStays h next → IsOf h calls b → IsNamed next b
+pub named_on : (h next : ScriptCatalog) (calls : List Call) (b : Base) → HeadStays h next → IsOf h calls b → IsNamed next b
 named_on h next calls (base.Rows tables config) on of = tt
 named_on head.Unnamed next calls (base.Runs live) on of = absurd of.1
 named_on (head.Text text) next calls (base.Runs live) on of = absurd of.1
-named_on (head.Ready plan) next calls (base.Runs live) on of = subst (λ (k : Head). plan_of live ≡ plan_in k) (sym on) of.1
+named_on (head.Ready plan) next calls (base.Runs live) on of = subst (λ (k : ScriptCatalog). plan_of live ≡ plan_in k) (sym on) of.1

@@ -14,11 +14,11 @@ use Rattle.proc_lang.specs.Catalogs.{Plan}
 use Rattle.script_places.specs.Places.{Asked, asked, at_call, at_catalog, at_end, at_item, at_row, at_settings, behind_text, by_head, calls, closed, ends, found, goes_on, has_batches, has_catalog, in_text, is_audit, is_byte, is_check, is_unnamed, next_line, plan_in, puts, read_text, runs, sets, under, within_text, without_head}
 use Rattle.script_places.specs.declared.deeds.Deed.{Deed}
 use Rattle.script_places.specs.declared.deeds.Deed.TheVariants as deed
-use Rattle.script_places.specs.declared.heads.Head.{Head}
-use Rattle.script_places.specs.declared.heads.Head.TheVariants as head
+use Rattle.script_places.specs.declared.heads.ScriptCatalog.{ScriptCatalog}
+use Rattle.script_places.specs.declared.heads.ScriptCatalog.TheVariants as head
 use Rattle.script_places.specs.declared.limits.TheConstants.{MOST_CATALOG}
 use Rattle.script_places.specs.declared.places.Counts.{Counts}
-use Rattle.script_places.specs.declared.places.Place.{Place}
+use Rattle.script_places.specs.declared.places.ScriptPlace.{ScriptPlace}
 use Rattle.script_text.specs.Fits.{and_then, placed_call, placed_row, placed_settings}
 use Rattle.script_text.specs.Forms.{said}
 use Rattle.script_text.specs.Lines.{Feed, Scan, is_past_limit, is_past_line, last_line, scan, scan_after, stopped, unreturned, with_byte, with_feed}
@@ -110,15 +110,15 @@ any_ok (Ok a) = tt
 any_ok (Err why) = tt
 
 -- a call that is asked for is written in a line of a log, under the catalogue that is there then
-abbrev IsShortThere : Place × Deed → Type 0
+abbrev IsShortThere : ScriptPlace × Deed → Type 0
 IsShortThere r = IsShort (plan_in r.0.head) r.1
 
-under_short : (h : Head) (ask : Plan → Asked) → ((plan : Plan) → h ≡ head.Ready plan → IfOk (ask plan) IsShortThere) → IfOk (under h ask) IsShortThere
+under_short : (h : ScriptCatalog) (ask : Plan → Asked) → ((plan : Plan) → h ≡ head.Ready plan → IfOk (ask plan) IsShortThere) → IfOk (under h ask) IsShortThere
 under_short head.Unnamed ask each = tt
 under_short (head.Text text) ask each = tt
 under_short (head.Ready plan) ask each = each plan refl
 
-catalog_short : (p : Place) (name : List ℕ) → IfOk (at_catalog p name) IsShortThere
+catalog_short : (p : ScriptPlace) (name : List ℕ) → IfOk (at_catalog p name) IsShortThere
 catalog_short p name =
     either_ok IsShortThere (not (has_catalog p.mode && is_unnamed p.head)) (Err kind.Site) _ (λ no. tt)
     (λ may. either_ok IsShortThere (is_audit p.mode && not (bytes_eq name (codes "tpcc"))) (Err kind.Name) _ (λ no. tt)
@@ -130,26 +130,26 @@ catalog_short p name =
     by None = tt
     by (Some plan) = tt
 
-row_short : (p : Place) (table : List ℕ) (parts : List Part) (row : Cells) → IfOk (at_row p table parts row) IsShortThere
+row_short : (p : ScriptPlace) (table : List ℕ) (parts : List Part) (row : Cells) → IfOk (at_row p table parts row) IsShortThere
 row_short p table parts row = under_short p.head (λ plan. cond p.rows_ended (Err kind.Site) (and_then (puts p) (placed_row plan table parts row)))
     (λ plan is. either_ok IsShortThere p.rows_ended (Err kind.Site) (and_then (puts p) (placed_row plan table parts row)) (λ ended. tt)
     (λ open_yet. then_ok (λ r. Unit {0}) IsShortThere (puts p) (placed_row plan table parts row) (any_ok (placed_row plan table parts row)) (λ r any. tt)))
 
-calls_short : (p : Place) (plan : Plan) (call : Call) → p.head ≡ head.Ready plan → length (line_of_call plan call) ≤ LONGEST_LINE
+calls_short : (p : ScriptPlace) (plan : Plan) (call : Call) → p.head ≡ head.Ready plan → length (line_of_call plan call) ≤ LONGEST_LINE
     → IfOk (calls p call) IsShortThere
 calls_short p plan call is few =
     either_ok IsShortThere (nat_lt p.open_calls MOST_REQUESTS) (Ok (record p { rows_ended = true; open_calls = p.open_calls + 1 }, deed.Call call))
     (Err kind.Batch)
-    (λ room. subst (λ (h : Head). length (line_of_call (plan_in h) call) ≤ LONGEST_LINE) (sym is) few) (λ full. tt)
+    (λ room. subst (λ (h : ScriptCatalog). length (line_of_call (plan_in h) call) ≤ LONGEST_LINE) (sym is) few) (λ full. tt)
 
-call_short : (p : Place) (proc : List ℕ) (args : List Arg) → 3 + length proc + weight arg_token args ≤ LONGEST_LINE → IfOk (at_call p proc args) IsShortThere
+call_short : (p : ScriptPlace) (proc : List ℕ) (args : List Arg) → 3 + length proc + weight arg_token args ≤ LONGEST_LINE → IfOk (at_call p proc args) IsShortThere
 call_short p proc args few = under_short p.head (λ plan. cond (has_batches p.mode) (and_then (calls p) (placed_call plan proc args)) (Err kind.Site))
     (λ plan is. either_ok IsShortThere (has_batches p.mode) (and_then (calls p) (placed_call plan proc args)) (Err kind.Site)
     (λ may. then_ok (λ call. length (call_line plan.procs call) ≤ LONGEST_LINE) IsShortThere (calls p) (placed_call plan proc args)
     (placed_within plan proc args 4096 few) (λ call within. calls_short p plan call is within))
     (λ no. tt))
 
-ends_short : (p : Place) (counts : Counts) (n : ℕ) → IfOk (ends p counts n) IsShortThere
+ends_short : (p : ScriptPlace) (counts : Counts) (n : ℕ) → IfOk (ends p counts n) IsShortThere
 ends_short p counts n =
     either_ok IsShortThere (nat_lt (counts.batches + 1) n) (Err (kind.Gap n (counts.batches + 1))) _ (λ gap. tt)
     (λ next. either_ok IsShortThere (nat_le n counts.batches) (Ok (closed p, deed.Keep n)) (runs p counts n) (λ before. tt)
@@ -157,11 +157,11 @@ ends_short p counts n =
     (λ room. either_ok IsShortThere (nat_lt GREATEST_NUMBER n || nat_lt GREATEST_NUMBER (counts.requests + p.open_calls)) (Err kind.Numbers)
     (Ok (closed p, deed.Run)) (λ no. tt) (λ runs. tt))))
 
-end_short : (p : Place) (counts : Counts) (n : ℕ) → IfOk (at_end p counts n) IsShortThere
+end_short : (p : ScriptPlace) (counts : Counts) (n : ℕ) → IfOk (at_end p counts n) IsShortThere
 end_short p counts n = under_short p.head (λ plan. cond (has_batches p.mode) (ends p counts n) (Err kind.Site))
     (λ plan is. either_ok IsShortThere (has_batches p.mode) (ends p counts n) (Err kind.Site) (λ may. ends_short p counts n) (λ no. tt))
 
-settings_short : (p : Place) (name : List ℕ) (percent : ℤ) → IfOk (at_settings p name percent) IsShortThere
+settings_short : (p : ScriptPlace) (name : List ℕ) (percent : ℤ) → IfOk (at_settings p name percent) IsShortThere
 settings_short p name percent = under_short p.head (λ plan. cond (has_batches p.mode && p.open_calls == 0) (and_then (sets p) (placed_settings name percent))
     (Err kind.Site))
     (λ plan is. either_ok IsShortThere (has_batches p.mode && p.open_calls == 0) (and_then (sets p) (placed_settings name percent)) (Err kind.Site)
@@ -172,7 +172,7 @@ settings_short p name percent = under_short p.head (λ plan. cond (has_batches p
 abbrev IsShortItem : Item → Type 0
 IsShortItem i = (proc : List ℕ) (args : List Arg) → i ≡ item.Tx proc args → 3 + length proc + weight arg_token args ≤ LONGEST_LINE
 
-item_short : (p : Place) (counts : Counts) (i : Item) → IsShortItem i → IfOk (at_item p counts i) IsShortThere
+item_short : (p : ScriptPlace) (counts : Counts) (i : Item) → IsShortItem i → IfOk (at_item p counts i) IsShortThere
 item_short p counts item.Skip short = tt
 item_short p counts (item.Catalog name) short = catalog_short p name
 item_short p counts (item.Piece piece) short = tt
@@ -183,7 +183,7 @@ item_short p counts item.Report short = either_ok IsShortThere (is_check p.mode 
     (Err kind.Site) (λ may. tt) (λ no. tt)
 item_short p counts (item.Settings name percent) short = settings_short p name percent
 
-piece_short : (p : Place) (text : List ℕ) (i : Item) → IfOk (within_text p text i) IsShortThere
+piece_short : (p : ScriptPlace) (text : List ℕ) (i : Item) → IfOk (within_text p text i) IsShortThere
 piece_short p text item.Skip = tt
 piece_short p text (item.Catalog name) = tt
 piece_short p text (item.Piece piece) =
@@ -195,7 +195,7 @@ piece_short p text (item.End n) = tt
 piece_short p text item.Report = tt
 piece_short p text (item.Settings name percent) = tt
 
-text_line_short : (p : Place) (counts : Counts) (text : List ℕ) (line : Result Item RefusalKind) → IfOk line IsShortItem
+text_line_short : (p : ScriptPlace) (counts : Counts) (text : List ℕ) (line : Result Item RefusalKind) → IfOk line IsShortItem
     → IfOk (in_text p counts text line) IsShortThere
 text_line_short p counts text (Ok i) short =
     either_ok IsShortThere (goes_on i) (within_text p text i) (behind_text p counts text i) (λ more. piece_short p text i)
@@ -205,7 +205,7 @@ text_line_short p counts text (Err why) short =
     either_ok IsShortThere (is_byte why) (Err why) (and_then (λ ready. Err why) (read_text p text)) (λ byte. tt)
     (λ other. then_ok (λ ready. Unit {0}) IsShortThere (λ ready. Err why) (read_text p text) (any_ok (read_text p text)) (λ ready any. tt))
 
-line_short : (p : Place) (counts : Counts) (h : Head) (line : Result Item RefusalKind) → IfOk line IsShortItem → IfOk (by_head p counts h line) IsShortThere
+line_short : (p : ScriptPlace) (counts : Counts) (h : ScriptCatalog) (line : Result Item RefusalKind) → IfOk line IsShortItem → IfOk (by_head p counts h line) IsShortThere
 line_short p counts head.Unnamed line short = then_ok IsShortItem IsShortThere (at_item p counts) line short (item_short p counts)
 line_short p counts (head.Text text) line short = text_line_short (without_head p) counts text line short
 line_short p counts (head.Ready plan) line short = then_ok IsShortItem IsShortThere (at_item p counts) line short (item_short p counts)
@@ -217,12 +217,12 @@ said_short line few = by (said line) refl
     by (Err why) says = tt
     by (Ok i) says = λ proc args is. let within = call_within line proc args (says ∙ ap (λ (j : Item). Ok j) is) in omega arith
 
-asked_short : (p : Place) (counts : Counts) (line : List ℕ) → length line ≤ LONGEST_LINE → IfOk (asked p counts line) IsShortThere
+asked_short : (p : ScriptPlace) (counts : Counts) (line : List ℕ) → length line ≤ LONGEST_LINE → IfOk (asked p counts line) IsShortThere
 asked_short p counts line few =
     either_ok IsShortThere p.reports (Ok (next_line p, deed.Tell)) (by_head (next_line p) counts p.head (said line)) (λ told. tt)
     (λ none. line_short (next_line p) counts p.head (said line) (said_short line few))
 
 -- a line of a script asks for no call that is longer than a line of a log
-pub short_deed : (p next : Place) (counts : Counts) (line : List ℕ) (asks : Deed) → asked p counts line ≡ Ok (next, asks) → length line ≤ LONGEST_LINE
+pub short_deed : (p next : ScriptPlace) (counts : Counts) (line : List ℕ) (asks : Deed) → asked p counts line ≡ Ok (next, asks) → length line ≤ LONGEST_LINE
     → IsShort (plan_in next.head) asks
 short_deed p next counts line asks is few = subst (λ (r : Asked). IfOk r IsShortThere) is (asked_short p counts line few)

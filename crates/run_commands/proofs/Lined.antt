@@ -16,10 +16,10 @@ use Rattle.script_places.specs.Follows.{HeadStays}
 use Rattle.script_places.specs.Places.{asked, plan_in}
 use Rattle.script_places.specs.declared.deeds.Deed.{Deed}
 use Rattle.script_places.specs.declared.deeds.Deed.TheVariants as deed
-use Rattle.script_places.specs.declared.heads.Head.{Head}
-use Rattle.script_places.specs.declared.heads.Head.TheVariants as head
+use Rattle.script_places.specs.declared.heads.ScriptCatalog.{ScriptCatalog}
+use Rattle.script_places.specs.declared.heads.ScriptCatalog.TheVariants as head
 use Rattle.script_places.specs.declared.places.Counts.{Counts}
-use Rattle.script_places.specs.declared.places.Place.{Place}
+use Rattle.script_places.specs.declared.places.ScriptPlace.{ScriptPlace}
 use Rattle.serving.proofs.Nexts.{handed_is}
 use Rattle.serving.specs.Lives.{IsNext, handed_at, next_state, plan_of}
 use Rattle.serving.specs.Stored.{HasLines, Holds, HoldsTurned, ReopensOnWay, batch_of, next_batch, next_due, next_store, stored_state, told_by}
@@ -65,7 +65,7 @@ head_none (base.Runs live) h = absurd h
 
 -- ---- a line that runs no batch
 
-module _ (place : Place) (work : Work) (ga gb : Option (List ℕ)) where
+module _ (place : ScriptPlace) (work : Work) (ga gb : Option (List ℕ)) where
   abbrev Store : Option Kept
   Store = store_in work.base
 
@@ -134,7 +134,7 @@ module _ (place : Place) (work : Work) (ga gb : Option (List ℕ)) where
 
 -- ---- a batch
 
-module _ (place : Place) (work : Work) (live : Live) (begun : IsBegun place.head work.base work.each live) where
+module _ (place : ScriptPlace) (work : Work) (live : Live) (begun : IsBegun place.head work.base work.each live) where
   abbrev Calls : List Call
   Calls = work.calls.items
 
@@ -213,7 +213,7 @@ module _ (place : Place) (work : Work) (live : Live) (begun : IsBegun place.head
 -- ---- a line as a whole
 
 -- the catalogue of a database that runs stays
-head_plan : (h next : Head) (calls : List Call) (b : Base) → HeadStays h next → IsOf h calls b → store_in b ≢ None → plan_in next ≡ plan_in h
+head_plan : (h next : ScriptCatalog) (calls : List Call) (b : Base) → HeadStays h next → IsOf h calls b → store_in b ≢ None → plan_in next ≡ plan_in h
 head_plan h next calls (base.Rows tables config) on of some = absurd (some refl)
 head_plan head.Unnamed next calls (base.Runs live) on of some = absurd of.1
 head_plan (head.Text text) next calls (base.Runs live) on of some = absurd of.1
@@ -237,7 +237,7 @@ done_goes d (deed.Call call) bytes e = not_both bytes _ _ (sym e)
 done_goes d (deed.Set rule percent) bytes e = not_both bytes _ _ (sym e)
 done_goes d (deed.Keep number) bytes e = not_both bytes _ _ (sym e)
 
-module _ (place after : Place) (work : Work) (stands : Stands place work) (counts : Counts) (same : counts ≡ counts_of (state_in work.base)) (line : List ℕ)
+module _ (place after : ScriptPlace) (work : Work) (stands : Stands place work) (counts : Counts) (same : counts ≡ counts_of (state_in work.base)) (line : List ℕ)
     (asks : Deed)
     (is : asked place counts line ≡ Ok (after, asks)) where
   abbrev From : Running

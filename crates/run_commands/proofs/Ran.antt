@@ -15,7 +15,7 @@ use Rattle.image_text.specs.Payloads.{Batch}
 use Rattle.proc_lang.specs.Catalogs.{Plan}
 use Rattle.script_course.specs.Courses.{Goes}
 use Rattle.script_places.specs.Places.{plan_in}
-use Rattle.script_places.specs.declared.places.Place.{Place}
+use Rattle.script_places.specs.declared.places.ScriptPlace.{ScriptPlace}
 use Rattle.serving.specs.Deliveries.{IsAnswered, Tells}
 use Rattle.serving.specs.Lives.{IsNext, next_state, next_text, plan_of, state_of}
 use Rattle.serving.specs.Stored.{GoesOn, HasLines, Holds, IsLogging, LeavesState, MayLog, ReopensBy, ReopensOnWay, ReopensToEither, stored_state, told_by}
@@ -91,14 +91,14 @@ open_without disk script e = record {
 }
 
 -- behind a batch
-pub open_behind : (disk : History) (place : Place) (next : Work) (live : Live) → next.base ≡ base.Runs live → next.calls.items ≡ [] → IsLogging disk live
+pub open_behind : (disk : History) (place : ScriptPlace) (next : Work) (live : Live) → next.base ≡ base.Runs live → next.calls.items ≡ [] → IsLogging disk live
     → IsOpen disk (running_of place next)
 open_behind disk place next live b none logging = record {
   logging = subst (λ (x : Base). IfSome (store_in x) (GoesOn disk (state_in x).batches)) (sym b) logging;
   lines = no_lines (plan_in place.head) next.calls.items (store_in next.base) none;
 }
 
-module _ (place : Place) (work : Work) (live : Live) (begun : IsBegun place.head work.base work.each live) where
+module _ (place : ScriptPlace) (work : Work) (live : Live) (begun : IsBegun place.head work.base work.each live) where
   abbrev Calls : List Call
   Calls = work.calls.items
 

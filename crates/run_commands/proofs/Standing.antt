@@ -18,9 +18,9 @@ use Rattle.script_places.specs.Follows.{Follows, HeadStays}
 use Rattle.script_places.specs.Places.{is_check}
 use Rattle.script_places.specs.declared.deeds.Deed.{Deed}
 use Rattle.script_places.specs.declared.deeds.Deed.TheVariants as deed
-use Rattle.script_places.specs.declared.heads.Head.{Head}
-use Rattle.script_places.specs.declared.heads.Head.TheVariants as head
-use Rattle.script_places.specs.declared.places.Place.{Place}
+use Rattle.script_places.specs.declared.heads.ScriptCatalog.{ScriptCatalog}
+use Rattle.script_places.specs.declared.heads.ScriptCatalog.TheVariants as head
+use Rattle.script_places.specs.declared.places.ScriptPlace.{ScriptPlace}
 use Rattle.run_commands.specs.Bases.{IsBlank, IsHead, IsUnder, counts_of, state_in}
 use Rattle.run_commands.specs.Standing.{HasEnded, Holds, IsOf, MayDo, Stands}
 use Rattle.run_commands.specs.declared.bases.Base.{Base}
@@ -51,22 +51,22 @@ consistent_with schema db key row whole fits = λ q cells found.
 
 -- ---- the head goes on
 
-of_ready : (b : Base) (h : Head) (calls : List Call) → calls ≡ [] → IsBlank b → IsOf h calls b
+of_ready : (b : Base) (h : ScriptCatalog) (calls : List Call) → calls ≡ [] → IsBlank b → IsOf h calls b
 of_ready b head.Unnamed calls e blank = (e, blank)
 of_ready b (head.Text text) calls e blank = (e, blank)
 of_ready b (head.Ready plan) calls e blank =
     (subst (λ (l : List Call). All (λ call. takes plan call ≡ true) l) (sym e) (All-nil (λ (call : Call). takes plan call ≡ true)), blank_under plan b blank)
 
-of_head_on : (h next : Head) (calls : List Call) (b : Base) → HeadStays h next → IsOf h calls b → IsOf next calls b
+of_head_on : (h next : ScriptCatalog) (calls : List Call) (b : Base) → HeadStays h next → IsOf h calls b → IsOf next calls b
 of_head_on head.Unnamed next calls b on of = of_ready b next calls of.0 of.1
 of_head_on (head.Text text) next calls b on of = of_ready b next calls of.0 of.1
-of_head_on (head.Ready plan) next calls b on of = subst (λ (k : Head). IsOf k calls b) (sym on) of
+of_head_on (head.Ready plan) next calls b on of = subst (λ (k : ScriptCatalog). IsOf k calls b) (sym on) of
 
 ended_on : (before after : Bool) (b : Base) → (before ≡ true → after ≡ true) → HasEnded before b → HasEnded after b
 ended_on before after (base.Rows tables config) on h = tt
 ended_on before after (base.Runs live) on h = on h
 
-module _ (p q : Place) (work : Work) where
+module _ (p q : ScriptPlace) (work : Work) where
   pub holds_on : q.mode ≡ p.mode → HeadStays p.head q.head → (p.rows_ended ≡ true → q.rows_ended ≡ true) → Holds p work → Holds q work
   holds_on mode stays rows h = record {
     mode_kept = ap is_check mode ∙ h.mode_kept;
@@ -89,7 +89,7 @@ no_rows : (a b : Bool) → a ≡ false → a ≡ true → b ≡ true
 no_rows a b e f = absurd (let both : true ≡ false = sym f ∙ e in cc)
 
 -- what a line asks for may be done behind it
-pub may_do : (p q : Place) (work : Work) (asks : Deed) → Stands p work → Follows p (counts_of (state_in work.base)) q asks → MayDo q work asks
+pub may_do : (p q : ScriptPlace) (work : Work) (asks : Deed) → Stands p work → Follows p (counts_of (state_in work.base)) q asks → MayDo q work asks
 may_do p q work deed.Nothing s f = stands_on p q work f.mode_stays f.head_stays f.allows.rows f.allows.calls s
 may_do p q work deed.Tell s f = stands_on p q work f.mode_stays f.head_stays f.allows.rows f.allows.calls s
 may_do p q work (deed.Put key row) s f = record {

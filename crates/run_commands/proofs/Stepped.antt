@@ -17,7 +17,7 @@ use Rattle.script_course.specs.declared.stops.Stop.TheVariants as stop
 use Rattle.script_places.specs.Places.{plan_in}
 use Rattle.script_places.specs.declared.deeds.Deed.{Deed}
 use Rattle.script_places.specs.declared.deeds.Deed.TheVariants as deed
-use Rattle.script_places.specs.declared.places.Place.{Place}
+use Rattle.script_places.specs.declared.places.ScriptPlace.{ScriptPlace}
 use Rattle.serving.specs.Stored.{HasLines, LeavesState}
 use Rattle.run_commands.specs.Keeps.{IsOpen, IsShort, Keeps}
 use Rattle.run_commands.specs.Onces.{Doing, Running, behind_batch, doing_result, done, on_line, text_of}
@@ -29,7 +29,7 @@ use Rattle.run_commands.proofs.Ran.{no_lines}
 
 -- ---- a batch
 
-pub run_may : (place : Place) (work : Work) (asks : Deed) → runs_batch asks ≡ true → MayDo place work asks → MayRun place work
+pub run_may : (place : ScriptPlace) (work : Work) (asks : Deed) → runs_batch asks ≡ true → MayDo place work asks → MayRun place work
 run_may place work deed.Run e may = may
 run_may place work deed.Nothing e may = absurd cc
 run_may place work deed.Tell e may = absurd cc

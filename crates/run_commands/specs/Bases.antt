@@ -12,7 +12,7 @@ use Rattle.dep_rules.specs.declared.configs.Config.{Config}
 use Rattle.proc_lang.specs.Catalogs.{Plan}
 use Rattle.script_course.specs.declared.stops.Stop.{Stop}
 use Rattle.script_places.specs.Places.{plan_in}
-use Rattle.script_places.specs.declared.heads.Head.{Head}
+use Rattle.script_places.specs.declared.heads.ScriptCatalog.{ScriptCatalog}
 use Rattle.script_places.specs.declared.places.Counts.{Counts}
 use Rattle.serving.specs.Lives.{IsRunnable, blank, plan_of, state_of}
 use Rattle.serving.specs.declared.lives.Live.{Live}
@@ -80,7 +80,7 @@ IsBlank (base.Rows tables config) = tables ≡ fin.empty
 IsBlank (base.Runs live) = ⊥
 
 -- it runs by the catalogue of the head
-abbrev pub IsNamed : Head → Base → Type 0
+abbrev pub IsNamed : ScriptCatalog → Base → Type 0
 IsNamed h (base.Rows tables config) = Unit {0}
 IsNamed h (base.Runs live) = plan_of live ≡ plan_in h
 
@@ -90,7 +90,7 @@ IsListed each (base.Rows tables config) = Unit {0}
 IsListed each (base.Runs live) = live.each ≡ each
 
 -- the same database, ready for batches
-pub record IsBegun (h : Head) (b : Base) (each : Bool) (live : Live) : Type 0 where
+pub record IsBegun (h : ScriptCatalog) (b : Base) (each : Bool) (live : Live) : Type 0 where
   pub plan : plan_of live ≡ plan_in h
   pub state : state_of live ≡ state_in b
   pub listed : live.each ≡ each

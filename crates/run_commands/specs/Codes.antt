@@ -7,12 +7,12 @@ use Rattle.aria_store.specs.Stands.{Kept}
 use Rattle.aria_store.specs.contracts.stores.Store as store
 use Rattle.batch_core.specs.Codes.{state_code}
 use Rattle.batch_core.specs.Steps.{State}
-use Rattle.script_places.specs.contracts.places.Place as place
-use Rattle.script_places.specs.declared.places.Place.{Place}
+use Rattle.script_places.specs.contracts.places.ScriptPlace as place
+use Rattle.script_places.specs.declared.places.ScriptPlace.{ScriptPlace}
 use Rattle.run_commands.specs.Onces.{Doing, Running}
 
 abbrev pub doing_code : Coded Doing
-doing_code = code_by ((Place × List Call) × (State × Bool))
+doing_code = code_by ((ScriptPlace × List Call) × (State × Bool))
     (coded× (coded× (place.the_row).coded (coded_list (call.the_row).coded)) (coded× state_code coded_bool))
     (λ d. ((d.place, d.calls), (d.state, d.each)))
     (λ p. record { place = p.0.0; calls = p.0.1; state = p.1.0; each = p.1.1 })

@@ -16,7 +16,7 @@ use Rattle.script_course.specs.declared.stops.Stop.TheVariants as stop
 use Rattle.script_places.specs.Places.{Asked, asked, closing, plan_in}
 use Rattle.script_places.specs.declared.deeds.Deed.{Deed}
 use Rattle.script_places.specs.declared.deeds.Deed.TheVariants as deed
-use Rattle.script_places.specs.declared.places.Place.{Place}
+use Rattle.script_places.specs.declared.places.ScriptPlace.{ScriptPlace}
 use Rattle.script_text.specs.Lines.{line_after}
 use Rattle.script_text.specs.declared.refusals.RefusalKind.{RefusalKind}
 use Rattle.serving.specs.Drains.{drains}
@@ -26,7 +26,7 @@ use Rattle.run_commands.specs.Bases.{counts_of}
 -- a script between two lines: its place, the calls of the open batch, the state that its batches left, and whether each answer has a
 -- listing behind it
 pub record Doing : Type 0 where
-  pub place : Place
+  pub place : ScriptPlace
   pub calls : List Call
   pub state : State
   pub each : Bool
@@ -93,7 +93,7 @@ listed plan each state = record { bytes = (if each then [] else listing plan sta
 abbrev pub drained : Bool → Plan → Bool → ℕ → State → Out
 drained drain plan each line state = ended (listed plan each) (if drain then drains plan each line state else Goes [] state)
 
-abbrev pub closed_by : Bool → Doing → Result Place RefusalKind → Out
+abbrev pub closed_by : Bool → Doing → Result ScriptPlace RefusalKind → Out
 closed_by drain d (Ok place) = drained drain (plan_in place.head) d.each (line_after d.place.lines) d.state
 closed_by drain d (Err kind) = record { bytes = refused_after d.place.lines kind; status = status_of stop.Refused }
 

@@ -9,7 +9,7 @@ use Rattle.script_text.specs.Lines.{Scan, last_line}
 use Rattle.script_text.specs.declared.refusals.RefusalKind.{RefusalKind}
 use Rattle.script_text.specs.declared.refusals.Refusal.{Refusal}
 use Rattle.script_places.specs.Places.{closing, plan_in}
-use Rattle.script_places.specs.declared.places.Place.{Place}
+use Rattle.script_places.specs.declared.places.ScriptPlace.{ScriptPlace}
 use Rattle.serving.specs.Lives.{listing}
 use Rattle.serving.specs.Drains.{one_drained}
 use Rattle.run_commands.specs.Onces.{Doing, on_line}
@@ -80,7 +80,7 @@ pub data Turn : Type 0 where
   Listed : Turn
 
 -- the end of the input at a place
-abbrev pub on_close : Doing → Result Place RefusalKind → Course Doing
+abbrev pub on_close : Doing → Result ScriptPlace RefusalKind → Course Doing
 on_close d (Ok place) = Goes [] (record d { place = place })
 on_close d (Err kind) = Stops (refused_after d.place.lines kind)
 

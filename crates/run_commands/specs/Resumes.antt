@@ -2,7 +2,7 @@
 use Rattle.std.specs.Prelude.{◌≡◌, ◌≢◌, ◌⊎◌, ℕ, Bool, List, [], ◌∷◌, Option, Some, option_map, Result, Err}
 use Rattle.std.specs.Io.KnownBytes.{Appends}
 use Rattle.answer_text.specs.Notices.{at_text, damaged_text, refused_text}
-use Rattle.answer_text.specs.declared.notices.Refused.TheVariants as refused
+use Rattle.answer_text.specs.declared.notices.NotDone.TheVariants as refused
 use Rattle.aria_store.specs.Reopens.{Reopened, Reopens, NoStore, Damaged, Found}
 use Rattle.batch_core.specs.Steps.{State}
 use Rattle.command_words.specs.declared.settings.Run.{Run}

@@ -12,7 +12,7 @@ use aria_base::{Key, Memory, Row};
 use batch_rules::verdicts::Rule;
 use dep_rules::Config;
 use proc_lang::Catalog;
-use script_places::{Counts, Head, catalog_copy, no_catalog};
+use script_places::{Counts, ScriptCatalog, catalog_copy, no_catalog};
 use serving::Live;
 use std::alloc::Global;
 use store_openings::{settings_with, with_settings};
@@ -74,7 +74,7 @@ impl Base {
     pub fn begun(
         self,
         alloc: Global,
-        head: &Head,
+        head: &ScriptCatalog,
         replicas: u32,
         each: bool,
     ) -> Result<Live, Memory>
@@ -95,7 +95,7 @@ impl Base {
     }
 
     /// The listing of its rows, under the catalogue of the head.
-    pub fn list(&self, alloc: Global, head: &Head) -> Result<Vec<u8>, Memory>
+    pub fn list(&self, alloc: Global, head: &ScriptCatalog) -> Result<Vec<u8>, Memory>
         requires { IsNamed head.now self.now }
         ensures { IfOk result (λ text. text.items ≡ listing (plan_in head.now) (state_in self.now)) }
     {
@@ -107,12 +107,12 @@ impl Base {
 }
 
 /// The listing of rows before the first batch.
-fn list_rows(alloc: Global, tables: &Tables, head: &Head) -> Result<Vec<u8>, Memory>
+fn list_rows(alloc: Global, tables: &Tables, head: &ScriptCatalog) -> Result<Vec<u8>, Memory>
     ensures { IfOk result (λ text. text.items ≡ state_text (plan_in head.now).tables tables.now 0) }
 {
     match head {
-        Head::Ready(catalog) => print_state(alloc, catalog, tables, 0),
-        Head::Unnamed | Head::Text(_) => {
+        ScriptCatalog::Ready(catalog) => print_state(alloc, catalog, tables, 0),
+        ScriptCatalog::Unnamed | ScriptCatalog::Text(_) => {
             let catalog = no_catalog(alloc);
             print_state(alloc, &catalog, tables, 0)
         }

@@ -25,7 +25,7 @@ use crate::works::Work;
 use aria_base::{Memory, Pace, Sink};
 use disk_model::Disk;
 use script_course::{DONE, Stop, end_with, refuse};
-use script_places::{Head, closes};
+use script_places::{ScriptCatalog, closes};
 use script_text::LinesRefused;
 use std::alloc::Global;
 use std::thread::Threads;
@@ -79,7 +79,7 @@ pub(crate) fn end_of<K: Sink, D: Disk, P: Pace + Sync, R: Threads + Sync>(
 fn close<K: Sink, D: Disk, P: Pace + Sync, R: Threads + Sync>(
     rt: &R,
     alloc: Global,
-    head: &Head,
+    head: &ScriptCatalog,
     work: Work,
     drains: bool,
     line: u64,
@@ -125,7 +125,7 @@ fn close<K: Sink, D: Disk, P: Pace + Sync, R: Threads + Sync>(
 fn drained<K: Sink, D: Disk, P: Pace + Sync, R: Threads + Sync>(
     rt: &R,
     alloc: Global,
-    head: &Head,
+    head: &ScriptCatalog,
     base: Base,
     each: bool,
     line: u64,
@@ -173,7 +173,7 @@ fn drained<K: Sink, D: Disk, P: Pace + Sync, R: Threads + Sync>(
 /// Gives the last listing, where not each answer had one.
 fn list<K: Sink>(
     alloc: Global,
-    head: &Head,
+    head: &ScriptCatalog,
     base: &Base,
     each: bool,
     out: &mut K,

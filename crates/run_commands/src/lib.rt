@@ -6,7 +6,7 @@
 //!
 //! ```text
 //! Disk ──> open (store_openings) ──> Live ──> Script
-//! Source ──> loops ──line──> Place (script_places) ──> Deed ──> Script ──> serve_batch (serving) ──> Sink, Disk
+//! Source ──> loops ──line──> ScriptPlace (script_places) ──> Deed ──> Script ──> serve_batch (serving) ──> Sink, Disk
 //! ```
 //!
 //! In `specs/`: `Onces` says what each line prints and which state follows, and what the end prints; `Outs` the

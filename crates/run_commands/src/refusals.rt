@@ -7,7 +7,7 @@ ghost use Rattle.script_course.specs.declared.stops.Stop.TheVariants as stop;
 ghost use Rattle.store_openings.specs.declared.refusals.NotOpened.TheVariants as not_opened;
 ghost use Rattle.run_commands.specs.Resumes.{RefusesStore, damaged_out};
 
-use answer_text::{Refused, append_damaged, refused_line};
+use answer_text::{NotDone, append_damaged, refused_line};
 use aria_base::{Memory, Sink};
 use script_course::{STORE_REFUSED, Stop, end_with};
 use std::alloc::Global;
@@ -23,7 +23,7 @@ pub fn refuse_store<K: Sink>(alloc: Global, why: NotOpened, out: &mut K) -> Resu
     ensures cause { IfErr result (λ stop. IsCause stop (Rose (K.faults out.old) (K.faults out.new)) (why ≡ not_opened.NoDisk)) }
 {
     match why {
-        NotOpened::NoStore => end_with(STORE_REFUSED, refused_line(Refused::NoStore), out),
+        NotOpened::NoStore => end_with(STORE_REFUSED, refused_line(NotDone::NoStore), out),
         NotOpened::Damaged { file, at } => tell_damage(alloc, file, at, out),
         NotOpened::NoDisk => Err(Stop::NoDisk),
         NotOpened::NoMemory => Err(Stop::NoMemory),

@@ -32,7 +32,7 @@ use script_course::{DONE, STORE_REFUSED, Stop, give};
 use serving::Live;
 use std::alloc::Global;
 use std::thread::Threads;
-use store_openings::{Engines, open};
+use store_openings::{RunSettings, open};
 
 /// Opens the store of the disk and runs the script that the source gives over it, each batch in the log
 /// before a byte of its answer is given. What stands in the store already is not run again. First of all it
@@ -83,7 +83,7 @@ pub fn run<S: Source, K: Sink, D: Disk, P: Pace + Sync, R: Threads + Sync>(
     ensures cause { IfErr result (λ stop. IsReadCause stop (Rose (S.faults input.old) (S.faults input.new)) (Rose (K.faults out.old) (K.faults out.new))
         (Rose (D.history disk.old).faults (D.history disk.new).faults)) }
 {
-    let engines = Engines {
+    let engines = RunSettings {
         replicas: settings.replicas,
         workers: settings.workers,
         batons: settings.batons,

@@ -33,7 +33,7 @@ use batch_rules::verdicts::Rule;
 use dep_rules::Config;
 use disk_model::Disk;
 use script_course::{Stop, give, refuse};
-use script_places::{Deed, Mode, Place, follows};
+use script_places::{Deed, Mode, ScriptPlace, follows};
 use script_text::LinesRefused;
 use serving::{Delivery, Live, serve_batch};
 use std::alloc::Global;
@@ -44,7 +44,7 @@ use tbl_rows::Tables;
 /// A script between two of its lines.
 #[derive(Drop)]
 pub(crate) struct Script {
-    pub place: Place,
+    pub place: ScriptPlace,
     pub work: Work,
 }
 
@@ -77,7 +77,7 @@ impl Script {
             replicas,
             each,
         };
-        let place = Place::start(Mode::Once);
+        let place = ScriptPlace::start(Mode::Once);
         Ok(Script { place, work })
     }
 
@@ -97,7 +97,7 @@ impl Script {
         ensures checkpoint { IfOk result (λ script. script.checkpoint ≡ live.checkpoint) }
     {
         let catalog = catalog_of(alloc, &live)?;
-        let place = Place::start_with(Mode::Run, catalog);
+        let place = ScriptPlace::start_with(Mode::Run, catalog);
         let each = live.each;
         let work = Work {
             calls: Vec::new(alloc),
@@ -155,7 +155,7 @@ impl Work {
         self,
         rt: &R,
         alloc: Global,
-        place: Place,
+        place: ScriptPlace,
         deed: Deed,
         out: &mut K,
         disk: &mut D,
@@ -205,7 +205,7 @@ impl Work {
     fn quietly<K: Sink>(
         self,
         alloc: Global,
-        place: Place,
+        place: ScriptPlace,
         deed: Deed,
         out: &mut K,
     ) -> Result<Script, Stop>
@@ -234,7 +234,7 @@ impl Work {
     }
 
     /// The row stands at the key.
-    fn put(self, place: Place, key: Key, row: Row) -> Result<Script, Memory>
+    fn put(self, place: ScriptPlace, key: Key, row: Row) -> Result<Script, Memory>
         requires { MayPut place self key row }
         ensures doing { IfOk result (λ script. script.doing ≡ with_row (doing_of place self) key row) }
         ensures store { IfOk result (λ script. script.store ≡ store_in self.base) }
@@ -256,7 +256,7 @@ impl Work {
     }
 
     /// One call more.
-    fn call(self, place: Place, call: Call) -> Result<Script, Memory>
+    fn call(self, place: ScriptPlace, call: Call) -> Result<Script, Memory>
         requires { MayCall place self call }
         ensures doing { IfOk result (λ script. script.doing ≡ with_call (doing_of place self) call) }
         ensures store { IfOk result (λ script. script.store ≡ store_in self.base) }
@@ -268,7 +268,7 @@ impl Work {
     }
 
     /// The settings of the next batch.
-    fn set(self, place: Place, rule: Rule, percent: u32) -> Script
+    fn set(self, place: ScriptPlace, rule: Rule, percent: u32) -> Script
         requires { MaySet place self percent }
         ensures doing { result.doing ≡ with_settings (doing_of place self) rule percent }
         ensures store { result.store ≡ store_in self.base }
@@ -293,7 +293,7 @@ impl Work {
     fn keep<K: Sink>(
         self,
         alloc: Global,
-        place: Place,
+        place: ScriptPlace,
         number: u64,
         out: &mut K,
     ) -> Result<Script, Stop>
@@ -311,7 +311,7 @@ impl Work {
     }
 
     /// Without the open calls.
-    fn without_calls(self, alloc: Global, place: Place) -> Script
+    fn without_calls(self, alloc: Global, place: ScriptPlace) -> Script
         requires { MayClose place self }
         ensures doing { result.doing ≡ without_calls (doing_of place self) }
         ensures store { result.store ≡ store_in self.base }
@@ -337,7 +337,7 @@ impl Work {
         self,
         rt: &R,
         alloc: Global,
-        place: Place,
+        place: ScriptPlace,
         out: &mut K,
         disk: &mut D,
         pace: &P,

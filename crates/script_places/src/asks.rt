@@ -6,9 +6,9 @@ ghost use Rattle.script_text.specs.Lines.{line_after};
 ghost use Rattle.script_places.specs.Places.{asked, at_item, at_catalog, at_piece, at_row, at_call, at_settings, at_report, at_end, in_text, item_in_text, within_text, goes_on, behind_text, refused_in_text, is_byte, read_text, closing, closed, shut, rule_of};
 
 use crate::deeds::Deed;
-use crate::heads::Head;
+use crate::heads::ScriptCatalog;
 use crate::limits::MOST_CATALOG;
-use crate::places::{Counts, Mode, Place};
+use crate::places::{Counts, Mode, ScriptPlace};
 use aria_base::{Args, Bytes, GREATEST_NUMBER, MOST_REQUESTS, Parts, Row, Txt};
 use batch_rules::verdicts::Rule;
 use cat_builtin::builtin;
@@ -19,7 +19,7 @@ use script_text::{
 };
 use std::alloc::Global;
 
-impl Place {
+impl ScriptPlace {
     /// What the next line asks for, and the place behind it. The line is without its line feed. A refusal
     /// has the line's number, and the first kind in the order of refusals that holds of it.
     pub fn ask(
@@ -27,7 +27,7 @@ impl Place {
         alloc: Global,
         counts: Counts,
         line: &[u8],
-    ) -> Result<(Place, Deed), LinesRefused>
+    ) -> Result<(ScriptPlace, Deed), LinesRefused>
         ensures { Answers (asked self counts line.now) (line_after self.lines) result }
     {
         let place = self.next_line();
@@ -36,28 +36,28 @@ impl Place {
         }
         let (place, head) = place.without_head();
         match head {
-            Head::Text(text) => place.in_text(alloc, counts, text, line),
+            ScriptCatalog::Text(text) => place.in_text(alloc, counts, text, line),
             head => {
                 let item = read_line(alloc, line, place.lines)?;
-                Place { head, ..place }.at_item(alloc, counts, item)
+                ScriptPlace { head, ..place }.at_item(alloc, counts, item)
             }
         }
     }
 
     /// The end of the input, which counts as one line more: the text of a catalogue is read, and no call may
     /// be open.
-    pub fn close(self, alloc: Global) -> Result<Place, LinesRefused>
+    pub fn close(self, alloc: Global) -> Result<ScriptPlace, LinesRefused>
         ensures { Answers (closing self) (line_after self.lines) result }
     {
         let (place, head) = self.next_line().without_head();
         match head {
-            Head::Text(text) => place.read_text(alloc, text)?.shut(),
-            head => Place { head, ..place }.shut(),
+            ScriptCatalog::Text(text) => place.read_text(alloc, text)?.shut(),
+            head => ScriptPlace { head, ..place }.shut(),
         }
     }
 }
 
-impl Place {
+impl ScriptPlace {
     /// A line while the text of a catalogue comes: the first one that is neither skipped nor a piece has the
     /// text read, before its own form is looked at.
     fn in_text(
@@ -66,7 +66,7 @@ impl Place {
         counts: Counts,
         text: Bytes,
         line: &[u8],
-    ) -> Result<(Place, Deed), LinesRefused>
+    ) -> Result<(ScriptPlace, Deed), LinesRefused>
         ensures { Answers (in_text self counts text (said line.now)) self.lines result }
     {
         match read_line(alloc, line, self.lines) {
@@ -83,7 +83,7 @@ impl Place {
         counts: Counts,
         text: Bytes,
         item: Item,
-    ) -> Result<(Place, Deed), LinesRefused>
+    ) -> Result<(ScriptPlace, Deed), LinesRefused>
         ensures { Answers (item_in_text self counts text item) self.lines result }
     {
         if goes_on(&item) {
@@ -93,14 +93,14 @@ impl Place {
     }
 
     /// A line that does not end the text: a piece of it, or a skipped line.
-    fn within_text(self, text: Bytes, item: Item) -> Result<(Place, Deed), LinesRefused>
+    fn within_text(self, text: Bytes, item: Item) -> Result<(ScriptPlace, Deed), LinesRefused>
         ensures { Answers (within_text self text item) self.lines result }
     {
         if let Item::Piece(piece) = item {
             return self.at_piece(text, &piece);
         }
-        let head = Head::Text(text);
-        Ok((Place { head, ..self }, Deed::Nothing))
+        let head = ScriptCatalog::Text(text);
+        Ok((ScriptPlace { head, ..self }, Deed::Nothing))
     }
 
     /// A line that ends the text of a catalogue: the text is read first.
@@ -110,7 +110,7 @@ impl Place {
         counts: Counts,
         text: Bytes,
         item: Item,
-    ) -> Result<(Place, Deed), LinesRefused>
+    ) -> Result<(ScriptPlace, Deed), LinesRefused>
         ensures { Answers (behind_text self counts text item) self.lines result }
     {
         self.read_text(alloc, text)?.at_item(alloc, counts, item)
@@ -122,7 +122,7 @@ impl Place {
         alloc: Global,
         text: Bytes,
         refusal: Refusal,
-    ) -> Result<(Place, Deed), LinesRefused>
+    ) -> Result<(ScriptPlace, Deed), LinesRefused>
         requires { refusal.line ≡ self.lines }
         ensures { Answers (refused_in_text self text refusal.kind) self.lines result }
     {
@@ -134,7 +134,7 @@ impl Place {
     }
 
     /// The next piece of a catalogue's text.
-    fn at_piece(self, text: Bytes, piece: &Bytes) -> Result<(Place, Deed), LinesRefused>
+    fn at_piece(self, text: Bytes, piece: &Bytes) -> Result<(ScriptPlace, Deed), LinesRefused>
         ensures { Answers (at_piece self text piece.now) self.lines result }
     {
         let mut text = text.into_vec();
@@ -143,17 +143,17 @@ impl Place {
             return Err(self.refused(RefusalKind::Catalog(CatFault::Long)));
         }
         text.extend_from_slice(piece)?;
-        let head = Head::Text(Bytes::from_vec(text));
-        Ok((Place { head, ..self }, Deed::Nothing))
+        let head = ScriptCatalog::Text(Bytes::from_vec(text));
+        Ok((ScriptPlace { head, ..self }, Deed::Nothing))
     }
 
     /// The place with the catalogue that the text says.
-    fn read_text(self, alloc: Global, text: Bytes) -> Result<Place, LinesRefused>
+    fn read_text(self, alloc: Global, text: Bytes) -> Result<ScriptPlace, LinesRefused>
         ensures { Answers (read_text self text) self.lines result }
     {
         let catalog = catalog_of(alloc, text.as_slice(), self.lines)?;
-        let head = Head::Ready(catalog);
-        Ok(Place { head, ..self })
+        let head = ScriptCatalog::Ready(catalog);
+        Ok(ScriptPlace { head, ..self })
     }
 
     /// A line of a form, where no text of a catalogue comes.
@@ -162,7 +162,7 @@ impl Place {
         alloc: Global,
         counts: Counts,
         item: Item,
-    ) -> Result<(Place, Deed), LinesRefused>
+    ) -> Result<(ScriptPlace, Deed), LinesRefused>
         ensures { Answers (at_item self counts item) self.lines result }
     {
         match item {
@@ -178,7 +178,7 @@ impl Place {
     }
 
     /// A line that names the catalogue.
-    fn at_catalog(self, alloc: Global, name: &Txt) -> Result<(Place, Deed), LinesRefused>
+    fn at_catalog(self, alloc: Global, name: &Txt) -> Result<(ScriptPlace, Deed), LinesRefused>
         ensures { Answers (at_catalog self name.now) self.lines result }
     {
         let name = name.as_slice();
@@ -189,21 +189,26 @@ impl Place {
             return Err(self.refused(RefusalKind::Name));
         }
         if name == b"text".as_slice() {
-            let head = Head::Text(Bytes::from_vec(Vec::new(alloc)));
-            return Ok((Place { head, ..self }, Deed::Nothing));
+            let head = ScriptCatalog::Text(Bytes::from_vec(Vec::new(alloc)));
+            return Ok((ScriptPlace { head, ..self }, Deed::Nothing));
         }
         let Some(catalog) = builtin(alloc, name)? else {
             return Err(self.refused(RefusalKind::Name));
         };
-        let head = Head::Ready(catalog);
-        Ok((Place { head, ..self }, Deed::Nothing))
+        let head = ScriptCatalog::Ready(catalog);
+        Ok((ScriptPlace { head, ..self }, Deed::Nothing))
     }
 
     /// A row.
-    fn at_row(self, table: &Txt, parts: Parts, row: Row) -> Result<(Place, Deed), LinesRefused>
+    fn at_row(
+        self,
+        table: &Txt,
+        parts: Parts,
+        row: Row,
+    ) -> Result<(ScriptPlace, Deed), LinesRefused>
         ensures { Answers (at_row self table.now parts row) self.lines result }
     {
-        let Head::Ready(catalog) = &self.head else {
+        let ScriptCatalog::Ready(catalog) = &self.head else {
             return Err(self.refused(RefusalKind::Site));
         };
         if self.rows_ended {
@@ -214,10 +219,10 @@ impl Place {
     }
 
     /// A call of the open batch.
-    fn at_call(self, proc: &Txt, args: Args) -> Result<(Place, Deed), LinesRefused>
+    fn at_call(self, proc: &Txt, args: Args) -> Result<(ScriptPlace, Deed), LinesRefused>
         ensures { Answers (at_call self proc.now args) self.lines result }
     {
-        let Head::Ready(catalog) = &self.head else {
+        let ScriptCatalog::Ready(catalog) = &self.head else {
             return Err(self.refused(RefusalKind::Site));
         };
         if !self.mode.has_batches() {
@@ -227,7 +232,7 @@ impl Place {
         if self.open_calls >= MOST_REQUESTS {
             return Err(self.refused(RefusalKind::Batch));
         }
-        let place = Place {
+        let place = ScriptPlace {
             rows_ended: true,
             open_calls: self.open_calls + 1,
             ..self
@@ -236,7 +241,7 @@ impl Place {
     }
 
     /// The end of a batch.
-    fn at_end(self, counts: Counts, number: u64) -> Result<(Place, Deed), LinesRefused>
+    fn at_end(self, counts: Counts, number: u64) -> Result<(ScriptPlace, Deed), LinesRefused>
         ensures { Answers (at_end self counts number) self.lines result }
     {
         if !self.head.is_ready() || !self.mode.has_batches() {
@@ -264,13 +269,13 @@ impl Place {
     }
 
     /// The line behind which a report begins.
-    fn at_report(self) -> Result<(Place, Deed), LinesRefused>
+    fn at_report(self) -> Result<(ScriptPlace, Deed), LinesRefused>
         ensures { Answers (at_report self) self.lines result }
     {
         if self.mode != Mode::Check || self.open_calls != 0 {
             return Err(self.refused(RefusalKind::Site));
         }
-        let place = Place {
+        let place = ScriptPlace {
             reports: true,
             ..self
         };
@@ -278,7 +283,7 @@ impl Place {
     }
 
     /// Settings.
-    fn at_settings(self, name: Txt, percent: i64) -> Result<(Place, Deed), LinesRefused>
+    fn at_settings(self, name: Txt, percent: i64) -> Result<(ScriptPlace, Deed), LinesRefused>
         ensures { Answers (at_settings self name percent) self.lines result }
     {
         if !self.head.is_ready() || !self.mode.has_batches() || self.open_calls != 0 {
@@ -287,7 +292,7 @@ impl Place {
         let item = Item::Settings { name, percent };
         let (number, percent) = fit_settings(&item, self.lines)?;
         let rule = rule_of(number);
-        let place = Place {
+        let place = ScriptPlace {
             rows_ended: true,
             ..self
         };
@@ -295,7 +300,7 @@ impl Place {
     }
 
     /// The end of the input, where no call may be open.
-    fn shut(self) -> Result<Place, LinesRefused>
+    fn shut(self) -> Result<ScriptPlace, LinesRefused>
         ensures { Answers (shut self) self.lines result }
     {
         if self.open_calls != 0 {
@@ -305,10 +310,10 @@ impl Place {
     }
 
     /// The place behind the end of a batch.
-    fn without_calls(self) -> Place
+    fn without_calls(self) -> ScriptPlace
         ensures { result ≡ closed self }
     {
-        Place {
+        ScriptPlace {
             rows_ended: true,
             open_calls: 0,
             ..self

@@ -8,7 +8,7 @@ use std::alloc::Global;
 
 /// The catalogue of a script, as far as it is known.
 #[derive(Drop)]
-pub enum Head {
+pub enum ScriptCatalog {
     /// No line named one.
     Unnamed,
     /// Its text comes in pieces, and these bytes of it have come.
@@ -17,39 +17,39 @@ pub enum Head {
     Ready(Catalog),
 }
 
-impl Head {
+impl ScriptCatalog {
     /// Whether no line named a catalogue.
     pub(crate) fn is_unnamed(&self) -> bool
         ensures { result ≡ is_unnamed self.now }
     {
-        matches!(self, Head::Unnamed)
+        matches!(self, ScriptCatalog::Unnamed)
     }
 
     /// Whether the catalogue is there.
     pub(crate) fn is_ready(&self) -> bool
         ensures { result ≡ is_ready self.now }
     {
-        matches!(self, Head::Ready(_))
+        matches!(self, ScriptCatalog::Ready(_))
     }
 }
 
 /// The catalogue of a head; where there is none, the one without tables and procedures. No memory.
-pub fn catalog_in(alloc: Global, head: Head) -> Catalog
+pub fn catalog_in(alloc: Global, head: ScriptCatalog) -> Catalog
     ensures { result ≡ plan_in head }
 {
     match head {
-        Head::Ready(catalog) => catalog,
-        Head::Unnamed | Head::Text(_) => no_catalog(alloc),
+        ScriptCatalog::Ready(catalog) => catalog,
+        ScriptCatalog::Unnamed | ScriptCatalog::Text(_) => no_catalog(alloc),
     }
 }
 
 /// A copy of the catalogue of a head; where there is none, the one without tables and procedures.
-pub fn catalog_copy(alloc: Global, head: &Head) -> Result<Catalog, Memory>
+pub fn catalog_copy(alloc: Global, head: &ScriptCatalog) -> Result<Catalog, Memory>
     ensures { IfOk result (λ catalog. catalog ≡ plan_in head.now) }
 {
     match head {
-        Head::Ready(catalog) => catalog.copy(alloc),
-        Head::Unnamed | Head::Text(_) => Ok(no_catalog(alloc)),
+        ScriptCatalog::Ready(catalog) => catalog.copy(alloc),
+        ScriptCatalog::Unnamed | ScriptCatalog::Text(_) => Ok(no_catalog(alloc)),
     }
 }
 

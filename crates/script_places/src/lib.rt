@@ -1,8 +1,8 @@
 //! What a line of a script asks for at its place.
 //!
-//! A [`Place`] knows where the reading of a script stands: of which command it is, which catalogue it has,
-//! whether rows may still come, how many calls are open. [`Place::ask`] takes the next line and answers
-//! what it asks for, or the one refusal that the order of refusals names. [`Place::close`] is asked at the
+//! A [`ScriptPlace`] knows where the reading of a script stands: of which command it is, which catalogue it has,
+//! whether rows may still come, how many calls are open. [`ScriptPlace::ask`] takes the next line and answers
+//! what it asks for, or the one refusal that the order of refusals names. [`ScriptPlace::close`] is asked at the
 //! end of the input.
 //!
 //! ```text
@@ -23,7 +23,7 @@ mod limits;
 mod places;
 
 pub use deeds::Deed;
-pub use heads::{Head, catalog_copy, catalog_in, no_catalog};
+pub use heads::{ScriptCatalog, catalog_copy, catalog_in, no_catalog};
 pub use laws::{closes, follows};
 pub use limits::MOST_CATALOG;
-pub use places::{Counts, Mode, Place};
+pub use places::{Counts, Mode, ScriptPlace};

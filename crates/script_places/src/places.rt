@@ -2,7 +2,7 @@
 ghost use Rattle.std.specs.Prelude.{◌≡◌};
 ghost use Rattle.script_places.specs.Places.{start, start_with, next_line, without_head, has_batches, has_catalog};
 
-use crate::heads::Head;
+use crate::heads::ScriptCatalog;
 use proc_lang::Catalog;
 use std::mem;
 
@@ -23,13 +23,13 @@ pub enum Mode {
 
 /// Where the reading of a script stands.
 #[derive(Drop)]
-pub struct Place {
+pub struct ScriptPlace {
     /// The command.
     pub mode: Mode,
     /// How many lines were read.
     pub lines: u64,
     /// The catalogue, as far as it is known.
-    pub head: Head,
+    pub head: ScriptCatalog,
     /// Whether a line came behind which no row may stand.
     pub rows_ended: bool,
     /// How many calls came behind the last end.
@@ -71,15 +71,15 @@ impl Mode {
     }
 }
 
-impl Place {
+impl ScriptPlace {
     /// Before the first line, without a catalogue.
-    pub fn start(mode: Mode) -> Place
+    pub fn start(mode: Mode) -> ScriptPlace
         ensures { result ≡ start mode }
     {
-        Place {
+        ScriptPlace {
             mode,
             lines: 0,
-            head: Head::Unnamed,
+            head: ScriptCatalog::Unnamed,
             rows_ended: false,
             open_calls: 0,
             reports: false,
@@ -87,13 +87,13 @@ impl Place {
     }
 
     /// Before the first line of a script of batches alone, which is read with this catalogue.
-    pub fn start_with(mode: Mode, catalog: Catalog) -> Place
+    pub fn start_with(mode: Mode, catalog: Catalog) -> ScriptPlace
         ensures { result ≡ start_with mode catalog }
     {
-        Place {
+        ScriptPlace {
             mode,
             lines: 0,
-            head: Head::Ready(catalog),
+            head: ScriptCatalog::Ready(catalog),
             rows_ended: true,
             open_calls: 0,
             reports: false,
@@ -101,19 +101,19 @@ impl Place {
     }
 
     /// The catalogue taken out of the place.
-    pub(crate) fn without_head(self) -> (Place, Head)
+    pub(crate) fn without_head(self) -> (ScriptPlace, ScriptCatalog)
         ensures { result ≡ (without_head self, self.head) }
     {
         let mut place = self;
-        let head = mem::replace(&mut place.head, Head::Unnamed);
+        let head = mem::replace(&mut place.head, ScriptCatalog::Unnamed);
         (place, head)
     }
 
     /// One line more. The number of a line stands still at its greatest value.
-    pub(crate) fn next_line(self) -> Place
+    pub(crate) fn next_line(self) -> ScriptPlace
         ensures { result ≡ next_line self }
     {
-        Place {
+        ScriptPlace {
             lines: self.lines.saturating_add(1),
             ..self
         }

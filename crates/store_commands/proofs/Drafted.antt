@@ -10,10 +10,10 @@ use Rattle.script_places.specs.Follows.{Follows, HeadStays, IsReadyWith}
 use Rattle.script_places.specs.Places.{plan_in}
 use Rattle.script_places.specs.declared.deeds.Deed.{Deed}
 use Rattle.script_places.specs.declared.deeds.Deed.TheVariants as deed
-use Rattle.script_places.specs.declared.heads.Head.{Head}
-use Rattle.script_places.specs.declared.heads.Head.TheVariants as head
+use Rattle.script_places.specs.declared.heads.ScriptCatalog.{ScriptCatalog}
+use Rattle.script_places.specs.declared.heads.ScriptCatalog.TheVariants as head
 use Rattle.script_places.specs.declared.places.Counts.{Counts}
-use Rattle.script_places.specs.declared.places.Place.{Place}
+use Rattle.script_places.specs.declared.places.ScriptPlace.{ScriptPlace}
 use Rattle.serving.specs.Lives.{no_plan}
 use Rattle.run_commands.proofs.Standing.{consistent_with}
 use Rattle.store_commands.specs.Drafts.{AreUnder, IsFitting, MayDo, done}
@@ -25,34 +25,34 @@ empty_under : (plan : Plan) (rows : Database) → rows ≡ fin.empty → IsConsi
 empty_under plan rows e = subst (λ (db : Database). IsConsistent plan.tables db) (sym e)
     (λ key row found. absurd (let none = get-empty {X = Cells} key_cmp key in cc))
 
-of_empty : (h : Head) (rows : Database) → rows ≡ fin.empty → AreUnder h rows
+of_empty : (h : ScriptCatalog) (rows : Database) → rows ≡ fin.empty → AreUnder h rows
 of_empty head.Unnamed rows e = e
 of_empty (head.Text text) rows e = e
 of_empty (head.Ready plan) rows e = empty_under plan rows e
 
-head_on : (h next : Head) (rows : Database) → HeadStays h next → AreUnder h rows → AreUnder next rows
+head_on : (h next : ScriptCatalog) (rows : Database) → HeadStays h next → AreUnder h rows → AreUnder next rows
 head_on head.Unnamed next rows on under = of_empty next rows under
 head_on (head.Text text) next rows on under = of_empty next rows under
-head_on (head.Ready plan) next rows on under = subst (λ (k : Head). AreUnder k rows) (sym on) under
+head_on (head.Ready plan) next rows on under = subst (λ (k : ScriptCatalog). AreUnder k rows) (sym on) under
 
-plan_under : (h : Head) (rows : Database) → AreUnder h rows → IsConsistent (plan_in h).tables rows
+plan_under : (h : ScriptCatalog) (rows : Database) → AreUnder h rows → IsConsistent (plan_in h).tables rows
 plan_under head.Unnamed rows e = empty_under no_plan rows e
 plan_under (head.Text text) rows e = empty_under no_plan rows e
 plan_under (head.Ready plan) rows under = under
 
 -- the rows fit the catalogue at the end
-pub closed_under : (before after : Head) (rows : Database) → AreUnder before rows → HeadStays before after → IsConsistent (plan_in after).tables rows
+pub closed_under : (before after : ScriptCatalog) (rows : Database) → AreUnder before rows → HeadStays before after → IsConsistent (plan_in after).tables rows
 closed_under before after rows under stays = plan_under after rows (head_on before after rows stays under)
 
 -- ---- a line
 
-put_under : (h : Head) (rows : Database) (key : Key) (row : Cells) → AreUnder h rows → IsReadyWith h (λ plan. Fits plan.tables key row)
+put_under : (h : ScriptCatalog) (rows : Database) (key : Key) (row : Cells) → AreUnder h rows → IsReadyWith h (λ plan. Fits plan.tables key row)
     → AreUnder h (fin.insert rows key row)
 put_under head.Unnamed rows key row under fits = absurd fits
 put_under (head.Text text) rows key row under fits = absurd fits
 put_under (head.Ready plan) rows key row under fits = consistent_with plan.tables rows key row under fits
 
-pub may_do : (before after : Place) (rows : Database) (counts : Counts) (asks : Deed) → AreUnder before.head rows → Follows before counts after asks
+pub may_do : (before after : ScriptPlace) (rows : Database) (counts : Counts) (asks : Deed) → AreUnder before.head rows → Follows before counts after asks
     → MayDo (record { place = after; tables = rows }) asks
 may_do before after rows counts (deed.Put key row) under f = (head_on before.head after.head rows f.head_stays under, f.allows.fits)
 may_do before after rows counts deed.Nothing under f = head_on before.head after.head rows f.head_stays under

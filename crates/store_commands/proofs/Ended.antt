@@ -3,7 +3,7 @@ use Rattle.std.proofs.Common.{◌≡◌, ◌≢◌, ◌∙◌, ◌⊎◌, inl, i
 use Rattle.std.specs.Prelude.{not, ◌&&◌, if◌then◌else◌, Result, Ok, Err, IfSome}
 use Rattle.std.specs.Option.{IsSomeAnd}
 use Rattle.answer_text.specs.Notices.{ready_text, refused_text}
-use Rattle.answer_text.specs.declared.notices.Refused.TheVariants.{StoreExists}
+use Rattle.answer_text.specs.declared.notices.NotDone.TheVariants.{StoreExists}
 use Rattle.checkpoint.specs.Slots.{is_open}
 use Rattle.command_words.specs.declared.settings.Init.{Init}
 use Rattle.disk_model.proofs.Spans.{still_none}
@@ -17,7 +17,7 @@ use Rattle.store_files.specs.Attachments.{IsTaken}
 use Rattle.aria_store.specs.Causes.{HasGate}
 use Rattle.store_commands.specs.Inits.{Ends, Leaves, closed_by, store_out}
 use Rattle.store_commands.specs.declared.drafts.Draft.{Draft}
-use Rattle.script_places.specs.declared.places.Place.{Place}
+use Rattle.script_places.specs.declared.places.ScriptPlace.{ScriptPlace}
 use Rattle.script_text.specs.declared.refusals.RefusalKind.{RefusalKind}
 use Rattle.script_course.specs.declared.statuses.TheConstants.{DONE, STORE_REFUSED}
 
@@ -107,7 +107,7 @@ ends_untouched out made was old new result same all =
     record { taken = l.0; looked = l.1; finishes = all l.0; unwritten = λ other. still_none was; stored = λ done. inl (same l.0 done) }
 
 -- where the end is refused, its status is not that of a store made
-pub refused_apart : {X : Type 0} (settings : Init) (taken : Bool) (d : Draft) (end : Result Place RefusalKind) (kind : RefusalKind) → end ≡ Err kind
+pub refused_apart : {X : Type 0} (settings : Init) (taken : Bool) (d : Draft) (end : Result ScriptPlace RefusalKind) (kind : RefusalKind) → end ≡ Err kind
     → (closed_by settings taken d end).status ≡ DONE → X
 refused_apart settings taken d (Ok place) kind is done = absurd (cc is)
 refused_apart settings taken d (Err other) kind is done = let wrong : status_of stop.Refused ≡ DONE = done in absurd (cc wrong)

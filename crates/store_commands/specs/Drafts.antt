@@ -12,11 +12,11 @@ use Rattle.script_places.specs.Places.{Asked, asked, closing, plan_in}
 use Rattle.script_places.specs.Places as places
 use Rattle.script_places.specs.declared.deeds.Deed.{Deed}
 use Rattle.script_places.specs.declared.deeds.Deed.TheVariants as deed
-use Rattle.script_places.specs.declared.heads.Head.{Head}
-use Rattle.script_places.specs.declared.heads.Head.TheVariants as head
+use Rattle.script_places.specs.declared.heads.ScriptCatalog.{ScriptCatalog}
+use Rattle.script_places.specs.declared.heads.ScriptCatalog.TheVariants as head
 use Rattle.script_places.specs.declared.places.Counts.{Counts}
 use Rattle.script_places.specs.declared.places.Mode.TheVariants as mode
-use Rattle.script_places.specs.declared.places.Place.{Place}
+use Rattle.script_places.specs.declared.places.ScriptPlace.{ScriptPlace}
 use Rattle.script_text.specs.declared.refusals.RefusalKind.{RefusalKind}
 use Rattle.script_text.specs.declared.refusals.LinesRefused.{LinesRefused}
 use Rattle.script_text.specs.declared.refusals.LinesRefused.TheVariants.{Memory, Line}
@@ -61,7 +61,7 @@ abbrev pub read_of : List ℕ → Course Draft
 read_of text = told_whole on_line no_line start text
 
 -- the catalogue and the rows, unless the end of the text is refused
-abbrev pub values_by : Draft → Result Place RefusalKind → Option (Plan × Database)
+abbrev pub values_by : Draft → Result ScriptPlace RefusalKind → Option (Plan × Database)
 values_by d (Ok place) = Some (plan_in place.head, d.tables)
 values_by d (Err kind) = None
 
@@ -76,7 +76,7 @@ said_by text = values_of (read_of text)
 -- ---- what is true of it
 
 -- there is no row without a catalogue, and each fits it
-abbrev pub AreUnder : Head → Database → Type 0
+abbrev pub AreUnder : ScriptCatalog → Database → Type 0
 AreUnder (head.Ready plan) rows = IsConsistent plan.tables rows
 AreUnder head.Unnamed rows = rows ≡ fin.empty
 AreUnder (head.Text text) rows = rows ≡ fin.empty

@@ -3,7 +3,7 @@ use Rattle.std.specs.Prelude.{◌≡◌, ◌≢◌, ◌⊎◌, ℕ, Bool, not, �
 use Rattle.std.specs.Io.KnownBytes.{Appends}
 use Rattle.aria_base.specs.Orders.{Database}
 use Rattle.answer_text.specs.Notices.{ready_text, refused_text}
-use Rattle.answer_text.specs.declared.notices.Refused.TheVariants.{StoreExists}
+use Rattle.answer_text.specs.declared.notices.NotDone.TheVariants.{StoreExists}
 use Rattle.command_words.specs.declared.settings.Init.{Init}
 use Rattle.disk_model.specs.Histories.{History, Still}
 use Rattle.proc_lang.specs.Catalogs.{Plan}
@@ -13,7 +13,7 @@ use Rattle.script_course.specs.Served.{Completes, Finishes}
 use Rattle.script_course.specs.declared.stops.Stop.{Stop}
 use Rattle.script_course.specs.declared.stops.Stop.TheVariants as stop
 use Rattle.script_places.specs.Places.{closing}
-use Rattle.script_places.specs.declared.places.Place.{Place}
+use Rattle.script_places.specs.declared.places.ScriptPlace.{ScriptPlace}
 use Rattle.script_text.specs.declared.refusals.RefusalKind.{RefusalKind}
 use Rattle.slot_images.specs.Images.{Checkpoint}
 use Rattle.store_files.specs.Attachments.{IsTaken}
@@ -31,7 +31,7 @@ store_out settings taken =
     else (record { bytes = ready_text; status = DONE })
 
 -- the end of the head, unless it is refused
-abbrev pub closed_by : Init → Bool → Draft → Result Place RefusalKind → Out
+abbrev pub closed_by : Init → Bool → Draft → Result ScriptPlace RefusalKind → Out
 closed_by settings taken d (Ok place) = store_out settings taken
 closed_by settings taken d (Err kind) = record { bytes = refused_after d.place.lines kind; status = status_of stop.Refused }
 

@@ -5,7 +5,7 @@ ghost use Rattle.store_commands.specs.Drafts.{IsFitting, MayDo, Moves};
 
 use aria_base::{Memory, Sink};
 use script_course::{Reads, Stop, refuse};
-use script_places::{Counts, Deed, Mode, Place, follows};
+use script_places::{Counts, Deed, Mode, ScriptPlace, follows};
 use script_text::LinesRefused;
 use std::alloc::Global;
 use tbl_rows::Tables;
@@ -14,7 +14,7 @@ use tbl_rows::Tables;
 #[derive(Drop)]
 pub struct Draft {
     /// Where the reading stands.
-    pub place: Place,
+    pub place: ScriptPlace,
     /// The rows so far.
     pub tables: Tables,
 }
@@ -32,7 +32,7 @@ impl Draft {
         ensures { IfOk result (λ draft. draft ≡ drafts.start) }
     {
         let tables = Tables::new(alloc)?;
-        let place = Place::start(Mode::Init);
+        let place = ScriptPlace::start(Mode::Init);
         Ok(Draft { place, tables })
     }
 

@@ -14,13 +14,13 @@ ghost use Rattle.store_commands.specs.Inits.{Ends, Inits, IsMade, IsMadeOf, IsUn
 ghost use Rattle.script_course.specs.declared.statuses.TheConstants as status;
 
 use crate::drafts::Draft;
-use answer_text::{Refused, ready_line, refused_line};
+use answer_text::{NotDone, ready_line, refused_line};
 use aria_base::{LONGEST_LINE, Sink, Source};
 use aria_store::{Image, Store, StoreRefused};
 use command_words::Init;
 use disk_model::Disk;
 use script_course::{DONE, MOST_BYTES, STORE_REFUSED, Stop, end_with, read_through, refuse};
-use script_places::{Head, catalog_in, closes};
+use script_places::{ScriptCatalog, catalog_in, closes};
 use script_text::LinesRefused;
 use std::alloc::Global;
 use tbl_rows::Tables;
@@ -112,7 +112,7 @@ fn close<K: Sink, D: Disk>(
 fn make<K: Sink, D: Disk>(
     alloc: Global,
     settings: &Init,
-    head: Head,
+    head: ScriptCatalog,
     tables: Tables,
     out: &mut K,
     disk: &mut D,
@@ -134,7 +134,7 @@ fn make<K: Sink, D: Disk>(
     match Store::create(alloc, disk, settings.over, &image) {
         Ok(_) => end_with(DONE, ready_line(), out),
         Err(StoreRefused::Exists) => {
-            end_with(STORE_REFUSED, refused_line(Refused::StoreExists), out)
+            end_with(STORE_REFUSED, refused_line(NotDone::StoreExists), out)
         }
         Err(StoreRefused::Memory) => Err(Stop::NoMemory),
         Err(StoreRefused::DiskFault) => Err(Stop::NoDisk),
@@ -145,7 +145,7 @@ fn make<K: Sink, D: Disk>(
 }
 
 /// The first checkpoint of this catalogue and these rows. No memory.
-fn first_image(alloc: Global, settings: &Init, head: Head, tables: Tables) -> Image
+fn first_image(alloc: Global, settings: &Init, head: ScriptCatalog, tables: Tables) -> Image
     ensures { checkpoint_in result ≡ first_checkpoint settings.now (plan_in head, tables) }
 {
     Image {

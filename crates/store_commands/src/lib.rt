@@ -6,7 +6,7 @@
 //! its own settings, and prints their answers; it writes nothing.
 //!
 //! ```text
-//! Source ──> read_through (script_course) ──line──> Place (script_places) ──> Draft ──> Store (aria_store)
+//! Source ──> read_through (script_course) ──line──> ScriptPlace (script_places) ──> Draft ──> Store (aria_store)
 //!                                                                               └─────> line ──> Sink
 //! Store ──> checkpoint ──> begin (store_openings) ──> Live (serving) ──> answers ──> Sink
 //!   └─────> batches ────────────────────────────────────┘

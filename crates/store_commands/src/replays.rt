@@ -23,7 +23,7 @@ ghost use Rattle.store_openings.specs.Refusals.{IsAttaching};
 ghost use Rattle.store_commands.specs.Replays.{IsOutOf, crowded_out, out_of, replayed};
 
 use crate::steps::{Halt, answer_all};
-use answer_text::{Refused, refused_line};
+use answer_text::{NotDone, refused_line};
 use aria_base::{Memory, Pace, Sink};
 use aria_store::{Found, Logged, Store, StoreRefused};
 use command_words::Replay;
@@ -33,7 +33,7 @@ use script_course::{DONE, STORE_REFUSED, Stop, end_with};
 use serving::Live;
 use std::alloc::Global;
 use std::thread::Threads;
-use store_openings::{Engines, NotOpened, begin, damage_at, log_of};
+use store_openings::{NotOpened, RunSettings, begin, damage_at, log_of};
 
 /// Reads what the disk holds, runs the batches behind the checkpoint again, each by its own settings, and
 /// prints each answer. Behind the last one the rows are listed, where not each answer has its listing. It
@@ -107,10 +107,10 @@ fn replay_found<K: Sink, D: Disk, P: Pace + Sync, R: Threads + Sync>(
 }
 
 /// How the batches are run. No memory.
-fn engines_of(settings: &Replay) -> Engines
+fn engines_of(settings: &Replay) -> RunSettings
     ensures { result ≡ record { replicas = settings.now.replicas; workers = settings.now.workers; batons = settings.now.batons; each = is_each settings.now.listing; checkpoint = 0 } }
 {
-    Engines {
+    RunSettings {
         replicas: settings.replicas,
         workers: settings.workers,
         batons: settings.batons,
@@ -210,7 +210,7 @@ fn tell_refused<K: Sink>(alloc: Global, refused: StoreRefused, out: &mut K) -> R
     match refused {
         StoreRefused::Memory => Err(Stop::NoMemory),
         StoreRefused::DiskFault => Err(Stop::NoDisk),
-        StoreRefused::NoStore => end_with(STORE_REFUSED, refused_line(Refused::NoStore), out),
+        StoreRefused::NoStore => end_with(STORE_REFUSED, refused_line(NotDone::NoStore), out),
         StoreRefused::Damaged { file, at } => tell_damage(alloc, file, at, out),
         StoreRefused::Exists | StoreRefused::Closed { .. } => unreachable!(),
     }

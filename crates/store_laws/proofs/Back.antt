@@ -8,8 +8,8 @@ use Rattle.command_words.specs.declared.settings.Run.{Run}
 use Rattle.proc_lang.specs.Catalogs.{Plan}
 use Rattle.script_course.specs.Courses.{Course, Goes, Stops, Out, ended, told_whole, with_fault, with_last, with_lines}
 use Rattle.script_course.specs.declared.statuses.TheConstants.{DONE}
-use Rattle.script_places.specs.declared.heads.Head.{Head}
-use Rattle.script_places.specs.declared.heads.Head.TheVariants as head
+use Rattle.script_places.specs.declared.heads.ScriptCatalog.{ScriptCatalog}
+use Rattle.script_places.specs.declared.heads.ScriptCatalog.TheVariants as head
 use Rattle.script_text.specs.Lines.{last_line, scan}
 use Rattle.script_text.specs.declared.refusals.Refusal.{Refusal}
 use Rattle.serving.specs.Lives.{no_plan}
@@ -46,7 +46,7 @@ said_right head values is =
     let s = scan no_line head in said_by_right (with_lines drafts.on_line (Goes [] drafts.start) s.lines) s.fault (last_line s.feed) values is
 
 -- a head whose catalogue has a table or a procedure names one
-named_by : (h : Head) (plan : Plan) → plan ≢ no_plan → Gives no_plan h plan → IsNamed h
+named_by : (h : ScriptCatalog) (plan : Plan) → plan ≢ no_plan → Gives no_plan h plan → IsNamed h
 named_by head.Unnamed plan some gives = some gives
 named_by (head.Text text) plan some gives = tt
 named_by (head.Ready given) plan some gives = tt

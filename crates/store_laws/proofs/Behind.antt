@@ -6,11 +6,11 @@ use Rattle.proc_lang.specs.Catalogs.{Plan}
 use Rattle.script_places.specs.Places.{Asked, asked, at_item, behind_text, by_head, in_text, is_byte, next_line, refused_in_text, start_with, without_head}
 use Rattle.script_places.specs.declared.deeds.Deed.{Deed}
 use Rattle.script_places.specs.declared.deeds.Deed.TheVariants as deed
-use Rattle.script_places.specs.declared.heads.Head.{Head}
-use Rattle.script_places.specs.declared.heads.Head.TheVariants as head
+use Rattle.script_places.specs.declared.heads.ScriptCatalog.{ScriptCatalog}
+use Rattle.script_places.specs.declared.heads.ScriptCatalog.TheVariants as head
 use Rattle.script_places.specs.declared.places.Counts.{Counts}
 use Rattle.script_places.specs.declared.places.Mode.TheVariants as mode
-use Rattle.script_places.specs.declared.places.Place.{Place}
+use Rattle.script_places.specs.declared.places.ScriptPlace.{ScriptPlace}
 use Rattle.script_text.specs.Fits.{and_then}
 use Rattle.script_text.specs.Forms.{said}
 use Rattle.script_text.specs.Lines.{line_after}
@@ -22,19 +22,19 @@ use Rattle.store_laws.proofs.Scripts.{IsAskedTo, Runs, is_asked, never, opening_
 use Rattle.store_laws.specs.Texts.{opens_by}
 
 -- a place of `once` behind a head, with no open call, and one of `run` before its first batch
-abbrev pub behind_head : Head → Place → Place
+abbrev pub behind_head : ScriptCatalog → ScriptPlace → ScriptPlace
 behind_head h p = record p { mode = mode.Once; head = h; open_calls = 0; reports = false }
 
-abbrev pub before_batches : Plan → ℕ → Place
+abbrev pub before_batches : Plan → ℕ → ScriptPlace
 before_batches plan lines = record (start_with mode.Run plan) { lines = lines }
 
 -- what a head comes to at its end; one that names none has the catalogue `none`
-abbrev pub Gives : Plan → Head → Plan → Type 0
+abbrev pub Gives : Plan → ScriptCatalog → Plan → Type 0
 Gives none head.Unnamed plan = plan ≡ none
 Gives none (head.Text text) plan = catalog_of text ≡ Ok plan
 Gives none (head.Ready given) plan = given ≡ plan
 
-abbrev pub IsNamed : Head → Type 0
+abbrev pub IsNamed : ScriptCatalog → Type 0
 IsNamed head.Unnamed = ⊥
 IsNamed (head.Text text) = Unit {0}
 IsNamed (head.Ready given) = Unit {0}
@@ -69,12 +69,12 @@ module _ (plan : Plan) (lines : ℕ) (c : Counts) where
 
   -- ---- a skipped line changes the count of lines alone
 
-  skip_said : (h : Head) (p : Place) (l : Result Item RefusalKind) → l ≡ Ok item.Skip → by_head (behind_head h p) c h l ≡ Ok (behind_head h p, deed.Nothing)
+  skip_said : (h : ScriptCatalog) (p : ScriptPlace) (l : Result Item RefusalKind) → l ≡ Ok item.Skip → by_head (behind_head h p) c h l ≡ Ok (behind_head h p, deed.Nothing)
   skip_said head.Unnamed p l is = ap (λ (x : Result Item RefusalKind). and_then (at_item (behind_head head.Unnamed p) c) x) is
   skip_said (head.Text text) p l is = ap (λ (x : Result Item RefusalKind). in_text (without_head (behind_head (head.Text text) p)) c text x) is
   skip_said (head.Ready given) p l is = ap (λ (x : Result Item RefusalKind). and_then (at_item (behind_head (head.Ready given) p) c) x) is
 
-  pub once_skip : (h : Head) (p : Place) (line : List ℕ) → said line ≡ Ok item.Skip
+  pub once_skip : (h : ScriptCatalog) (p : ScriptPlace) (line : List ℕ) → said line ≡ Ok item.Skip
       → asked (behind_head h p) c line ≡ Ok (behind_head h (next_line p), deed.Nothing)
   once_skip h p line is = skip_said h (next_line p) (said line) is
 
@@ -102,22 +102,22 @@ module _ (plan : Plan) (lines : ℕ) (c : Counts) where
   abbrev Begins : Asked → Item → Type 0
   Begins given i = Runs plan After given (at_item (before_batches plan After) c i)
 
-  first_ready : (given : Plan) → given ≡ plan → (p : Place) (i : Item) → opens_by false (Ok i) ≡ true
+  first_ready : (given : Plan) → given ≡ plan → (p : ScriptPlace) (i : Item) → opens_by false (Ok i) ≡ true
       → Begins (at_item (behind_head (head.Ready given) p) c i) i
   first_ready given is p i e =
       subst (λ (g : Plan). Begins (at_item (behind_head (head.Ready g) p) c i) i) (sym is) (opening_item plan After c (behind_head (head.Ready plan) p) i e)
 
   -- the text of a catalogue is read before it
-  abbrev ReadThen : Place → (Place → Asked) → Result Plan RefusalKind → Asked
+  abbrev ReadThen : ScriptPlace → (ScriptPlace → Asked) → Result Plan RefusalKind → Asked
   ReadThen p ask read = and_then ask (and_then (λ given. Ok (record p { head = head.Ready given })) read)
 
-  first_read : (p : Place) (text : List ℕ) → catalog_of text ≡ Ok plan → (i : Item) → opens_by false (Ok i) ≡ true
+  first_read : (p : ScriptPlace) (text : List ℕ) → catalog_of text ≡ Ok plan → (i : Item) → opens_by false (Ok i) ≡ true
       → Begins (behind_text (without_head (behind_head (head.Text text) p)) c text i) i
   first_read p text is i e =
       subst (λ (r : Result Plan RefusalKind). Begins (ReadThen (without_head (behind_head (head.Text text) p)) (λ at. at_item at c i) r) i) (sym is)
       (first_ready plan refl p i e)
 
-  first_text : (p : Place) (text : List ℕ) → catalog_of text ≡ Ok plan → (i : Item) → opens_by false (Ok i) ≡ true
+  first_text : (p : ScriptPlace) (text : List ℕ) → catalog_of text ≡ Ok plan → (i : Item) → opens_by false (Ok i) ≡ true
       → Begins (in_text (without_head (behind_head (head.Text text) p)) c text (Ok i)) i
   first_text p text is item.Skip e = never e
   first_text p text is (item.Catalog name) e = never e
@@ -129,16 +129,16 @@ module _ (plan : Plan) (lines : ℕ) (c : Counts) where
   first_text p text is (item.Settings name percent) e = first_read p text is (item.Settings name percent) e
 
   -- a line of no form, behind the text of a catalogue
-  refused_by : (byte : Bool) (p : Place) (read : Result Plan RefusalKind) (why : RefusalKind) → read ≡ Ok plan
+  refused_by : (byte : Bool) (p : ScriptPlace) (read : Result Plan RefusalKind) (why : RefusalKind) → read ≡ Ok plan
       → Runs plan After (if byte then Err why else ReadThen p (λ at. Err why) read) (Err why)
   refused_by true p read why is = refl
   refused_by false p read why is = subst (λ (r : Result Plan RefusalKind). Runs plan After (ReadThen p (λ at. Err why) r) (Err why)) (sym is) refl
 
-  first_wrong : (p : Place) (text : List ℕ) (why : RefusalKind) → catalog_of text ≡ Ok plan → Runs plan After (refused_in_text p text why) (Err why)
+  first_wrong : (p : ScriptPlace) (text : List ℕ) (why : RefusalKind) → catalog_of text ≡ Ok plan → Runs plan After (refused_in_text p text why) (Err why)
   first_wrong p text why is = refused_by (is_byte why) p (catalog_of text) why is
 
   -- behind a head that names a catalogue
-  first_said : (none : Plan) (h : Head) (p : Place) → IsNamed h → Gives none h plan → (l : Result Item RefusalKind) → opens_by false l ≡ true
+  first_said : (none : Plan) (h : ScriptCatalog) (p : ScriptPlace) → IsNamed h → Gives none h plan → (l : Result Item RefusalKind) → opens_by false l ≡ true
       → Runs plan After (by_head (behind_head h p) c h l) (and_then (at_item (before_batches plan After) c) l)
   first_said none head.Unnamed p named gives l e = absurd named
   first_said none (head.Text text) p named gives (Ok i) e = first_text p text gives i e
@@ -147,7 +147,7 @@ module _ (plan : Plan) (lines : ℕ) (c : Counts) where
   first_said none (head.Ready given) p named gives (Err why) e = refl
 
   -- no line of batches may stand where there is no catalogue
-  none_asked : (p : Place) (l : Result Item RefusalKind) (r : Place × Deed) → opens_by false l ≡ true
+  none_asked : (p : ScriptPlace) (l : Result Item RefusalKind) (r : ScriptPlace × Deed) → opens_by false l ≡ true
       → by_head (behind_head head.Unnamed p) c head.Unnamed l ≡ Ok r → ⊥
   none_asked p (Ok item.Skip) r e is = never e
   none_asked p (Ok (item.Catalog name)) r e is = never e
@@ -159,7 +159,7 @@ module _ (plan : Plan) (lines : ℕ) (c : Counts) where
   none_asked p (Ok (item.Settings name percent)) r e is = absurd cc
   none_asked p (Err why) r e is = absurd cc
 
-  pub first_asked : (none : Plan) (h : Head) (p after : Place) (line : List ℕ) (asks : Deed) → Gives none h plan → opens_by false (said line) ≡ true
+  pub first_asked : (none : Plan) (h : ScriptCatalog) (p after : ScriptPlace) (line : List ℕ) (asks : Deed) → Gives none h plan → opens_by false (said line) ≡ true
       → asked (behind_head h p) c line ≡ Ok (after, asks) → IsAskedTo plan lines (before_batches plan lines) c line after asks
   first_asked none head.Unnamed p after line asks gives e is = absurd (none_asked (next_line p) (said line) (after, asks) e is)
   first_asked none (head.Text text) p after line asks gives e is =
@@ -171,7 +171,7 @@ module _ (plan : Plan) (lines : ℕ) (c : Counts) where
       is_asked plan lines (before_batches plan lines) after c line asks (asked (behind_head h p) c line) is
       (first_said none h (next_line p) tt gives (said line) e)
 
-  pub first_refused : (none : Plan) (h : Head) (p : Place) (line : List ℕ) (why : RefusalKind) → IsNamed h → Gives none h plan
+  pub first_refused : (none : Plan) (h : ScriptCatalog) (p : ScriptPlace) (line : List ℕ) (why : RefusalKind) → IsNamed h → Gives none h plan
       → opens_by false (said line) ≡ true
       → asked (behind_head h p) c line ≡ Err why → asked (before_batches plan lines) c line ≡ Err why
   first_refused none h p line why named gives e is =

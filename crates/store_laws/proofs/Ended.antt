@@ -8,9 +8,9 @@ use Rattle.proc_lang.specs.Catalogs.{Plan, run_of}
 use Rattle.script_course.specs.Courses.{Course, Goes, Stops, Out, behind, ended}
 use Rattle.script_course.specs.declared.statuses.TheConstants.{DONE}
 use Rattle.script_places.specs.Places.{closing, next_line, shut, without_head}
-use Rattle.script_places.specs.declared.heads.Head.{Head}
-use Rattle.script_places.specs.declared.heads.Head.TheVariants as head
-use Rattle.script_places.specs.declared.places.Place.{Place}
+use Rattle.script_places.specs.declared.heads.ScriptCatalog.{ScriptCatalog}
+use Rattle.script_places.specs.declared.heads.ScriptCatalog.TheVariants as head
+use Rattle.script_places.specs.declared.places.ScriptPlace.{ScriptPlace}
 use Rattle.script_text.specs.Fits.{and_then}
 use Rattle.script_text.specs.Lines.{line_after}
 use Rattle.script_text.specs.declared.refusals.RefusalKind.{RefusalKind}
@@ -95,8 +95,8 @@ pub record EndsLike (last end : Doing) : Type 0 where
   pub back : (drain : Bool) → (on_end drain end).status ≡ DONE → on_end drain end ≡ on_end drain last
 
 -- where no line came but skipped ones
-module _ (plan : Plan) (drain : Bool) (d : Doing) (p : Place) where
-  once_ends : (h : Head) → Gives no_plan h plan → on_end drain (record d { place = behind_head h p }) ≡ onces.drained drain plan d.each
+module _ (plan : Plan) (drain : Bool) (d : Doing) (p : ScriptPlace) where
+  once_ends : (h : ScriptCatalog) → Gives no_plan h plan → on_end drain (record d { place = behind_head h p }) ≡ onces.drained drain plan d.each
       (line_after p.lines) d.state
   once_ends head.Unnamed gives = ap (λ (q : Plan). onces.drained drain q d.each (line_after p.lines) d.state) (sym gives)
   once_ends (head.Ready given) gives = ap (λ (q : Plan). onces.drained drain q d.each (line_after p.lines) d.state) gives
@@ -105,17 +105,17 @@ module _ (plan : Plan) (drain : Bool) (d : Doing) (p : Place) where
       ap (λ (r : Result Plan RefusalKind). closed_by drain (record d { place = at })
       (and_then shut (and_then (λ q. Ok (record (without_head (next_line at)) { head = head.Ready q })) r))) gives
 
-  run_ends : (h : Head) (lines : ℕ) → Gives no_plan h plan → (on_end drain (record d { place = behind_head h p })).status ≡ DONE
+  run_ends : (h : ScriptCatalog) (lines : ℕ) → Gives no_plan h plan → (on_end drain (record d { place = behind_head h p })).status ≡ DONE
       → on_end drain (record d { place = before_batches plan lines }) ≡ on_end drain (record d { place = behind_head h p })
   run_ends h lines gives done =
       let is = once_ends h gives in
       all_drained plan d.each (line_after p.lines) (line_after lines) drain d.state (sym (ap (λ (o : Out). o.status) is) ∙ done) ∙ sym is
 
-  run_ended : (h : Head) (lines : ℕ) → Gives no_plan h plan → (on_end drain (record d { place = before_batches plan lines })).status ≡ DONE
+  run_ended : (h : ScriptCatalog) (lines : ℕ) → Gives no_plan h plan → (on_end drain (record d { place = before_batches plan lines })).status ≡ DONE
       → on_end drain (record d { place = before_batches plan lines }) ≡ on_end drain (record d { place = behind_head h p })
   run_ended h lines gives done = sym (all_drained plan d.each (line_after lines) (line_after p.lines) drain d.state done) ∙ sym (once_ends h gives)
 
-pub ends_behind : (plan : Plan) (d : Doing) (p : Place) (h : Head) (lines : ℕ) → Gives no_plan h plan
+pub ends_behind : (plan : Plan) (d : Doing) (p : ScriptPlace) (h : ScriptCatalog) (lines : ℕ) → Gives no_plan h plan
     → EndsLike (record d { place = behind_head h p }) (record d { place = before_batches plan lines })
 ends_behind plan d p h lines gives = record {
   state = refl;
@@ -128,10 +128,10 @@ abbrev pub runs_as : ℕ → Doing → Doing
 runs_as lines d = record d { place = as_run lines d.place }
 
 module _ (plan : Plan) (drain : Bool) (lines : ℕ) (last : Doing) (at : last.place ≡ in_batches plan last.place) where
-  abbrev Shut : Bool → Result Place RefusalKind
+  abbrev Shut : Bool → Result ScriptPlace RefusalKind
   Shut b = if b then Ok (in_batches plan (next_line last.place)) else Err kind.Unfinished
 
-  abbrev ShutRun : Bool → Result Place RefusalKind
+  abbrev ShutRun : Bool → Result ScriptPlace RefusalKind
   ShutRun b = if b then Ok (as_run (line_after lines) (in_batches plan (next_line last.place))) else Err kind.Unfinished
 
   shut_like : (b : Bool) → (closed_by drain last (Shut b)).status ≡ DONE → closed_by drain (runs_as lines last) (ShutRun b) ≡ closed_by drain last (Shut b)
@@ -144,10 +144,10 @@ module _ (plan : Plan) (drain : Bool) (lines : ℕ) (last : Doing) (at : last.pl
   shut_back false done = absurd (cc done)
 
   once_is : on_end drain last ≡ closed_by drain last (Shut (last.place.open_calls == 0))
-  once_is = ap (λ (q : Place). closed_by drain last (closing q)) at
+  once_is = ap (λ (q : ScriptPlace). closed_by drain last (closing q)) at
 
   run_is : on_end drain (runs_as lines last) ≡ closed_by drain (runs_as lines last) (ShutRun (last.place.open_calls == 0))
-  run_is = ap (λ (q : Place). closed_by drain (runs_as lines last) (closing (as_run lines q))) at
+  run_is = ap (λ (q : ScriptPlace). closed_by drain (runs_as lines last) (closing (as_run lines q))) at
 
   batches_end : (on_end drain last).status ≡ DONE → on_end drain (runs_as lines last) ≡ on_end drain last
   batches_end done = run_is ∙ shut_like (last.place.open_calls == 0) (sym (ap (λ (o : Out). o.status) once_is) ∙ done) ∙ sym once_is

@@ -10,9 +10,9 @@ use Rattle.script_course.specs.Courses.{Course, Goes, Stops, behind, with_fault,
 use Rattle.script_places.specs.Places.{Asked, asked, closed_by, closing, next_line, plan_in, shut, without_head}
 use Rattle.script_places.specs.declared.deeds.Deed.{Deed}
 use Rattle.script_places.specs.declared.deeds.Deed.TheVariants as deed
-use Rattle.script_places.specs.declared.heads.Head.{Head}
-use Rattle.script_places.specs.declared.heads.Head.TheVariants as head
-use Rattle.script_places.specs.declared.places.Place.{Place}
+use Rattle.script_places.specs.declared.heads.ScriptCatalog.{ScriptCatalog}
+use Rattle.script_places.specs.declared.heads.ScriptCatalog.TheVariants as head
+use Rattle.script_places.specs.declared.places.ScriptPlace.{ScriptPlace}
 use Rattle.script_text.specs.Fits.{and_then}
 use Rattle.script_text.specs.Lines.{last_line, scan, unreturned}
 use Rattle.script_text.specs.declared.refusals.RefusalKind.{RefusalKind}
@@ -48,7 +48,7 @@ module _ (rule : Rule) (percent : ℕ) (each : Bool) where
     each = each;
   }
 
-  done_both : (e : Draft) (after : Place) (asks : Deed) → IsOfHead asks
+  done_both : (e : Draft) (after : ScriptPlace) (asks : Deed) → IsOfHead asks
       → onces.done (record (Begun e) { place = as_once after }) asks ≡ Goes [] (Begun (done (record e { place = after }) asks))
   done_both e after deed.Nothing h = refl
   done_both e after (deed.Put key row) h = refl
@@ -58,7 +58,7 @@ module _ (rule : Rule) (percent : ℕ) (each : Bool) where
   done_both e after deed.Run h = absurd h
   done_both e after deed.Tell h = absurd h
 
-  done_place : (e : Draft) (after : Place) (asks : Deed) → (done (record e { place = after }) asks).place ≡ after
+  done_place : (e : Draft) (after : ScriptPlace) (asks : Deed) → (done (record e { place = after }) asks).place ≡ after
   done_place e after deed.Nothing = refl
   done_place e after (deed.Put key row) = refl
   done_place e after (deed.Call call) = refl
@@ -132,19 +132,19 @@ values_or values None = values
 values_or values (Some found) = found
 
 -- a place that is shut has no open call
-record IsShut (e : Draft) (q : Place) (values : Plan × Database) : Type 0 where
+record IsShut (e : Draft) (q : ScriptPlace) (values : Plan × Database) : Type 0 where
   pub plan_is : plan_in q.head ≡ values.0
   pub rows_are : e.tables ≡ values.1
   pub none_open : q.open_calls ≡ 0
 
-shut_by : (e : Draft) (q : Place) (values : Plan × Database) (b : Bool) → (q.open_calls == 0) ≡ b
+shut_by : (e : Draft) (q : ScriptPlace) (values : Plan × Database) (b : Bool) → (q.open_calls == 0) ≡ b
     → values_by e (if b then Ok q else Err kind.Unfinished) ≡ Some values → IsShut e q values
 shut_by e q values false none is = absurd cc
 shut_by e q values true none is =
     let same = ap (λ (o : Option (Plan × Database)). values_or values o) is in
     record { plan_is = ap (λ (v : Plan × Database). v.0) same; rows_are = ap (λ (v : Plan × Database). v.1) same; none_open = grind (arith, none) }
 
-shuts : (e : Draft) (q : Place) (values : Plan × Database) → values_by e (shut q) ≡ Some values → IsShut e q values
+shuts : (e : Draft) (q : ScriptPlace) (values : Plan × Database) → values_by e (shut q) ≡ Some values → IsShut e q values
 shuts e q values is = shut_by e q values (q.open_calls == 0) refl is
 
 pub record IsClosed (e : Draft) (values : Plan × Database) : Type 0 where
@@ -160,7 +160,7 @@ read_gives e values (Ok plan) is =
     let s = shuts e (record (without_head (next_line e.place)) { head = head.Ready plan }) values is in
     (ap (λ (p : Plan). Ok p) s.plan_is, s.rows_are, s.none_open)
 
-closed_gives : (e : Draft) (values : Plan × Database) (h : Head) → e.place.head ≡ h → values_by e (closed_by (next_line e.place) h) ≡ Some values
+closed_gives : (e : Draft) (values : Plan × Database) (h : ScriptCatalog) → e.place.head ≡ h → values_by e (closed_by (next_line e.place) h) ≡ Some values
     → Gives no_plan h values.0 × (e.tables ≡ values.1) × (e.place.open_calls ≡ 0)
 closed_gives e values head.Unnamed at is =
     let s = shuts e (next_line e.place) values is in (sym s.plan_is ∙ ap plan_in at, s.rows_are, s.none_open)

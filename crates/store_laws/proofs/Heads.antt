@@ -9,12 +9,12 @@ use Rattle.proc_lang.specs.Catalogs.{Plan}
 use Rattle.script_places.specs.Places.{Asked, asked, at_catalog, at_item, at_piece, at_row, behind_text, by_head, found, goes_on, has_catalog, in_text, is_audit, is_byte, is_unnamed, next_line, puts, read_text, refused_in_text, under, within_text, without_head}
 use Rattle.script_places.specs.declared.deeds.Deed.{Deed}
 use Rattle.script_places.specs.declared.deeds.Deed.TheVariants as deed
-use Rattle.script_places.specs.declared.heads.Head.{Head}
-use Rattle.script_places.specs.declared.heads.Head.TheVariants as head
+use Rattle.script_places.specs.declared.heads.ScriptCatalog.{ScriptCatalog}
+use Rattle.script_places.specs.declared.heads.ScriptCatalog.TheVariants as head
 use Rattle.script_places.specs.declared.limits.TheConstants.{MOST_CATALOG}
 use Rattle.script_places.specs.declared.places.Counts.{Counts}
 use Rattle.script_places.specs.declared.places.Mode.TheVariants as mode
-use Rattle.script_places.specs.declared.places.Place.{Place}
+use Rattle.script_places.specs.declared.places.ScriptPlace.{ScriptPlace}
 use Rattle.script_text.specs.Fits.{and_then, placed_row}
 use Rattle.script_text.specs.Forms.{said}
 use Rattle.script_text.specs.declared.items.Item.{Item}
@@ -24,10 +24,10 @@ use Rattle.script_text.specs.declared.refusals.RefusalKind.{RefusalKind}
 use Rattle.script_text.specs.declared.refusals.RefusalKind.TheVariants as kind
 
 -- a place that `init` comes to, and the same one of `once`
-abbrev pub in_head : Place → Place
+abbrev pub in_head : ScriptPlace → ScriptPlace
 in_head p = record p { mode = mode.Init; reports = false }
 
-abbrev pub as_once : Place → Place
+abbrev pub as_once : ScriptPlace → ScriptPlace
 as_once p = record p { mode = mode.Once }
 
 -- nothing is asked for, or a row
@@ -41,7 +41,7 @@ IsOfHead deed.Run = ⊥
 IsOfHead deed.Tell = ⊥
 
 -- what the one takes the other takes
-record Taken (r : Place × Deed) (other : Asked) : Type 0 where
+record Taken (r : ScriptPlace × Deed) (other : Asked) : Type 0 where
   pub asked_once : other ≡ Ok (as_once r.0, r.1)
   pub of_head : IsOfHead r.1
   pub place_is : r.0 ≡ in_head r.0
@@ -58,20 +58,20 @@ takes_then : {T : Type 0} (f g : T → Asked) (r : Result T RefusalKind) → ((t
 takes_then f g (Ok t) h = h t
 takes_then f g (Err why) h = tt
 
-takes_under : (h : Head) (f g : Plan → Asked) → ((plan : Plan) → Takes (f plan) (g plan)) → Takes (under h f) (under h g)
+takes_under : (h : ScriptCatalog) (f g : Plan → Asked) → ((plan : Plan) → Takes (f plan) (g plan)) → Takes (under h f) (under h g)
 takes_under head.Unnamed f g n = tt
 takes_under (head.Text text) f g n = tt
 takes_under (head.Ready plan) f g n = n plan
 
 -- where nothing is asked for at a place that `init` comes to
-quiet : (p : Place) → Takes (Ok (in_head p, deed.Nothing)) (Ok (as_once (in_head p), deed.Nothing))
+quiet : (p : ScriptPlace) → Takes (Ok (in_head p, deed.Nothing)) (Ok (as_once (in_head p), deed.Nothing))
 quiet p = record { asked_once = refl; of_head = tt; place_is = refl }
 
-module _ (c : Counts) (p : Place) where
-  abbrev I : Place
+module _ (c : Counts) (p : ScriptPlace) where
+  abbrev I : ScriptPlace
   I = in_head p
 
-  abbrev O : Place
+  abbrev O : ScriptPlace
   O = as_once (in_head p)
 
   takes_found : (o : Option Plan) → Takes (found I o) (found O o)
@@ -79,7 +79,7 @@ module _ (c : Counts) (p : Place) where
   takes_found (Some plan) = quiet (record p { head = head.Ready plan })
 
   -- What is found under the name stands apart: the catalogues that every database has are large terms, which are compared but once here.
-  abbrev Named : Place → List ℕ → Option Plan → Asked
+  abbrev Named : ScriptPlace → List ℕ → Option Plan → Asked
   Named q name o =
       if not (has_catalog q.mode && is_unnamed q.head) then Err kind.Site
       else (if is_audit q.mode && not (bytes_eq name (codes "tpcc")) then Err kind.Name
@@ -110,7 +110,7 @@ module _ (c : Counts) (p : Place) where
   takes_none : (other : Asked) → Takes (under p.head (λ plan. Err kind.Site)) other
   takes_none other = none p.head
     where
-      none : (h : Head) → Takes (under h (λ plan. Err kind.Site)) other
+      none : (h : ScriptCatalog) → Takes (under h (λ plan. Err kind.Site)) other
       none head.Unnamed = tt
       none (head.Text text) = tt
       none (head.Ready plan) = tt
@@ -126,11 +126,11 @@ module _ (c : Counts) (p : Place) where
   takes_item (item.Settings name percent) = takes_none (at_item O c (item.Settings name percent))
 
 -- while the text of a catalogue comes
-module _ (c : Counts) (p : Place) where
-  abbrev J : Place
+module _ (c : Counts) (p : ScriptPlace) where
+  abbrev J : ScriptPlace
   J = without_head (in_head p)
 
-  abbrev Q : Place
+  abbrev Q : ScriptPlace
   Q = without_head (as_once (in_head p))
 
   takes_piece : (text piece : List ℕ) → Takes (at_piece J text piece) (at_piece Q text piece)
@@ -159,7 +159,7 @@ module _ (c : Counts) (p : Place) where
   takes_behind : (text : List ℕ) (i : Item) → Takes (behind_text J c text i) (behind_text Q c text i)
   takes_behind text i = takes_read i (catalog_of text)
 
-  never : (r : Result Place RefusalKind) (why : RefusalKind) (other : Asked) → Takes (and_then (λ ready. Err why) r) other
+  never : (r : Result ScriptPlace RefusalKind) (why : RefusalKind) (other : Asked) → Takes (and_then (λ ready. Err why) r) other
   never (Ok ready) why other = tt
   never (Err first) why other = tt
 
@@ -173,28 +173,28 @@ module _ (c : Counts) (p : Place) where
       (takes_within text i) (takes_behind text i)
   takes_text text (Err why) = takes_refused text why
 
-takes_head : (c : Counts) (p : Place) (h : Head) (line : Result Item RefusalKind)
+takes_head : (c : Counts) (p : ScriptPlace) (h : ScriptCatalog) (line : Result Item RefusalKind)
     → Takes (by_head (in_head p) c h line) (by_head (as_once (in_head p)) c h line)
 takes_head c p (head.Text text) line = takes_text c p text line
 takes_head c p head.Unnamed line = takes_then (at_item (in_head p) c) (at_item (as_once (in_head p)) c) line (λ i. takes_item c p i)
 takes_head c p (head.Ready plan) line = takes_then (at_item (in_head p) c) (at_item (as_once (in_head p)) c) line (λ i. takes_item c p i)
 
-takes_line : (c : Counts) (p : Place) (line : List ℕ) → Takes (asked (in_head p) c line) (asked (as_once (in_head p)) c line)
+takes_line : (c : Counts) (p : ScriptPlace) (line : List ℕ) → Takes (asked (in_head p) c line) (asked (as_once (in_head p)) c line)
 takes_line c p line = takes_head c (next_line p) p.head (said line)
 
 -- what `once` is asked for by a line that `init` takes
-pub record IsAsked (p : Place) (c : Counts) (line : List ℕ) (after : Place) (asks : Deed) : Type 0 where
+pub record IsAsked (p : ScriptPlace) (c : Counts) (line : List ℕ) (after : ScriptPlace) (asks : Deed) : Type 0 where
   pub asked_once : asked (as_once p) c line ≡ Ok (as_once after, asks)
   pub of_head : IsOfHead asks
   pub place_is : after ≡ in_head after
 
-is_asked : (p after : Place) (c : Counts) (line : List ℕ) (asks : Deed) (given : Asked) → given ≡ Ok (after, asks) → Takes given (asked (as_once p) c line)
+is_asked : (p after : ScriptPlace) (c : Counts) (line : List ℕ) (asks : Deed) (given : Asked) → given ≡ Ok (after, asks) → Takes given (asked (as_once p) c line)
     → IsAsked p c line after asks
 is_asked p after c line asks given is t =
     let taken : Taken (after, asks) (asked (as_once p) c line) = subst (λ (a : Asked). Takes a (asked (as_once p) c line)) is t in
     record { asked_once = taken.asked_once; of_head = taken.of_head; place_is = taken.place_is }
 
-pub head_asked : (p after : Place) (c : Counts) (line : List ℕ) (asks : Deed) → p ≡ in_head p → asked p c line ≡ Ok (after, asks) → IsAsked p c line after asks
+pub head_asked : (p after : ScriptPlace) (c : Counts) (line : List ℕ) (asks : Deed) → p ≡ in_head p → asked p c line ≡ Ok (after, asks) → IsAsked p c line after asks
 head_asked p after c line asks at is =
     is_asked p after c line asks (asked p c line) is
-    (subst (λ (q : Place). Takes (asked q c line) (asked (as_once q) c line)) (sym at) (takes_line c p line))
+    (subst (λ (q : ScriptPlace). Takes (asked q c line) (asked (as_once q) c line)) (sym at) (takes_line c p line))

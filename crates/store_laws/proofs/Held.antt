@@ -9,7 +9,7 @@ use Rattle.script_places.specs.Follows.{Follows}
 use Rattle.script_places.specs.Places.{Asked, asked, closing}
 use Rattle.script_places.specs.declared.deeds.Deed.{Deed}
 use Rattle.script_places.specs.declared.deeds.Deed.TheVariants as deed
-use Rattle.script_places.specs.declared.places.Place.{Place}
+use Rattle.script_places.specs.declared.places.ScriptPlace.{ScriptPlace}
 use Rattle.script_text.specs.Laws.{all_lines}
 use Rattle.script_text.specs.Lines.{scan}
 use Rattle.script_text.specs.declared.refusals.RefusalKind.{RefusalKind}
@@ -60,7 +60,7 @@ module _ (e : Doing) (held : State) (k : HoldsAs held e.state) where
   ran next more = subst (λ (s : State). HoldsAs s next.state) (sym (held_after held e next more)) (holds_own next.state)
 
   -- no row may stand in a script over a store
-  done_held : (after : Place) (asks : Deed) → e.place.rows_ended ≡ true → Follows e.place (counts_of e.state) after asks
+  done_held : (after : ScriptPlace) (asks : Deed) → e.place.rows_ended ≡ true → Follows e.place (counts_of e.state) after asks
       → IfGoes (done (record e { place = after }) asks) (λ bytes next. IsHeld next × (next.place.rows_ended ≡ true))
   done_held after deed.Nothing rows f = (with_rule (record e { place = after }) refl refl refl refl, f.allows.rows rows)
   done_held after deed.Tell rows f = (with_rule (record e { place = after }) refl refl refl refl, f.allows.rows rows)
@@ -101,7 +101,7 @@ lines_held (line ∷ lines) e end held printed rows k goes = lines_by line lines
 
 -- ---- a script: the count before its lines, the end of the input and the listing hold what was held
 
-closed_held : (d : Doing) (held : State) (r : Result Place RefusalKind)
+closed_held : (d : Doing) (held : State) (r : Result ScriptPlace RefusalKind)
     → held_by_step on_turn held_then d held (held_over on_turn held_then []) (on_close d r) ≡ held
 closed_held d held (Ok place) = held_same held d (record d { place = place }) refl
 closed_held d held (Err why) = refl

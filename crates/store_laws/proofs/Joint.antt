@@ -10,7 +10,7 @@ use Rattle.command_words.specs.declared.settings.Run.{Run}
 use Rattle.proc_lang.specs.Catalogs.{Plan}
 use Rattle.script_course.specs.Courses.{Course, Goes, Stops, ended, told_whole, with_fault, with_last, with_lines}
 use Rattle.script_course.specs.declared.statuses.TheConstants.{DONE}
-use Rattle.script_places.specs.declared.places.Place.{Place}
+use Rattle.script_places.specs.declared.places.ScriptPlace.{ScriptPlace}
 use Rattle.script_places.specs.declared.places.Mode.TheVariants as mode
 use Rattle.script_text.proofs.Scans.{whole}
 use Rattle.script_text.specs.Laws.{all_lines}
@@ -95,7 +95,7 @@ module _ (made : Init) (settings : Run) (mem : Once) (alike : AreAlike made sett
 
   behind_is : Begun mem.rule mem.fallback (is_each mem.listing) the_head.last ≡ record From { place = behind_head the_head.last.place.head the_head.last.place }
   behind_is =
-      let place_is = once_place the_head.last (ap (λ (p : Place). p.reports) are_put.place_is) the_head.closed.none_open in
+      let place_is = once_place the_head.last (ap (λ (p : ScriptPlace). p.reports) are_put.place_is) the_head.closed.none_open in
       λ i. record {
         place = place_is i;
         calls = [];
@@ -122,7 +122,7 @@ module _ (made : Init) (settings : Run) (mem : Once) (alike : AreAlike made sett
 
   -- Behind the head `once` stands at this place, with the state of the new store, and goes through the same lines as `run`.
   pub record AreBegun : Type 0 where
-    pub place : Place
+    pub place : ScriptPlace
     pub gives : Gives no_plan place.head values.0
     pub lines : List (List ℕ)
     pub opening : opens lines ≡ is_script script

@@ -7,8 +7,8 @@ use Rattle.script_course.specs.Courses.{Course, Goes, Stops, behind}
 use Rattle.script_places.specs.Places.{Asked, asked, next_line}
 use Rattle.script_places.specs.declared.deeds.Deed.{Deed}
 use Rattle.script_places.specs.declared.deeds.Deed.TheVariants as deed
-use Rattle.script_places.specs.declared.heads.Head.{Head}
-use Rattle.script_places.specs.declared.places.Place.{Place}
+use Rattle.script_places.specs.declared.heads.ScriptCatalog.{ScriptCatalog}
+use Rattle.script_places.specs.declared.places.ScriptPlace.{ScriptPlace}
 use Rattle.script_text.specs.Forms.{said}
 use Rattle.script_text.specs.Lines.{line_after}
 use Rattle.script_text.specs.declared.items.Item.TheVariants as item
@@ -67,11 +67,11 @@ module _ (plan : Plan) where
   Behind lines = (count : ℕ) (d : Doing) → d.place ≡ in_batches plan d.place → IsStopped (Lines lines d) → IsStopped (Lines lines (runs_as count d))
 
   -- `run` stands at the place q
-  module _ (line : List ℕ) (lines : List (List ℕ)) (count : ℕ) (d : Doing) (q : Place) (each : AreAsked plan count d q line) (rest : Behind lines) where
+  module _ (line : List ℕ) (lines : List (List ℕ)) (count : ℕ) (d : Doing) (q : ScriptPlace) (each : AreAsked plan count d q line) (rest : Behind lines) where
     abbrev At : Doing
     At = record d { place = q }
 
-    stops_taken : (after : Place) (asks : Deed) (c : Course Doing) → asked d.place (counts_of d.state) line ≡ Ok (after, asks) → on_line d line ≡ c
+    stops_taken : (after : ScriptPlace) (asks : Deed) (c : Course Doing) → asked d.place (counts_of d.state) line ≡ Ok (after, asks) → on_line d line ≡ c
         → IsStopped (Lines (line ∷ lines) d) → IsStopped (Lines (line ∷ lines) At)
     stops_taken after asks (Stops bytes) is goes h =
         let same : done (record d { place = after }) asks ≡ Stops bytes = sym (ap (λ (a : Asked). done_by d a) is) ∙ goes in
@@ -114,13 +114,13 @@ module _ (plan : Plan) where
     head_stops (line ∷ lines) count e = head_by line lines count (begins_not (opens lines) (said line) e) (λ more k. head_stops lines more k)
 
     -- behind a head that names a catalogue
-    module _ (h : Head) (named : IsNamed h) (gives : Gives no_plan h plan) where
-      abbrev OnceAt : Place → Doing
+    module _ (h : ScriptCatalog) (named : IsNamed h) (gives : Gives no_plan h plan) where
+      abbrev OnceAt : ScriptPlace → Doing
       OnceAt p = record d { place = behind_head h p }
 
-      script_by : (line : List ℕ) (lines : List (List ℕ)) (count : ℕ) (p : Place) → ((said line ≡ Ok item.Skip) × (opens lines ≡ true))
+      script_by : (line : List ℕ) (lines : List (List ℕ)) (count : ℕ) (p : ScriptPlace) → ((said line ≡ Ok item.Skip) × (opens lines ≡ true))
           ⊎ (opens_by false (said line) ≡ true)
-          → ((count : ℕ) (p : Place) → opens lines ≡ true → IsStopped (Lines lines (OnceAt p)) → IsStopped (Lines lines (RunAt count)))
+          → ((count : ℕ) (p : ScriptPlace) → opens lines ≡ true → IsStopped (Lines lines (OnceAt p)) → IsStopped (Lines lines (RunAt count)))
           → IsStopped (Lines (line ∷ lines) (OnceAt p)) → IsStopped (Lines (line ∷ lines) (RunAt count))
       script_by line lines count p (inl skip) rest stops =
           let goes = ap (λ (a : Asked). done_by (OnceAt p) a) (once_skip plan count (counts_of d.state) h p line skip.0) in
@@ -132,7 +132,7 @@ module _ (plan : Plan) where
           (λ after asks is. first_asked plan count c no_plan h p after line asks gives first is) (batches_stop lines)
           (asked (behind_head h p) c line) refl (λ why is. first_refused plan count c no_plan h p line why named gives first is) stops
 
-      pub script_stops : (lines : List (List ℕ)) (count : ℕ) (p : Place) → opens lines ≡ true → IsStopped (Lines lines (OnceAt p))
+      pub script_stops : (lines : List (List ℕ)) (count : ℕ) (p : ScriptPlace) → opens lines ≡ true → IsStopped (Lines lines (OnceAt p))
           → IsStopped (Lines lines (RunAt count))
       script_stops [] count p opening stops = absurd stops
       script_stops (line ∷ lines) count p opening stops =

@@ -16,9 +16,9 @@ use Rattle.script_places.specs.Follows.{Follows, HeadStays}
 use Rattle.script_places.specs.Places.{Asked, asked, closed_by, closing, next_line, plan_in, shut}
 use Rattle.script_places.specs.declared.deeds.Deed.{Deed}
 use Rattle.script_places.specs.declared.deeds.Deed.TheVariants as deed
-use Rattle.script_places.specs.declared.heads.Head.{Head}
-use Rattle.script_places.specs.declared.heads.Head.TheVariants as head
-use Rattle.script_places.specs.declared.places.Place.{Place}
+use Rattle.script_places.specs.declared.heads.ScriptCatalog.{ScriptCatalog}
+use Rattle.script_places.specs.declared.heads.ScriptCatalog.TheVariants as head
+use Rattle.script_places.specs.declared.places.ScriptPlace.{ScriptPlace}
 use Rattle.script_text.specs.declared.refusals.RefusalKind.{RefusalKind}
 use Rattle.script_text.specs.declared.refusals.RefusalKind.TheVariants.{Numbers, Unfinished}
 use Rattle.serving.specs.Drains.{no_calls, one_drained}
@@ -230,7 +230,7 @@ module _ (plan : Plan) (each : Bool) (saved : Saved) (past : List (ℕ × List �
     one_is : (d.state.batches + 1, text_of d) ∷ [] ≡ One
     one_is =
         let number : d.state.batches + 1 ≡ next.state.batches = sym counts in
-        let text : text_of d ≡ bytes = ap (λ (h : Head). batch_text (plan_in h) d.each d.state (onces.handed_in d)) t.head_is ∙ sym r.bytes_are in
+        let text : text_of d ≡ bytes = ap (λ (h : ScriptCatalog). batch_text (plan_in h) d.each d.state (onces.handed_in d)) t.head_is ∙ sym r.bytes_are in
         λ i. (number i, text i) ∷ []
 
     stands : StandsOver saved.c saved.later d
@@ -283,8 +283,8 @@ module _ (plan : Plan) (each : Bool) (saved : Saved) (past : List (ℕ × List �
 
 -- ---- a turn
 
-ready_stays : (h next : Head) (plan : Plan) → h ≡ head.Ready plan → HeadStays h next → next ≡ head.Ready plan
-ready_stays h next plan is stays = subst (λ (x : Head). HeadStays x next) is stays
+ready_stays : (h next : ScriptCatalog) (plan : Plan) → h ≡ head.Ready plan → HeadStays h next → next ≡ head.Ready plan
+ready_stays h next plan is stays = subst (λ (x : ScriptCatalog). HeadStays x next) is stays
 
 module _ (plan : Plan) (d : Doing) (ready : d.place.head ≡ head.Ready plan) (rows : d.place.rows_ended ≡ true)
     (counted : d.place.open_calls ≡ length d.calls) where
@@ -294,7 +294,7 @@ module _ (plan : Plan) (d : Doing) (ready : d.place.head ≡ head.Ready plan) (r
   one_more : (call : Call) → length (d.calls ++ call ∷ []) ≡ length d.calls + 1
   one_more call = length-append d.calls (call ∷ [])
 
-  module _ (after : Place) where
+  module _ (after : ScriptPlace) where
     abbrev There : Doing
     There = record d { place = after }
 
@@ -333,8 +333,8 @@ module _ (plan : Plan) (d : Doing) (ready : d.place.head ≡ head.Ready plan) (r
           rows = f.allows.rows;
           counted = f.allows.calls;
           shut_is = λ no. not_shut no;
-          bytes_are = ap (λ (x : Head). batch_text (plan_in x) d.each d.state (onces.handed_in d)) h;
-          state_is = ap (λ (x : Head). step (run_of (plan_in x)) d.state (onces.handed_in d)) h;
+          bytes_are = ap (λ (x : ScriptCatalog). batch_text (plan_in x) d.each d.state (onces.handed_in d)) h;
+          state_is = ap (λ (x : ScriptCatalog). step (run_of (plan_in x)) d.state (onces.handed_in d)) h;
         })
 
   line_by : (line : List ℕ) (a : Asked) → asked d.place (counts_of d.state) line ≡ a → TurnTo false plan d (done_by d a)
@@ -345,7 +345,7 @@ module _ (plan : Plan) (d : Doing) (ready : d.place.head ≡ head.Ready plan) (r
   line_to line = line_by line (asked d.place (counts_of d.state) line) refl
 
   -- the end of the input
-  shut_by : (p q : Place) (b : Bool) → (p.open_calls == 0) ≡ b → (if b then Ok p else Err Unfinished) ≡ Ok q → (q ≡ p) × (p.open_calls ≡ 0)
+  shut_by : (p q : ScriptPlace) (b : Bool) → (p.open_calls == 0) ≡ b → (if b then Ok p else Err Unfinished) ≡ Ok q → (q ≡ p) × (p.open_calls ≡ 0)
   shut_by p q true zero_is e = (cc, grind (arith, nat_tests, zero_is))
   shut_by p q false zero_is e = absurd cc
 
@@ -353,15 +353,15 @@ module _ (plan : Plan) (d : Doing) (ready : d.place.head ≡ head.Ready plan) (r
   none_called [] e = refl
   none_called (call ∷ calls) e = absurd (omega (arith, e))
 
-  close_by : (r : Result Place RefusalKind) → shut (next_line d.place) ≡ r → TurnTo true plan d (on_close d r)
+  close_by : (r : Result ScriptPlace RefusalKind) → shut (next_line d.place) ≡ r → TurnTo true plan d (on_close d r)
   close_by (Err why) is = tt
   close_by (Ok q) is =
       let both = shut_by (next_line d.place) q (d.place.open_calls == 0) refl is in
       inl (record {
-        head_is = ap (λ (x : Place). x.head) both.0 ∙ ready;
+        head_is = ap (λ (x : ScriptPlace). x.head) both.0 ∙ ready;
         each_is = refl;
-        rows = ap (λ (x : Place). x.rows_ended) both.0 ∙ rows;
-        counted = ap (λ (x : Place). x.open_calls) both.0 ∙ counted;
+        rows = ap (λ (x : ScriptPlace). x.rows_ended) both.0 ∙ rows;
+        counted = ap (λ (x : ScriptPlace). x.open_calls) both.0 ∙ counted;
         shut_is = λ _. none_called d.calls (sym counted ∙ both.1);
         table = refl;
         waiting = refl;
@@ -370,7 +370,7 @@ module _ (plan : Plan) (d : Doing) (ready : d.place.head ≡ head.Ready plan) (r
       })
 
   pub close_to : TurnTo true plan d (on_turn d Close)
-  close_to = close_by (closing d.place) (sym (ap (λ (h : Head). closed_by (next_line d.place) h) ready))
+  close_to = close_by (closing d.place) (sym (ap (λ (h : ScriptCatalog). closed_by (next_line d.place) h) ready))
 
   -- nothing changes
   pub stays_to : (closed : Bool) (bytes : List ℕ) → (closed ≡ true → d.calls ≡ []) → TurnTo closed plan d (Goes bytes d)
@@ -519,4 +519,4 @@ at_work plan d next closed bytes c to is counted ready =
   where
     by_to : TurnTo closed plan d (Goes bytes next) → text_of d ≡ bytes
     by_to (inl q) = absurd (let same = q.batches in omega (arith, same, counted))
-    by_to (inr r) = ap (λ (h : Head). batch_text (plan_in h) d.each d.state (onces.handed_in d)) ready ∙ sym r.bytes_are
+    by_to (inr r) = ap (λ (h : ScriptCatalog). batch_text (plan_in h) d.each d.state (onces.handed_in d)) ready ∙ sym r.bytes_are

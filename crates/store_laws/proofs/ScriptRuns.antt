@@ -6,8 +6,8 @@ use Rattle.script_course.specs.Courses.{Course, Goes, Stops, behind}
 use Rattle.script_places.specs.Places.{Asked, asked, next_line}
 use Rattle.script_places.specs.declared.deeds.Deed.{Deed}
 use Rattle.script_places.specs.declared.deeds.Deed.TheVariants as deed
-use Rattle.script_places.specs.declared.heads.Head.{Head}
-use Rattle.script_places.specs.declared.places.Place.{Place}
+use Rattle.script_places.specs.declared.heads.ScriptCatalog.{ScriptCatalog}
+use Rattle.script_places.specs.declared.places.ScriptPlace.{ScriptPlace}
 use Rattle.script_text.specs.Forms.{said}
 use Rattle.script_text.specs.Lines.{line_after}
 use Rattle.script_text.specs.declared.items.Item.TheVariants as item
@@ -25,16 +25,16 @@ use Rattle.store_laws.proofs.Ended.{EndsLike, ends_batches, ends_behind, goes_be
 -- ---- a line
 
 -- a course that goes on at another place
-abbrev placed : (Place → Place) → Course Doing → Course Doing
+abbrev placed : (ScriptPlace → ScriptPlace) → Course Doing → Course Doing
 placed f (Goes bytes d) = Goes bytes (record d { place = f d.place })
 placed f (Stops bytes) = Stops bytes
 
-abbrev place_or : Place → Course Doing → Place
+abbrev place_or : ScriptPlace → Course Doing → ScriptPlace
 place_or p (Goes bytes d) = d.place
 place_or p (Stops bytes) = p
 
 -- what is done goes by the catalogue of the place alone
-done_run : (d : Doing) (lines : ℕ) (after : Place) (asks : Deed)
+done_run : (d : Doing) (lines : ℕ) (after : ScriptPlace) (asks : Deed)
     → done (record d { place = as_run lines after }) asks ≡ placed (as_run lines) (done (record d { place = after }) asks)
 done_run d lines after deed.Nothing = refl
 done_run d lines after (deed.Put key row) = refl
@@ -44,7 +44,7 @@ done_run d lines after (deed.Keep number) = refl
 done_run d lines after deed.Run = refl
 done_run d lines after deed.Tell = refl
 
-done_place : (d : Doing) (after : Place) (asks : Deed) → place_or after (done (record d { place = after }) asks) ≡ after
+done_place : (d : Doing) (after : ScriptPlace) (asks : Deed) → place_or after (done (record d { place = after }) asks) ≡ after
 done_place d after deed.Nothing = refl
 done_place d after (deed.Put key row) = refl
 done_place d after (deed.Call call) = refl
@@ -54,14 +54,14 @@ done_place d after deed.Run = refl
 done_place d after deed.Tell = refl
 
 -- `run` stands at the place q, behind so many lines
-module _ (plan : Plan) (lines : ℕ) (d : Doing) (q : Place) where
+module _ (plan : Plan) (lines : ℕ) (d : Doing) (q : ScriptPlace) where
   pub record IsRun (line bytes : List ℕ) (next : Doing) : Type 0 where
     pub goes : on_line (record d { place = q }) line ≡ Goes bytes (runs_as (line_after lines) next)
     pub place_is : next.place ≡ in_batches plan next.place
 
   -- a line that `run` takes as `once` does
   abbrev pub AreAsked : List ℕ → Type 0
-  AreAsked line = (after : Place) (asks : Deed) → asked d.place (counts_of d.state) line ≡ Ok (after, asks)
+  AreAsked line = (after : ScriptPlace) (asks : Deed) → asked d.place (counts_of d.state) line ≡ Ok (after, asks)
       → IsAskedTo plan lines q (counts_of d.state) line after asks
 
   run_by : (line bytes : List ℕ) (next : Doing) (a : Asked) → asked d.place (counts_of d.state) line ≡ a → AreAsked line → done_by d a ≡ Goes bytes next
@@ -75,7 +75,7 @@ module _ (plan : Plan) (lines : ℕ) (d : Doing) (q : Place) where
             ap (λ (a : Asked). done_by (record d { place = q }) a) run.asked_run
             ∙ done_run d (line_after lines) r.0 r.1
             ∙ ap (λ (c : Course Doing). placed (as_run (line_after lines)) c) goes;
-        place_is = place_is ∙ run.place_is ∙ ap (λ (p : Place). in_batches plan p) (sym place_is);
+        place_is = place_is ∙ run.place_is ∙ ap (λ (p : ScriptPlace). in_batches plan p) (sym place_is);
       }
 
   pub run_line : (line bytes : List ℕ) (next : Doing) → AreAsked line → on_line d line ≡ Goes bytes next → IsRun line bytes next
@@ -90,7 +90,7 @@ pub record RunsTo (lines : List (List ℕ)) (d e : Doing) (printed : List ℕ) (
   pub answered : answers (map Line lines) e ≡ answers (map Line lines) d
   pub like : EndsLike last end
 
-run_then : (line : List ℕ) (lines : List (List ℕ)) (d next : Doing) (q after : Place) (bytes printed : List ℕ) (last : Doing) → on_line d line ≡ Goes bytes next
+run_then : (line : List ℕ) (lines : List (List ℕ)) (d next : Doing) (q after : ScriptPlace) (bytes printed : List ℕ) (last : Doing) → on_line d line ≡ Goes bytes next
     → on_line (record d { place = q }) line ≡ Goes bytes (record next { place = after }) → over on_turn (map Line (line ∷ lines)) d ≡ Goes printed last
     → ((more : List ℕ) → over on_turn (map Line lines) next ≡ Goes more last → RunsTo lines next (record next { place = after }) more last)
     → RunsTo (line ∷ lines) d (record d { place = q }) printed last
@@ -119,7 +119,7 @@ module _ (plan : Plan) where
       → RunsTo lines d (runs_as count d) printed last
 
   -- where `run` takes the first of them
-  then_batches : (line : List ℕ) (lines : List (List ℕ)) (count : ℕ) (d last : Doing) (q : Place) (printed : List ℕ) (c : Course Doing) → on_line d line ≡ c
+  then_batches : (line : List ℕ) (lines : List (List ℕ)) (count : ℕ) (d last : Doing) (q : ScriptPlace) (printed : List ℕ) (c : Course Doing) → on_line d line ≡ c
       → AreAsked plan count d q line
       → BatchesOver lines → over on_turn (map Line (line ∷ lines)) d ≡ Goes printed last → RunsTo (line ∷ lines) d (record d { place = q }) printed last
   then_batches line lines count d last q printed (Stops bytes) is each rest goes =
@@ -147,14 +147,14 @@ module _ (plan : Plan) where
       (λ after asks is. batch_asked plan count d.place after (counts_of d.state) line asks at is) (batches_over lines) goes
 
   -- behind a head
-  module _ (h : Head) (gives : Gives no_plan h plan) (d last : Doing) where
-    abbrev OnceAt : Place → Doing
+  module _ (h : ScriptCatalog) (gives : Gives no_plan h plan) (d last : Doing) where
+    abbrev OnceAt : ScriptPlace → Doing
     OnceAt p = record d { place = behind_head h p }
 
     abbrev RunAt : ℕ → Doing
     RunAt count = record d { place = before_batches plan count }
 
-    script_none : (count : ℕ) (p : Place) (printed : List ℕ) → Goes [] (OnceAt p) ≡ Goes printed last → RunsTo [] (OnceAt p) (RunAt count) printed last
+    script_none : (count : ℕ) (p : ScriptPlace) (printed : List ℕ) → Goes [] (OnceAt p) ≡ Goes printed last → RunsTo [] (OnceAt p) (RunAt count) printed last
     script_none count p printed goes =
         let q = before_batches plan count in
         let here : EndsLike (OnceAt p) (RunAt count) = ends_behind plan d p h count gives in
@@ -166,10 +166,10 @@ module _ (plan : Plan) where
         }
 
     abbrev ScriptOver : List (List ℕ) → Type 0
-    ScriptOver lines = (count : ℕ) (p : Place) (printed : List ℕ) → opens lines ≡ true → over on_turn (map Line lines) (OnceAt p) ≡ Goes printed last
+    ScriptOver lines = (count : ℕ) (p : ScriptPlace) (printed : List ℕ) → opens lines ≡ true → over on_turn (map Line lines) (OnceAt p) ≡ Goes printed last
         → RunsTo lines (OnceAt p) (RunAt count) printed last
 
-    script_by : (line : List ℕ) (lines : List (List ℕ)) (count : ℕ) (p : Place) (printed : List ℕ) → ((said line ≡ Ok item.Skip) × (opens lines ≡ true))
+    script_by : (line : List ℕ) (lines : List (List ℕ)) (count : ℕ) (p : ScriptPlace) (printed : List ℕ) → ((said line ≡ Ok item.Skip) × (opens lines ≡ true))
         ⊎ (opens_by false (said line) ≡ true)
         → ScriptOver lines → over on_turn (map Line (line ∷ lines)) (OnceAt p) ≡ Goes printed last → RunsTo (line ∷ lines) (OnceAt p) (RunAt count) printed last
     script_by line lines count p printed (inl skip) rest goes =

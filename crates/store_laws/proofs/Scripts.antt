@@ -8,10 +8,10 @@ use Rattle.proc_lang.specs.Catalogs.{Plan}
 use Rattle.script_places.specs.Places.{Asked, asked, at_call, at_end, at_item, at_settings, calls, closed, next_line, runs, sets}
 use Rattle.script_places.specs.declared.deeds.Deed.{Deed}
 use Rattle.script_places.specs.declared.deeds.Deed.TheVariants as deed
-use Rattle.script_places.specs.declared.heads.Head.TheVariants as head
+use Rattle.script_places.specs.declared.heads.ScriptCatalog.TheVariants as head
 use Rattle.script_places.specs.declared.places.Counts.{Counts}
 use Rattle.script_places.specs.declared.places.Mode.TheVariants as mode
-use Rattle.script_places.specs.declared.places.Place.{Place}
+use Rattle.script_places.specs.declared.places.ScriptPlace.{ScriptPlace}
 use Rattle.script_text.specs.Fits.{and_then, placed_call, placed_settings}
 use Rattle.script_text.specs.Forms.{said}
 use Rattle.script_text.specs.Lines.{line_after}
@@ -24,14 +24,14 @@ use Rattle.store_laws.specs.Texts.{opens_by}
 -- ---- places
 
 -- a place of `once` with this catalogue, whether or not a row may stand there, and one behind which none may
-abbrev pub ready : Plan → Place → Place
+abbrev pub ready : Plan → ScriptPlace → ScriptPlace
 ready plan p = record p { mode = mode.Once; head = head.Ready plan; reports = false }
 
-abbrev pub in_batches : Plan → Place → Place
+abbrev pub in_batches : Plan → ScriptPlace → ScriptPlace
 in_batches plan p = record p { mode = mode.Once; head = head.Ready plan; rows_ended = true; reports = false }
 
 -- the same place of `run`, behind so many lines
-abbrev pub as_run : ℕ → Place → Place
+abbrev pub as_run : ℕ → ScriptPlace → ScriptPlace
 as_run lines p = record p { mode = mode.Run; lines = lines }
 
 -- what cannot be, apart from what else is known: a catalogue that is named is a large term
@@ -41,7 +41,7 @@ never e = absurd cc
 -- ---- what the one takes the other takes, and what it refuses the other refuses
 
 module _ (plan : Plan) (lines : ℕ) where
-  pub record Ran (r : Place × Deed) (other : Asked) : Type 0 where
+  pub record Ran (r : ScriptPlace × Deed) (other : Asked) : Type 0 where
     pub asked_run : other ≡ Ok (as_run lines r.0, r.1)
     pub place_is : r.0 ≡ in_batches plan r.0
 
@@ -57,15 +57,15 @@ module _ (plan : Plan) (lines : ℕ) where
   runs_then f g (Ok t) h = h t
   runs_then f g (Err why) h = refl
 
-  at_rest : (p : Place) (asks : Deed) → Runs (Ok (in_batches plan p, asks)) (Ok (as_run lines (in_batches plan p), asks))
+  at_rest : (p : ScriptPlace) (asks : Deed) → Runs (Ok (in_batches plan p, asks)) (Ok (as_run lines (in_batches plan p), asks))
   at_rest p asks = record { asked_run = refl; place_is = refl }
 
   -- calls, ends and settings: they end the rows
-  module _ (c : Counts) (p : Place) where
-    abbrev O : Place
+  module _ (c : Counts) (p : ScriptPlace) where
+    abbrev O : ScriptPlace
     O = ready plan p
 
-    abbrev R : Place
+    abbrev R : ScriptPlace
     R = as_run lines (in_batches plan p)
 
     runs_call : (proc : List ℕ) (args : List Arg) → Runs (at_call O proc args) (at_call R proc args)
@@ -111,7 +111,7 @@ module _ (plan : Plan) (lines : ℕ) where
     opening_item (item.Settings name percent) e = runs_settings name percent
 
   -- every line behind the first of these
-  runs_item : (c : Counts) (p : Place) (i : Item) → Runs (at_item (in_batches plan p) c i) (at_item (as_run lines (in_batches plan p)) c i)
+  runs_item : (c : Counts) (p : ScriptPlace) (i : Item) → Runs (at_item (in_batches plan p) c i) (at_item (as_run lines (in_batches plan p)) c i)
   runs_item c p item.Skip = at_rest p deed.Nothing
   runs_item c p (item.Catalog name) = refl
   runs_item c p (item.Piece piece) = refl
@@ -122,7 +122,7 @@ module _ (plan : Plan) (lines : ℕ) where
   runs_item c p (item.Settings name percent) = runs_settings c (record p { rows_ended = true }) name percent
 
 module _ (plan : Plan) (lines : ℕ) where
-  runs_line : (c : Counts) (p : Place) (line : List ℕ) → Runs plan (line_after lines) (asked (in_batches plan p) c line)
+  runs_line : (c : Counts) (p : ScriptPlace) (line : List ℕ) → Runs plan (line_after lines) (asked (in_batches plan p) c line)
       (asked (as_run lines (in_batches plan p)) c line)
   runs_line c p line =
       let q = next_line p in
@@ -130,25 +130,25 @@ module _ (plan : Plan) (lines : ℕ) where
       (λ i. runs_item plan (line_after lines) c q i)
 
   -- what `run` is asked for by a line that `once` takes
-  pub record IsAskedTo (q : Place) (c : Counts) (line : List ℕ) (after : Place) (asks : Deed) : Type 0 where
+  pub record IsAskedTo (q : ScriptPlace) (c : Counts) (line : List ℕ) (after : ScriptPlace) (asks : Deed) : Type 0 where
     pub asked_run : asked q c line ≡ Ok (as_run (line_after lines) after, asks)
     pub place_is : after ≡ in_batches plan after
 
-  pub is_asked : (q after : Place) (c : Counts) (line : List ℕ) (asks : Deed) (given : Asked) → given ≡ Ok (after, asks)
+  pub is_asked : (q after : ScriptPlace) (c : Counts) (line : List ℕ) (asks : Deed) (given : Asked) → given ≡ Ok (after, asks)
       → Runs plan (line_after lines) given (asked q c line) → IsAskedTo q c line after asks
   is_asked q after c line asks given is r =
       let ran : Ran plan (line_after lines) (after, asks) (asked q c line) = subst (λ (a : Asked). Runs plan (line_after lines) a (asked q c line)) is r in
       record { asked_run = ran.asked_run; place_is = ran.place_is }
 
-  pub batch_asked : (p after : Place) (c : Counts) (line : List ℕ) (asks : Deed) → p ≡ in_batches plan p → asked p c line ≡ Ok (after, asks)
+  pub batch_asked : (p after : ScriptPlace) (c : Counts) (line : List ℕ) (asks : Deed) → p ≡ in_batches plan p → asked p c line ≡ Ok (after, asks)
       → IsAskedTo (as_run lines p) c line after asks
   batch_asked p after c line asks at is =
       is_asked (as_run lines p) after c line asks (asked p c line) is
-      (subst (λ (q : Place). Runs plan (line_after lines) (asked q c line) (asked (as_run lines q) c line)) (sym at) (runs_line c p line))
+      (subst (λ (q : ScriptPlace). Runs plan (line_after lines) (asked q c line) (asked (as_run lines q) c line)) (sym at) (runs_line c p line))
 
   -- what `once` refuses
-  pub batch_refused : (p : Place) (c : Counts) (line : List ℕ) (why : RefusalKind) → p ≡ in_batches plan p → asked p c line ≡ Err why
+  pub batch_refused : (p : ScriptPlace) (c : Counts) (line : List ℕ) (why : RefusalKind) → p ≡ in_batches plan p → asked p c line ≡ Err why
       → asked (as_run lines p) c line ≡ Err why
   batch_refused p c line why at is =
-      let r = subst (λ (q : Place). Runs plan (line_after lines) (asked q c line) (asked (as_run lines q) c line)) (sym at) (runs_line c p line) in
+      let r = subst (λ (q : ScriptPlace). Runs plan (line_after lines) (asked q c line) (asked (as_run lines q) c line)) (sym at) (runs_line c p line) in
       subst (λ (a : Asked). Runs plan (line_after lines) a (asked (as_run lines p) c line)) is r

@@ -36,7 +36,7 @@ use Rattle.store_files.specs.Stores.{Rests, slot_in}
 use Rattle.store_openings.specs.Openings.{AreRunnable, LeavesUnwritten, log_in, offset_at, offset_in}
 use Rattle.store_openings.specs.Refusals.{IsForDelivery, IsRotating}
 use Rattle.store_openings.specs.Runs.{IsFoundAs, IsLook, IsNotFound, IsNotKept, IsNotRun, IsOpenedFrom, IsRerun, IsStoreOf, IsWithStore, LeftOrRun}
-use Rattle.store_openings.specs.declared.engines.Engines.{Engines}
+use Rattle.store_openings.specs.declared.engines.RunSettings.{RunSettings}
 use Rattle.store_openings.specs.declared.refusals.NotOpened.{NotOpened}
 use Rattle.store_openings.specs.declared.refusals.NotOpened.TheVariants as refused
 
@@ -176,7 +176,7 @@ fit_from start c later plan state fit =
     subst (λ (p : Plan). AreRunnable p (state_of start).batches (state_of start).requests later) (sym plan)
     (subst (λ (s : State). AreRunnable c.plan s.batches s.requests later) (sym state) fit)
 
-pub found_as : (engines : Engines) (c : Checkpoint) (later : List Batch) (start live : Live) → plan_of start ≡ c.plan → state_of start ≡ state_at c
+pub found_as : (engines : RunSettings) (c : Checkpoint) (later : List Batch) (start live : Live) → plan_of start ≡ c.plan → state_of start ≡ state_at c
     → start.each ≡ engines.each → length start.replicas ≡ engines.replicas → start.config.workers ≡ engines.workers → IsRerun start later live
     → IsFoundAs engines c later live
 found_as engines c later start live plan state each count workers r = record {
@@ -234,7 +234,7 @@ by_true : (c : Checkpoint) (later : List Batch) (plan : Plan) (state : State) (i
 by_true c later plan state images due (inl h) = inl h
 by_true c later plan state images due (inr h) = inr (refl, h.1)
 
-pub opened_from : (disk : History) (engines : Engines) (c : Checkpoint) (later : List Batch) (live next : Live) → IsFoundAs engines c later live
+pub opened_from : (disk : History) (engines : RunSettings) (c : Checkpoint) (later : List Batch) (live next : Live) → IsFoundAs engines c later live
     → IsWithStore disk engines.checkpoint live next → IsOpenedFrom disk engines c later next
 opened_from disk engines c later live next f k = record {
   found = record {
@@ -252,11 +252,11 @@ opened_from disk engines c later live next f k = record {
   settings = k.settings;
 }
 
-pub held_found : (disk : History) (store : Kept) (engines : Engines) (c : Checkpoint) (later : List Batch) (live : Live) → IsFoundAs engines c later live
+pub held_found : (disk : History) (store : Kept) (engines : RunSettings) (c : Checkpoint) (later : List Batch) (live : Live) → IsFoundAs engines c later live
     → Stands disk store c later → IsHeld disk (plan_of live) (state_of live) store c later
 held_found disk store engines c later live f stands = record { stands = stands; roomy = f.roomy; plan_is = sym f.plan; state_is = sym f.state }
 
-pub run_leaves : (old new : History) (engines : Engines) (c : Checkpoint) (later : List Batch) (live : Live) (due : Bool) → IsFoundAs engines c later live
+pub run_leaves : (old new : History) (engines : RunSettings) (c : Checkpoint) (later : List Batch) (live : Live) (due : Bool) → IsFoundAs engines c later live
     → LeavesAll old new (ReopensBy due c later (plan_of live) (state_of live)) → LeavesAll old new (LeftOrRun old c later)
 run_leaves old new engines c later live due f all =
     leaves_more old new (ReopensBy due c later (plan_of live) (state_of live)) (LeftOrRun old c later) all (λ images is. inr (

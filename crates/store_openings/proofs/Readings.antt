@@ -22,7 +22,7 @@ use Rattle.store_files.specs.declared.refusals.StoreRefused.TheVariants as of_st
 use Rattle.store_openings.specs.Openings.{IsFaultOf, IsOpenedAs, IsRefusalOf, LeavesUnwritten, ReadsAs, ReopensToOpened, log_in, offset_in, opened, opened_at}
 use Rattle.store_openings.specs.Refusals.{IsAttaching, IsFor}
 use Rattle.store_openings.specs.Runs.{IsCrowdAt, IsFoundAs, IsNotFound, LeftOrRun}
-use Rattle.store_openings.specs.declared.engines.Engines.{Engines}
+use Rattle.store_openings.specs.declared.engines.RunSettings.{RunSettings}
 use Rattle.store_openings.specs.declared.refusals.NotOpened.{NotOpened}
 use Rattle.store_openings.specs.declared.refusals.NotOpened.TheVariants as refusal
 
@@ -100,7 +100,7 @@ opened_crowded disk images reads c later file at crowd =
     seen_in (current disk (log_in c)) (images (log_in c)) (λ l. at ≡ offset_in (log_of l) crowd.0) (reads (log_in c) (log_low c)) crowd.3 in
     ap (λ (p : Option ℕ). opened_at images c later p) crowd.1 ∙ sym (λ i. Damaged (crowd.2 i) (offset i))
 
-pub opened_as : (images : ℕ → List ℕ) (engines : Engines) (c : Checkpoint) (later : List Batch) (found : Reopened) (live : Live)
+pub opened_as : (images : ℕ → List ℕ) (engines : RunSettings) (c : Checkpoint) (later : List Batch) (found : Reopened) (live : Live)
     → IsFoundAs engines c later live
     → found ≡ Found c later → IsOpenedAs (opened images found) live
 opened_as images engines c later found live f same =

@@ -16,7 +16,7 @@ use Rattle.slot_images.specs.Images.{Checkpoint}
 use Rattle.store_files.specs.Stores.{Rests}
 use Rattle.store_openings.specs.Openings.{log_in, offset_in}
 use Rattle.store_openings.specs.Saved.{Saved}
-use Rattle.store_openings.specs.declared.engines.Engines.{Engines}
+use Rattle.store_openings.specs.declared.engines.RunSettings.{RunSettings}
 use Rattle.store_openings.specs.declared.refusals.NotOpened.{NotOpened}
 use Rattle.store_openings.specs.declared.refusals.NotOpened.TheVariants as refusal
 use Rattle.store_openings.specs.declared.steps.Halt.{Halt}
@@ -59,7 +59,7 @@ IsHalt plan state later (halt.Crowded place) = crowded_from plan 0 state later �
 -- ---- the database of what was found
 
 -- it is that of the checkpoint and the batches behind it, which all had room, and is run in this way
-pub record IsFoundAs (engines : Engines) (c : Checkpoint) (later : List Batch) (live : Live) : Type 0 where
+pub record IsFoundAs (engines : RunSettings) (c : Checkpoint) (later : List Batch) (live : Live) : Type 0 where
   pub roomy : crowded c later ≡ None
   pub plan : plan_of live ≡ c.plan
   pub state : state_of live ≡ state_behind c later
@@ -125,7 +125,7 @@ IsNotKept old new store refusal.NoMemory = ⊤
 -- ---- both
 
 -- what was found, with its store
-pub record IsOpenedFrom (disk : History) (engines : Engines) (c : Checkpoint) (later : List Batch) (live : Live) : Type 0 where
+pub record IsOpenedFrom (disk : History) (engines : RunSettings) (c : Checkpoint) (later : List Batch) (live : Live) : Type 0 where
   pub found : IsFoundAs engines c later live
   pub checkpoint : live.checkpoint ≡ engines.checkpoint
   pub logging : IsLogging disk live

@@ -15,7 +15,7 @@ use std::alloc::Global;
 
 /// How an opened database is run. None of these has a say in what its batches come to.
 #[derive(Clone, Copy, Debug, PartialEq, Eq)]
-pub struct Engines {
+pub struct RunSettings {
     /// How many replicas run each batch, from 1 to 8.
     pub replicas: u32,
     /// In how many workers each of them, from 1 to 64.
@@ -29,7 +29,7 @@ pub struct Engines {
 }
 
 /// The database of a checkpoint, without a store. It lays no checkpoints.
-pub fn begin(alloc: Global, engines: &Engines, image: Image) -> Result<Live, Memory>
+pub fn begin(alloc: Global, engines: &RunSettings, image: Image) -> Result<Live, Memory>
     requires workers { (1 ≤ engines.now.workers) × (engines.now.workers ≤ MOST_WORKERS) }
     requires replicas { (1 ≤ engines.now.replicas) × (engines.now.replicas ≤ MOST_REPLICAS) }
     requires fallback { image.fallback ≤ MOST_PERCENT }

@@ -21,7 +21,7 @@ mod refusals;
 mod steps;
 
 pub use damages::damage_at;
-pub use engines::{Engines, begin, log_of};
+pub use engines::{RunSettings, begin, log_of};
 pub use openings::open;
 pub use refusals::NotOpened;
 pub use steps::{is_crowded, rerun, settings_with, with_settings};

@@ -18,7 +18,7 @@ ghost use Rattle.store_openings.specs.Runs.{IsFoundAs, IsNotFound, IsNotKept, Is
 ghost use Rattle.store_openings.specs.Saved.{HoldsSaved, is_full, renewed, saved_in};
 
 use crate::damages::damage_at;
-use crate::engines::{Engines, begin, log_of};
+use crate::engines::{RunSettings, begin, log_of};
 use crate::refusals::{NotOpened, not_attached, not_rotated};
 use crate::steps::{Halt, rerun_all};
 use aria_base::{Memory, Pace};
@@ -39,7 +39,7 @@ use std::thread::Threads;
 pub fn open<D: Disk, P: Pace + Sync, R: Threads + Sync>(
     rt: &R,
     alloc: Global,
-    engines: &Engines,
+    engines: &RunSettings,
     disk: &mut D,
     pace: &P,
 ) -> Result<Live, NotOpened>
@@ -89,7 +89,7 @@ pub fn open<D: Disk, P: Pace + Sync, R: Threads + Sync>(
 fn open_found<D: Disk, P: Pace + Sync, R: Threads + Sync>(
     rt: &R,
     alloc: Global,
-    engines: &Engines,
+    engines: &RunSettings,
     store: Store,
     found: Found,
     disk: &mut D,
@@ -123,7 +123,7 @@ fn open_found<D: Disk, P: Pace + Sync, R: Threads + Sync>(
 fn rerun_found<D: Disk, P: Pace + Sync, R: Threads + Sync>(
     rt: &R,
     alloc: Global,
-    engines: &Engines,
+    engines: &RunSettings,
     found: Found,
     disk: &mut D,
     pace: &P,

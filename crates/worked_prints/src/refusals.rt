@@ -1,7 +1,7 @@
 // Refusals, and lines that stand alone.
 use crate::checks::same;
 use answer_text::{
-    Refused, append_at, append_damaged, append_kept, print_refusal, ready_line, refused_line,
+    NotDone, append_at, append_damaged, append_kept, print_refusal, ready_line, refused_line,
 };
 use aria_base::Memory;
 use script_text::{CatFault, Refusal, RefusalKind};
@@ -54,7 +54,7 @@ batch 4611686018427387904 kept
 
 fn notices(alloc: Global) -> Result<Vec<u8>, Memory> {
     let mut out = Vec::from_slice(alloc, ready_line())?;
-    for refused in [Refused::Usage, Refused::NoStore, Refused::StoreExists] {
+    for refused in [NotDone::Usage, NotDone::NoStore, NotDone::StoreExists] {
         out.extend_from_slice(refused_line(refused))?;
     }
     append_damaged(&mut out, 3, 18)?;

@@ -4,14 +4,14 @@ ghost use Rattle.worked_scripts.specs.Echoes.{echo_line, word_of};
 
 use aria_base::Sink;
 use script_course::{Reads, Stop, give, refuse};
-use script_places::{Counts, Deed, Place};
+use script_places::{Counts, Deed, ScriptPlace};
 use script_text::LinesRefused;
 use std::alloc::Global;
 
 /// A script of which each line is answered by a word; the counts are the same at each.
 #[derive(Drop)]
 pub struct Echo {
-    pub place: Place,
+    pub place: ScriptPlace,
     pub counts: Counts,
 }
 

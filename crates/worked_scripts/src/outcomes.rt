@@ -6,7 +6,7 @@ use answer_text::print_refusal;
 use aria_base::{MemSink, MemSource};
 use cat_builtin::builtin;
 use script_course::{MOST_BYTES, Stop, read_through};
-use script_places::{Counts, Mode, Place};
+use script_places::{Counts, Mode, ScriptPlace};
 use script_text::{LinesRefused, Refusal};
 use std::alloc::Global;
 use std::fmt::Debug;
@@ -28,13 +28,13 @@ pub fn same<T: PartialEq + Debug>(rt: &impl Abort, case: &impl Debug, found: &T,
 /// A script of this command of which nothing was read. That of `run` is read with the bank.
 pub fn start(alloc: Global, mode: Mode, counts: Counts) -> Result<Echo, Fail> {
     if mode != Mode::Run {
-        let place = Place::start(mode);
+        let place = ScriptPlace::start(mode);
         return Ok(Echo { place, counts });
     }
     let Some(bank) = builtin(alloc, b"bank")? else {
         return Err(Fail::new("there is a bank"));
     };
-    let place = Place::start_with(mode, bank);
+    let place = ScriptPlace::start_with(mode, bank);
     Ok(Echo { place, counts })
 }
 
@@ -106,7 +106,7 @@ fn add_end(alloc: Global, read: Result<Echo, Stop>, found: &mut Vec<u8>) -> Resu
     }
 }
 
-fn add_closing(alloc: Global, place: Place, found: &mut Vec<u8>) -> Result<(), Fail> {
+fn add_closing(alloc: Global, place: ScriptPlace, found: &mut Vec<u8>) -> Result<(), Fail> {
     match place.close(alloc).err() {
         None => {
             found.extend_from_slice(b"end")?;

@@ -1,7 +1,7 @@
 use Rattle.std.proofs.Common.{subst, ℕ, List}
 use Rattle.std.specs.Io.KnownBytes.{Appends}
 use Rattle.answer_text.specs.Notices.{refused_text}
-use Rattle.answer_text.specs.declared.notices.Refused.TheVariants.{Usage}
+use Rattle.answer_text.specs.declared.notices.NotDone.TheVariants.{Usage}
 use Rattle.script_course.proofs.Turns.{front_all}
 use Rattle.aria_top.proofs.top_call.refuse_usage.Goals as goal
 

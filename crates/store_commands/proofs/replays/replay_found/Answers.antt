@@ -7,7 +7,7 @@ use Rattle.serving.specs.Lives.{plan_of, state_of}
 use Rattle.serving.specs.Stored.{state_at}
 use Rattle.slot_images.specs.Said.{checkpoint_in}
 use Rattle.store_openings.specs.Openings.{log_in}
-use Rattle.store_openings.specs.declared.engines.Engines.{Engines}
+use Rattle.store_openings.specs.declared.engines.RunSettings.{RunSettings}
 use Rattle.store_commands.proofs.Replayed.{fit_from, read_from, replayed_from}
 use Rattle.store_commands.proofs.replays.replay_found.Goals as goal
 
@@ -24,6 +24,6 @@ returns-in-Ok-clause-output g c bytes reads =
     subst (λ (out : Out). Finishes out (g.K.Sink.given c.args.out.now) (g.K.Sink.given c.replay_later.new.out) c.replay_later.result)
     (replayed_from bytes (batches_in c.args.found.later.items) (plan_of c.in-Ok.live) c.args.found.image.catalog c.in-Ok.live.each
     (is_each c.args.settings.now.listing) c.log_of-log.result (log_in c0)
-    (state_of c.in-Ok.live) (state_at c0) c.in-Ok.ensures.plan (c.in-Ok.ensures.each ∙ ap (λ (e : Engines). e.each) c.engines_of-engines.ensures)
+    (state_of c.in-Ok.live) (state_at c0) c.in-Ok.ensures.plan (c.in-Ok.ensures.each ∙ ap (λ (e : RunSettings). e.each) c.engines_of-engines.ensures)
     c.log_of-log.ensures.log c.in-Ok.ensures.state)
     (c.replay_later.ensures.output bytes (read_from old c.log_of-log.result (log_in c0) bytes c.log_of-log.ensures.log reads))
