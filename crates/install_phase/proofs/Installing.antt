@@ -55,17 +55,6 @@ same_changes tid rows (outcome ∷ outcomes) [] = refl
 same_changes tid rows (outcome ∷ outcomes) (Finish raw ∷ verdicts) = same_changes (tid + 1) (overwritten rows outcome.writes) outcomes verdicts
 same_changes tid rows (outcome ∷ outcomes) (Wait cause ∷ verdicts) = same_changes (tid + 1) rows outcomes verdicts
 
--- the last change may be made first
-overwritten-push : (db : Database) (ws : Written) (w : Key × Option Cells) → overwritten db (ws ++ w ∷ []) ≡ overwritten (set_at db w.0 w.1) ws
-overwritten-push db [] w = refl
-overwritten-push db (v ∷ vs) w = ap (λ m. set_at m v.0 v.1) (overwritten-push db vs w)
-
-pub last_put : (db new all : Database) (ws rest : Written) (key : Key) (found row : Option Cells) → ws ≡ rest ++ (key, found) ∷ [] → found ≡ row
-    → new ≡ set_at db key row → overwritten db ws ≡ all
-    → overwritten new rest ≡ all
-last_put db new all ws rest key found row e f n was =
-    ap (λ m. overwritten m rest) n ∙ sym (ap (overwritten db) (e ∙ ap (λ r. rest ++ (key, r) ∷ []) f) ∙ overwritten-push db rest (key, row)) ∙ was
-
 -- ---- requests, one after the other
 
 -- the first request of those that are still to be installed

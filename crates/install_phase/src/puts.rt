@@ -1,13 +1,13 @@
 // Writes that one worker makes, without dealing them.
-ghost use Rattle.std.specs.Prelude.{◌≡◌, IfOk, OnOk, None, if◌then◌else◌};
+ghost use Rattle.std.specs.Prelude.{◌≡◌, IfOk, OnOk, if◌then◌else◌};
 ghost use Rattle.batch_rules.specs.Verdicts.{finishes};
 ghost use Rattle.batch_rules.specs.Touches.{overwritten};
-ghost use Rattle.batch_rules.specs.Trees.{set_at};
 ghost use Rattle.install_phase.specs.Installs.{after_changes};
 
-use aria_base::{Changes, Key, Memory, Pace, Place};
+use aria_base::{Changes, Memory, Pace, Place};
 use batch_rules::verdicts::Verdict;
 use tbl_rows::Tables;
+use tbl_snapshot::put_change;
 
 /// The tables with the writes of all that finish, one request after the other. The caller makes them.
 pub(crate) fn put_finishing<P: Pace>(
@@ -52,17 +52,7 @@ fn put_all<P: Pace>(tables: &mut Tables, changes: Changes, pace: &P) -> Result<(
     let mut changes = changes.into_vec();
     while let Some((key, row)) = changes.pop() {
         pace.at(0, Place::Install);
-        match row {
-            Some(row) => tables.put(key, row)?,
-            None => remove(tables, key),
-        }
+        put_change(tables, key, row)?;
     }
     Ok(())
-}
-
-/// Deletes the row at the key, if there is one.
-fn remove(tables: &mut Tables, key: Key)
-    ensures { tables.new ≡ set_at tables.old key None }
-{
-    tables.delete(&key);
 }

@@ -1,22 +1,22 @@
 // The requests of an order, run one after the other.
-ghost use Rattle.std.specs.Prelude.{◌≡◌, map, IfOk, OnOk, None};
+ghost use Rattle.std.specs.Prelude.{◌≡◌, map, IfOk, OnOk};
 ghost use Rattle.std.specs.BTreeMap as tree;
 ghost use Rattle.std.specs.Map.Iter.{deref};
 ghost use Rattle.std.specs.Ordering.{nat_cmp};
 ghost use Rattle.batch_rules.specs.Serials.{serial_map};
-ghost use Rattle.batch_rules.specs.Touches.{map_after, overwritten};
-ghost use Rattle.batch_rules.specs.Trees.{end_of, set_at};
+ghost use Rattle.batch_rules.specs.Touches.{map_after};
+ghost use Rattle.batch_rules.specs.Trees.{end_of};
 ghost use Rattle.proc_lang.specs.Catalogs.{run_of};
 ghost use Rattle.proc_lang.specs.Meaning.{is_done};
 ghost use Rattle.serial_check.specs.Runs.{end_in};
 
-use aria_base::{Changes, Key, Memory, Request};
+use aria_base::{Memory, Request};
 use exec_phase::execute;
 use proc_lang::{Catalog, End};
 use std::alloc::Global;
 use std::collections::BTreeMap;
 use tbl_rows::Tables;
-use tbl_snapshot::Snapshot;
+use tbl_snapshot::{Snapshot, put_changes};
 
 /// How requests end, by their numbers.
 pub(crate) type Ends = BTreeMap<u64, End>;
@@ -51,27 +51,6 @@ fn run_request(
     ensures rows { OnOk result (tables.new ≡ map_after is_done (run_of catalog.now request.now) tables.old) }
 {
     let outcome = execute(alloc, catalog, request, Snapshot::of(tables))?;
-    install(tables, outcome.writes)?;
+    put_changes(tables, outcome.writes)?;
     Ok(outcome.end)
-}
-
-/// Puts and deletes the rows of these changes, which move into the tables.
-fn install(tables: &mut Tables, changes: Changes) -> Result<(), Memory>
-    ensures { OnOk result (tables.new ≡ overwritten tables.old changes) }
-{
-    let mut changes = changes.into_vec();
-    while let Some((key, row)) = changes.pop() {
-        match row {
-            Some(row) => tables.put(key, row)?,
-            None => remove(tables, key),
-        }
-    }
-    Ok(())
-}
-
-/// Deletes the row at the key, if there is one.
-fn remove(tables: &mut Tables, key: Key)
-    ensures { tables.new ≡ set_at tables.old key None }
-{
-    tables.delete(&key);
 }

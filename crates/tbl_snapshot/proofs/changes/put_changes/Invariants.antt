@@ -1,6 +1,6 @@
 use Rattle.std.proofs.Common.{◌≡◌, vec_len}
 use Rattle.batch_rules.specs.Touches.{overwritten}
-use Rattle.serial_check.proofs.serial_runs.install.Given as goal
+use Rattle.tbl_snapshot.proofs.changes.put_changes.Given as goal
 
 abbrev pub invariant-loop-key : goal.invariant-loop-key
 invariant-loop-key l = overwritten l.tables l.changes.items ≡ overwritten l.initial.tables l.initial.changes.items

@@ -1,7 +1,0 @@
-use Rattle.std.proofs.Common.{◌≡◌, take}
-use Rattle.std.specs.Prelude.{false}
-use Rattle.resv_phase.specs.Marked.{marks_on, with_marks}
-use Rattle.resv_phase.proofs.marks.mark_reads.Given as goal
-
-abbrev pub invariant-loop-key : goal.invariant-loop-key
-invariant-loop-key g l = l.seat ≡ with_marks l.initial.seat (marks_on l.tid false (take l.key-index l.keys))

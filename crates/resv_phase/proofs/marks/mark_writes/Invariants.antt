@@ -1,7 +1,0 @@
-use Rattle.std.proofs.Common.{◌≡◌, take}
-use Rattle.std.specs.Prelude.{true}
-use Rattle.resv_phase.specs.Marked.{marks_on, with_marks}
-use Rattle.resv_phase.proofs.marks.mark_writes.Given as goal
-
-abbrev pub invariant-loop-key : goal.invariant-loop-key
-invariant-loop-key g l = l.seat ≡ with_marks l.initial.seat (marks_on l.tid true (take l.key-index l.keys))
