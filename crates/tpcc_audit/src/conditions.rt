@@ -11,7 +11,7 @@ use std::collections::BTreeMap;
 
 /// A condition that each district has to meet.
 #[derive(Clone, Copy, Debug, PartialEq, Eq)]
-pub(crate) enum Condition {
+pub enum Condition {
     /// The next order's number follows on the greatest one of its orders, and of its open orders.
     Numbers,
     /// The numbers of the open orders have no gap.

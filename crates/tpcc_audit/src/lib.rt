@@ -18,5 +18,8 @@ mod laws;
 mod tallies;
 
 pub use audits::audit;
+pub use conditions::Condition;
+pub use facts::{District, DistrictRow, Fact, WarehouseRow, column_at, part_at};
 pub use findings::Audit;
 pub use laws::heads_hold;
+pub use tallies::Tally;

@@ -9,7 +9,7 @@ use std::collections::BTreeMap;
 
 /// What the orders of a district, those that are open, and the lines of all of them come to.
 #[derive(Clone, Copy, Debug, PartialEq, Eq)]
-pub(crate) struct Tally {
+pub struct Tally {
     /// The greatest number of an order.
     pub greatest_order: Option<i64>,
     /// The greatest number of an open order.

@@ -53,7 +53,7 @@ home-advances s w d = advances-either (nat_lt 1 s.warehouses) _ _
     (advances-either _ _ _ (λ g. (2, refl)) past-refl (random 1 100 g).1))
     past-refl
 
-payer-advances : (s : Tpcc) → Advances (payer s)
+pub payer-advances : (s : Tpcc) → Advances (payer s)
 payer-advances s g = past-trans g (random 1 100 g).1 _ (1, refl) (advances-either _ _ _ (λ g. (2, refl)) (λ g. (2, refl)) (random 1 100 g).1)
 
 pub payment-advances : (s : Tpcc) (number : ℕ) → Advances (payment s number)

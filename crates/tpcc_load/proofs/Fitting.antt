@@ -21,13 +21,13 @@ over-all p (suc n) d each g =
     list_all-append p (over n d g).0 (d (n + 1) (over n d g).1).0
     ∙ (λ i. over-all p n d each g i && each (n + 1) (over n d g).1 i)
 
-order_fits : (s : Tpcc) (number : ℕ) (g : Lcg) → takes tpcc (new_order s number g).0 ≡ true
+pub order_fits : (s : Tpcc) (number : ℕ) (g : Lcg) → takes tpcc (new_order s number g).0 ≡ true
 unfolding new_order
 order_fits s number g =
     let start = order_start s g in
     ap (λ b. b && true) (over-all (λ t. length t == 3) start.0.count (line_at s start.0) (λ k g. refl) start.1)
 
-payment_fits : (s : Tpcc) (number : ℕ) (g : Lcg) → takes tpcc (payment s number g).0 ≡ true
+pub payment_fits : (s : Tpcc) (number : ℕ) (g : Lcg) → takes tpcc (payment s number g).0 ≡ true
 unfolding payment
 payment_fits s number g = refl
 

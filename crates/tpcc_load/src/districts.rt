@@ -19,7 +19,7 @@ use std::alloc::Global;
 use tbl_rows::Tables;
 
 /// How many districts a warehouse has.
-pub(crate) const DISTRICTS_EACH: u32 = 10;
+pub const DISTRICTS_EACH: u32 = 10;
 
 /// Lays the rows of all warehouses.
 pub(crate) fn warehouses(

@@ -26,6 +26,8 @@ pub mod tables;
 #[cfg(test)]
 mod tests;
 
+pub use districts::DISTRICTS_EACH;
 pub use heads::head;
-pub use requests::batch;
+pub use payments::{payer, payment};
+pub use requests::{batch, new_order};
 pub use settings::Tpcc;

@@ -13,8 +13,8 @@ use aria_base::{Arg, Args, Call, Draws, Memory};
 use load_gen::random;
 use std::alloc::Global;
 
-/// The next payment, in a batch of this number.
-pub(crate) fn payment(
+/// The next payment, in a batch of this number. Its words are taken also where there is no memory.
+pub fn payment(
     alloc: Global,
     settings: &Tpcc,
     draws: &mut Draws,
@@ -62,8 +62,8 @@ fn home(settings: &Tpcc, draws: &mut Draws, w: u32, d: u32) -> (u32, u32)
     (cw, random(draws, 1, DISTRICTS_EACH))
 }
 
-/// Whether the customer is told by name, 1, or by number, 0, and which name or number.
-fn payer(settings: &Tpcc, draws: &mut Draws) -> (u32, u32)
+/// Whether the customer is told by name, 1, or by number, 0, and which name or number. No memory.
+pub fn payer(settings: &Tpcc, draws: &mut Draws) -> (u32, u32)
     requires { IsWithin settings.now }
     ensures { (result, draws.new) ≡ requests.payer settings.now draws.old }
 {

@@ -65,8 +65,13 @@ struct Start {
     fails: bool,
 }
 
-/// The next new order, in a batch of this number.
-fn new_order(alloc: Global, settings: &Tpcc, draws: &mut Draws, number: u64) -> Result<Call, Memory>
+/// The next new order, in a batch of this number. Where there was no memory, some of its words are taken.
+pub fn new_order(
+    alloc: Global,
+    settings: &Tpcc,
+    draws: &mut Draws,
+    number: u64,
+) -> Result<Call, Memory>
     requires within { IsWithin settings.now }
     requires number { number ≤ GREATEST_NUMBER }
     ensures call { IfOk result (λ call. call ≡ (requests.new_order settings.now number draws.old).0) }
