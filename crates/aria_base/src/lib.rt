@@ -40,8 +40,6 @@ mod parts;
 mod schemas;
 mod standard_streams;
 mod streams;
-#[cfg(test)]
-mod tests;
 mod texts;
 mod values;
 

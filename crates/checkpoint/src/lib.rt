@@ -21,6 +21,3 @@ mod slots;
 pub use heads::{FIRST_FORMAT, FRONT, Head};
 pub use readings::{head_of, read_slot};
 pub use slots::{blank, lay, show, shut};
-
-#[cfg(test)]
-mod tests;

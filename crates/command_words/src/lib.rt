@@ -34,6 +34,3 @@ pub use settings::{
     Workload,
 };
 pub use tables::commands;
-
-#[cfg(test)]
-mod tests;

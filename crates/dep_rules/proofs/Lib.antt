@@ -1,4 +1,3 @@
-mod Laying
 pub mod Leasts
 mod Lists
 mod Marks

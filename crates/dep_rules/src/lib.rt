@@ -18,8 +18,6 @@ pub mod decisions;
 pub mod laws;
 pub mod numberings;
 pub mod sets;
-#[cfg(test)]
-mod tests;
 
 pub use batch_rules::verdicts::{Cause, Rule, Verdict};
 pub use configs::Config;

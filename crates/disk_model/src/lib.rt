@@ -25,6 +25,3 @@ pub use disks::{Disk, write_synced};
 pub use gates::{OPEN, SHUT};
 pub use mem_disks::MemDisk;
 pub use refusals::LogRefused;
-
-#[cfg(test)]
-mod tests;

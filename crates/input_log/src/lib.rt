@@ -17,6 +17,3 @@ mod logs;
 pub use disk_model::LogRefused;
 pub use limits::{MOST_BEFORE, MOST_LOG, MOST_PAYLOAD};
 pub use logs::{LogEnd, Payload, append, fresh, scan};
-
-#[cfg(test)]
-mod tests;

@@ -26,7 +26,5 @@ mod installs;
 mod jobs;
 mod puts;
 mod shares;
-#[cfg(test)]
-mod tests;
 
 pub use installs::{install, install_changes};

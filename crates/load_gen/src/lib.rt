@@ -13,8 +13,6 @@ mod chances;
 mod heads;
 mod requests;
 mod settings;
-#[cfg(test)]
-mod tests;
 
 pub use chances::{percent, random};
 pub use heads::head;

@@ -17,7 +17,5 @@
 
 pub mod laws;
 pub mod placements;
-#[cfg(test)]
-mod tests;
 
 pub use placements::{order, place};

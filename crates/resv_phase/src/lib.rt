@@ -14,7 +14,5 @@
 mod markings;
 mod marks;
 mod reservations;
-#[cfg(test)]
-mod tests;
 
 pub use reservations::reserve;

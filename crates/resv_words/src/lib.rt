@@ -14,8 +14,6 @@
 #![tactic(auto)]
 
 mod rules;
-#[cfg(test)]
-mod tests;
 mod words;
 
 pub use words::{Closed, WordSeat, Words};

@@ -39,6 +39,3 @@ pub use refusals::Refused;
 pub use shards::Shard;
 pub use spents::Spent;
 pub use tables::Tables;
-
-#[cfg(test)]
-mod tests;

@@ -24,6 +24,3 @@ mod writes;
 pub use changes::{put_change, put_changes};
 pub use overlays::Overlay;
 pub use snapshots::Snapshot;
-
-#[cfg(test)]
-mod tests;

@@ -23,8 +23,6 @@ mod settings;
 mod shuffles;
 mod stocks;
 pub mod tables;
-#[cfg(test)]
-mod tests;
 
 pub use districts::DISTRICTS_EACH;
 pub use heads::head;

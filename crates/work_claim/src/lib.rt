@@ -13,7 +13,5 @@
 
 mod claims;
 mod rules;
-#[cfg(test)]
-mod tests;
 
 pub use claims::{ClaimSeat, Claims};

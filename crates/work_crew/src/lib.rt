@@ -25,6 +25,3 @@ pub use outputs::{Done, all_of, empty_slots, in_order};
 pub use sizes::workers_for;
 pub use tasks::{Task, gather};
 pub use works::Work;
-
-#[cfg(test)]
-mod tests;

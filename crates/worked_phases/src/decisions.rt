@@ -29,10 +29,10 @@ fn made_up_accounts(alloc: Global, draws: &mut Draws) -> Result<Vec<u32>, Memory
     Ok(numbers)
 }
 
-/// None to eleven requests that read and write such accounts.
+/// None to 23 requests that read and write such accounts.
 fn made_up(alloc: Global, draws: &mut Draws) -> Result<Vec<Sets>, Memory> {
     let mut list = Vec::new(alloc);
-    for _place in 0..draws.word() % 12 {
+    for _place in 0..draws.word() % 24 {
         let reads = made_up_accounts(alloc, draws)?;
         let writes = made_up_accounts(alloc, draws)?;
         list.push(sets(alloc, &reads, &writes)?)?;
@@ -53,7 +53,7 @@ fn words_before(alloc: Global, keys: u32) -> Result<Vec<u64>, Memory>
 }
 
 /// Asserts that both forms decide alike of each request of the batch, by both rules.
-fn alike<R: Abort + Threads + Sync>(
+pub fn alike<R: Abort + Threads + Sync>(
     rt: &R,
     alloc: Global,
     sets: &[Sets],

@@ -2,16 +2,19 @@
 //! only tests.
 //!
 //! `accounts` makes what the phases work on: accounts as keys, sets, rows and writes, and calls of the
-//! catalogue `bank`. `decisions` numbers, marks and decides made-up batches, and has both forms of a
+//! catalogue `bank`. `by_hand` has verdicts and orders worked out by hand: the tests of `dep_rules` and
+//! of `reorder`. `decisions` numbers, marks and decides made-up batches, and has both forms of a
 //! decision side by side. `executions` runs a batch by several workers. `meetings` holds two workers
 //! back until both are at work, in each phase that has steps to tell of, and counts these steps.
 //! `keeping` keeps more keys than a batch may find.
 //!
-//! The tests of each phase alone stand in its own crate.
+//! The tests of each phase alone stand in `worked_crews`.
 #![tactic(auto)]
 
 #[cfg(test)]
 mod accounts;
+#[cfg(test)]
+mod by_hand;
 #[cfg(test)]
 mod decisions;
 #[cfg(test)]

@@ -1,7 +1,0 @@
-use Rattle.std.proofs.Common.{ap, ◌∙◌}
-use Rattle.tbl_rows.proofs.Together.{IsWhole-put}
-use Rattle.tbl_rows.proofs.tests.delete.Goals as goal
-
-pub returns : goal.returns
-returns c = IsWhole-put _ _ _ _ _ c.requires (c.from.ensures ∙ c.shard_of.ensures.home) c.index_mut-shard.ensures.value
-    (ap (λ p. p.number) c.delete.ensures.deleted) c.delete.ensures.own

@@ -1,0 +1,7 @@
+use Rattle.std.proofs.Common.{ap, ◌∙◌}
+use Rattle.tbl_rows.proofs.Together.{IsWhole-put}
+use Rattle.worked_rows.proofs.rows.delete.Goals as goal
+
+pub returns : goal.returns
+returns c = IsWhole-put _ _ _ _ _ c.requires (c.from.ensures ∙ c.shard_of.ensures.home) c.index_mut-shard.ensures.value
+    (ap (λ p. p.number) c.delete.ensures.deleted) c.delete.ensures.own
