@@ -59,8 +59,8 @@ module _ (asked : Option CommandTask) (task : CommandTask) (is : asked ≡ Some 
 
 -- ---- arguments that are no command
 
-pub out_refused : (asked : Option CommandTask) (left : Option (List ℕ)) (images : ℕ → List ℕ) (found : Reopened) (P : Out → Type 0) → asked ≡ None → P refused_usage
-    → IfSome (out_by asked left images found) P
+pub out_refused : (asked : Option CommandTask) (left : Option (List ℕ)) (images : ℕ → List ℕ) (found : Reopened) (P : Out → Type 0) → asked ≡ None
+    → P refused_usage → IfSome (out_by asked left images found) P
 out_refused asked left images found P is h = subst (λ (a : Option CommandTask). IfSome (out_by a left images found) P) (sym is) h
 
 pub leaves_refused : (asked : Option CommandTask) (left : Option (List ℕ)) (was is_now : History) (old new : Option (List ℕ)) (status : ℕ) → asked ≡ None
@@ -117,7 +117,8 @@ each_text None P h = tt
 each_text (Some text) P h = h text
 
 -- there was no memory to read the arguments
-pub leaves_untouched : (asked : Option CommandTask) (left : Option (List ℕ)) (disk : History) (now : Option (List ℕ)) → LeavesDisk asked left disk disk now now 7
+pub leaves_untouched : (asked : Option CommandTask) (left : Option (List ℕ)) (disk : History) (now : Option (List ℕ))
+    → LeavesDisk asked left disk disk now now 7
 leaves_untouched None left disk now = tt
 leaves_untouched (Some (task.Once settings)) left disk now = tt
 leaves_untouched (Some (task.Init settings)) left disk now = λ images reads. record {

@@ -111,3 +111,9 @@ told_cut told left rest old new stop.NoMemory status is h e = absurd (omega (ari
 told_cut told left rest old new stop.NoWrite status is h e = absurd (omega (arith, is, e))
 told_cut told left rest old new stop.NoDisk status is h e = absurd (omega (arith, is, e))
 told_cut told left rest old new stop.NoRead status is h e = h
+
+-- ---- what the searches of the commands may use
+
+pub ruleset once_ends = (answered_end, front_end, front_cut, answered_cut, done_cut, read_cut, write_cut, never_ended, told_cut)
+
+pub ruleset reader_ends = (answered_end, front_end, front_cut, answered_cut, others_cut, read_cut, write_cut, never_ended, told_cut)

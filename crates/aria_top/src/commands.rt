@@ -26,7 +26,7 @@ use std::alloc::Global;
 use std::thread::Threads;
 
 /// Runs `once`, and answers its status.
-#[tactic(auto, using(crate::proofs::Stopped::answered_end, crate::proofs::Stopped::front_end, crate::proofs::Stopped::front_cut, crate::proofs::Stopped::answered_cut, crate::proofs::Stopped::done_cut, crate::proofs::Stopped::read_cut, crate::proofs::Stopped::write_cut, crate::proofs::Stopped::never_ended, crate::proofs::Stopped::told_cut))]
+#[tactic(auto, using(crate::proofs::Stopped::once_ends))]
 pub fn run_once<S: Source, K: Sink, D: Disk, P: Pace + Sync, R: Threads + Sync>(
     rt: &R,
     alloc: Global,
@@ -92,7 +92,7 @@ pub fn run_bench<K: Sink, P: Pace + Sync, R: Threads + Sync>(
 }
 
 /// Runs `audit`, and answers its status.
-#[tactic(auto, using(crate::proofs::Stopped::answered_end, crate::proofs::Stopped::front_end, crate::proofs::Stopped::front_cut, crate::proofs::Stopped::answered_cut, crate::proofs::Stopped::others_cut, crate::proofs::Stopped::read_cut, crate::proofs::Stopped::write_cut, crate::proofs::Stopped::never_ended, crate::proofs::Stopped::told_cut))]
+#[tactic(auto, using(crate::proofs::Stopped::reader_ends))]
 pub fn run_audit<S: Source, K: Sink>(alloc: Global, input: &mut S, out: &mut K) -> u8
     ensures answered { IsAnswered result → IfSome (S.left input.old)
         (λ text. (result ≡ (audits.out_of text).status) × Appends (K.given out.old) (K.given out.new) (audits.out_of text).bytes) }
@@ -110,7 +110,7 @@ pub fn run_audit<S: Source, K: Sink>(alloc: Global, input: &mut S, out: &mut K) 
 }
 
 /// Runs `check`, and answers its status.
-#[tactic(auto, using(crate::proofs::Stopped::answered_end, crate::proofs::Stopped::front_end, crate::proofs::Stopped::front_cut, crate::proofs::Stopped::answered_cut, crate::proofs::Stopped::others_cut, crate::proofs::Stopped::read_cut, crate::proofs::Stopped::write_cut, crate::proofs::Stopped::never_ended, crate::proofs::Stopped::told_cut))]
+#[tactic(auto, using(crate::proofs::Stopped::reader_ends))]
 pub fn run_check<S: Source, K: Sink>(alloc: Global, input: &mut S, out: &mut K) -> u8
     ensures answered { IsAnswered result → IfSome (S.left input.old)
         (λ text. (result ≡ (checks.out_of text).status) × Appends (K.given out.old) (K.given out.new) (checks.out_of text).bytes) }

@@ -56,17 +56,20 @@ pub fn serve_batch<K: Sink, D: Disk, P: Pace + Sync, R: Threads + Sync>(
     ensures logging { IfTold result (IsLogging (D.history disk.new)) }
 
     // What the disk then holds: a new checkpoint where one was due, or the one from before with this batch behind its own.
-    ensures holds { IfTold result (λ next. (c : Checkpoint) (later : List Batch) → Holds (D.history disk.old) (plan_of live) (stored_state live) live.store c later
-        → HoldsTurned (next_due live new.items) (D.history disk.new) (plan_of live) (next_state live new.items) next.store c (added later live.config.rule live.config.fallback new.items)) }
+    ensures holds { IfTold result (λ next. (c : Checkpoint) (later : List Batch)
+        → Holds (D.history disk.old) (plan_of live) (stored_state live) live.store c later
+        → HoldsTurned (next_due live new.items) (D.history disk.new) (plan_of live) (next_state live new.items) next.store c
+        (added later live.config.rule live.config.fallback new.items)) }
 
     // A stop at any moment leaves the checkpoint with the batches from before, or with this one behind them, or
     // the next checkpoint, of the state after; and one of the last two once a byte was given.
     ensures images { (c : Checkpoint) (later : List Batch) → Holds (D.history disk.old) (plan_of live) (stored_state live) live.store c later
-        → LeavesAll (D.history disk.old) (D.history disk.new) (ReopensOnWay (next_due live new.items) c later (added later live.config.rule live.config.fallback new.items)
-        (plan_of live) (stored_state live) (next_state live new.items)) }
+        → LeavesAll (D.history disk.old) (D.history disk.new) (ReopensOnWay (next_due live new.items) c later
+        (added later live.config.rule live.config.fallback new.items) (plan_of live) (stored_state live) (next_state live new.items)) }
     ensures answered { (c : Checkpoint) (later : List Batch) → Holds (D.history disk.old) (plan_of live) (stored_state live) live.store c later
         → IsAnswered (K.given out.old) (K.given out.new) result.1 → (images : ℕ → List ℕ) → MayLeave (D.history disk.new) (D.history disk.new).now images
-        → ReopensBy (next_due live new.items) c (added later live.config.rule live.config.fallback new.items) (plan_of live) (next_state live new.items) images }
+        → ReopensBy (next_due live new.items) c (added later live.config.rule live.config.fallback new.items) (plan_of live)
+        (next_state live new.items) images }
     ensures untouched { live.store ≡ None → disk.new ≡ disk.old }
     ensures storeless { live.store ≡ None → result.1 ≢ delivery.NoDisk }
     ensures sink { K.faults out.old ≤ K.faults out.new }

@@ -157,7 +157,8 @@ impl Live {
 
     /// The text of an answer, with the listing where each answer has one.
     fn text(&self, alloc: Global, answer: &Answer) -> Result<Vec<u8>, Memory>
-        ensures { IfOk result (λ text. text.items ≡ answer_text (plan_of self.now).tables answer.now ++ (if self.now.each then listing (plan_of self.now) (state_of self.now) else [])) }
+        ensures { IfOk result (λ text. text.items ≡ answer_text (plan_of self.now).tables answer.now
+            ++ (if self.now.each then listing (plan_of self.now) (state_of self.now) else [])) }
     {
         let engine = self.replicas.first();
         let mut text = print_answer(alloc, engine.catalog(), answer)?;

@@ -32,7 +32,10 @@ pub(crate) fn log_batch<D: Disk>(
     requires logs { MayLog live.old calls.now (D.history disk.old) }
     ensures logged { OnOk result (live.new ≡ logged live.old calls.now) }
     ensures taken { OnOk result (IfSome live.new.store (HasTaken (D.history disk.new) (next_state live.old calls.now).batches)) }
-    ensures holds { OnOk result ((c : Checkpoint) (later : List Batch) → Holds (D.history disk.old) (plan_of live.old) (stored_state live.old) live.old.store c later → Holds (D.history disk.new) (plan_of live.old) (next_state live.old calls.now) live.new.store c (added later live.old.config.rule live.old.config.fallback calls.now)) }
+    ensures holds { OnOk result ((c : Checkpoint) (later : List Batch)
+        → Holds (D.history disk.old) (plan_of live.old) (stored_state live.old) live.old.store c later
+        → Holds (D.history disk.new) (plan_of live.old) (next_state live.old calls.now) live.new.store c
+        (added later live.old.config.rule live.old.config.fallback calls.now)) }
     ensures images { (c : Checkpoint) (later : List Batch) → Holds (D.history disk.old) (plan_of live.old) (stored_state live.old) live.old.store c later
         → LeavesAll (D.history disk.old) (D.history disk.new) (ReopensOnWay false c later (added later live.old.config.rule live.old.config.fallback calls.now)
         (plan_of live.old) (stored_state live.old) (next_state live.old calls.now)) }

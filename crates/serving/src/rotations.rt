@@ -30,9 +30,14 @@ pub(crate) fn rotate_where_due<D: Disk>(
 ) -> Result<(), Delivery>
     requires runnable { IsRunnable live.old }
     requires taken { IfSome live.old.store (HasTaken (D.history disk.old) (state_of live.old).batches) }
-    ensures turned { OnOk result (live.new ≡ record live.old { store = turned_by (due_by live.old.checkpoint (state_of live.old).batches live.old.store) (state_of live.old) live.old.store }) }
+    ensures turned { OnOk result (live.new ≡ record live.old {
+      store = turned_by (due_by live.old.checkpoint (state_of live.old).batches live.old.store) (state_of live.old) live.old.store;
+    }) }
     ensures logging { OnOk result (IsLogging (D.history disk.new) live.new) }
-    ensures holds { OnOk result ((c : Checkpoint) (later : List Batch) → Holds (D.history disk.old) (plan_of live.old) (state_of live.old) live.old.store c later → HoldsTurned (due_by live.old.checkpoint (state_of live.old).batches live.old.store) (D.history disk.new) (plan_of live.old) (state_of live.old) live.new.store c later) }
+    ensures holds { OnOk result ((c : Checkpoint) (later : List Batch)
+        → Holds (D.history disk.old) (plan_of live.old) (state_of live.old) live.old.store c later
+        → HoldsTurned (due_by live.old.checkpoint (state_of live.old).batches live.old.store)
+        (D.history disk.new) (plan_of live.old) (state_of live.old) live.new.store c later) }
     ensures images { (c : Checkpoint) (later : List Batch) → Holds (D.history disk.old) (plan_of live.old) (state_of live.old) live.old.store c later
         → LeavesAll (D.history disk.old) (D.history disk.new) (ReopensBy (due_by live.old.checkpoint (state_of live.old).batches live.old.store) c later
         (plan_of live.old) (state_of live.old)) }
@@ -63,7 +68,9 @@ pub fn renew_where_stale<D: Disk>(
     requires kept { IfSome live.old.store (MayRenew (D.history disk.old) (state_of live.old).batches) }
     ensures turned { OnOk result (live.new ≡ record live.old { store = turned_by (stale_by live.old.store) (state_of live.old) live.old.store }) }
     ensures logging { OnOk result (IsLogging (D.history disk.new) live.new) }
-    ensures holds { OnOk result ((c : Checkpoint) (later : List Batch) → Holds (D.history disk.old) (plan_of live.old) (state_of live.old) live.old.store c later → HoldsTurned (stale_by live.old.store) (D.history disk.new) (plan_of live.old) (state_of live.old) live.new.store c later) }
+    ensures holds { OnOk result ((c : Checkpoint) (later : List Batch)
+        → Holds (D.history disk.old) (plan_of live.old) (state_of live.old) live.old.store c later
+        → HoldsTurned (stale_by live.old.store) (D.history disk.new) (plan_of live.old) (state_of live.old) live.new.store c later) }
 
     // A stop at any moment leaves what stood there, or the next checkpoint of this state.
     ensures images { (c : Checkpoint) (later : List Batch) → Holds (D.history disk.old) (plan_of live.old) (state_of live.old) live.old.store c later

@@ -108,7 +108,13 @@ fn replay_found<K: Sink, D: Disk, P: Pace + Sync, R: Threads + Sync>(
 
 /// How the batches are run. No memory.
 fn engines_of(settings: &Replay) -> RunSettings
-    ensures { result ≡ record { replicas = settings.now.replicas; workers = settings.now.workers; batons = settings.now.batons; each = is_each settings.now.listing; checkpoint = 0 } }
+    ensures { result ≡ record {
+      replicas = settings.now.replicas;
+      workers = settings.now.workers;
+      batons = settings.now.batons;
+      each = is_each settings.now.listing;
+      checkpoint = 0;
+    } }
 {
     RunSettings {
         replicas: settings.replicas,

@@ -262,7 +262,8 @@ run_leaves old new engines c later live due f all =
     leaves_more old new (ReopensBy due c later (plan_of live) (state_of live)) (LeftOrRun old c later) all (λ images is. inr (
       f.roomy,
       subst (λ (plan : Plan). ReopensBy true c later plan (state_behind c later) images) f.plan
-          (subst (λ (state : State). ReopensBy true c later (plan_of live) state images) f.state (by_true c later (plan_of live) (state_of live) images due is)),
+          (subst (λ (state : State). ReopensBy true c later (plan_of live) state images) f.state
+          (by_true c later (plan_of live) (state_of live) images due is)),
     ))
 
 pub left_leaves : (old new : History) (c : Checkpoint) (later : List Batch) → Still old new → LeavesAll old new (LeftOrRun old c later)

@@ -64,18 +64,21 @@ pub fn open<D: Disk, P: Pace + Sync, R: Threads + Sync>(
 
     // Its disk holds the checkpoint and the batches that the files read as. Where the store took no batch as it
     // was, it holds the next checkpoint.
-    ensures holds { IfOk result (λ live. (images : ℕ → List ℕ) (c : Checkpoint) (later : List Batch) → ReadsAs (D.history disk.old) images → Reopens images (Holding c later)
+    ensures holds { IfOk result (λ live. (images : ℕ → List ℕ) (c : Checkpoint) (later : List Batch)
+        → ReadsAs (D.history disk.old) images → Reopens images (Holding c later)
         → HoldsSaved (D.history disk.new) (plan_of live) (stored_state live) live.store (renewed (saved_in images c later))) }
 
     // A stop at any moment leaves what one could have left before, or just what was opened, or the next checkpoint
     // behind it.
     ensures images { (images : ℕ → List ℕ) (found : Reopened) → ReadsAs (D.history disk.old) images → Reopens images found
-        → LeavesAll (D.history disk.old) (D.history disk.new) (λ left. MayLeave (D.history disk.old) (D.history disk.old).now left ⊎ ReopensToOpened (opened images found) left) }
+        → LeavesAll (D.history disk.old) (D.history disk.new)
+        (λ left. MayLeave (D.history disk.old) (D.history disk.old).now left ⊎ ReopensToOpened (opened images found) left) }
     ensures unwritten { IfErr result (LeavesUnwritten (D.history disk.old) (D.history disk.new)) }
 
     // Nothing is written to a store that takes the next batch as it is.
     ensures fresh { (images : ℕ → List ℕ) (c : Checkpoint) (later : List Batch) → ReadsAs (D.history disk.old) images → Reopens images (Holding c later)
-        → is_full (saved_in images c later) ≡ false → LeavesAll (D.history disk.old) (D.history disk.new) (MayLeave (D.history disk.old) (D.history disk.old).now) }
+        → is_full (saved_in images c later) ≡ false
+        → LeavesAll (D.history disk.old) (D.history disk.new) (MayLeave (D.history disk.old) (D.history disk.old).now) }
     ensures disk { IfOk result (λ _. (D.history disk.old).faults ≤ (D.history disk.new).faults) }
     ensures cause { IfErr result (IsFaultOf (Rose (D.history disk.old).faults (D.history disk.new).faults)) }
 {
@@ -105,7 +108,8 @@ fn open_found<D: Disk, P: Pace + Sync, R: Threads + Sync>(
     requires empty { store.files.batches ≡ 0 → store.files.at ≡ 0 }
     ensures opened { IfOk result (IsOpenedFrom (D.history disk.new) engines.now (checkpoint_in found.image) (batches_in found.later.items)) }
     ensures holds { IfOk result (λ live. Stands (D.history disk.old) store (checkpoint_in found.image) (batches_in found.later.items)
-        → HoldsSaved (D.history disk.new) (plan_of live) (state_of live) live.store (renewed (saved_by store (checkpoint_in found.image) (batches_in found.later.items)))) }
+        → HoldsSaved (D.history disk.new) (plan_of live) (state_of live) live.store
+        (renewed (saved_by store (checkpoint_in found.image) (batches_in found.later.items)))) }
     ensures images { Stands (D.history disk.old) store (checkpoint_in found.image) (batches_in found.later.items)
         → LeavesAll (D.history disk.old) (D.history disk.new) (LeftOrRun (D.history disk.old) (checkpoint_in found.image) (batches_in found.later.items)) }
     ensures unwritten { IfErr result (LeavesUnwritten (D.history disk.old) (D.history disk.new)) }

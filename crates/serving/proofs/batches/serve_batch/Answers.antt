@@ -59,7 +59,8 @@ returns-in-Err-tell_batch-clause-answered g c k later h answered =
     → Holds (g.D.Disk.history c.log_batch.new.disk) (plan_of c.args.live) (next_state c.args.live l) c.log_batch.new.live.store k
     (added later c.args.live.config.rule c.args.live.config.fallback l))
     c.as_slice.ensures.value (c.in_default.ensures.holds k later) in
-    holds_left (next_due c.args.live c.args.new.items) (g.D.Disk.history c.log_batch.new.disk) (plan_of c.args.live) (next_state c.args.live c.args.new.items) c.log_batch.new.live.store k
+    holds_left (next_due c.args.live c.args.new.items) (g.D.Disk.history c.log_batch.new.disk) (plan_of c.args.live)
+    (next_state c.args.live c.args.new.items) c.log_batch.new.live.store k
     (added later c.args.live.config.rule c.args.live.config.fallback c.args.new.items) (logs h)
 
 pub returns-in-Ok-rotate_where_due-clause-tells : goal.returns-in-Ok-rotate_where_due-clause-tells

@@ -13,7 +13,8 @@ returns-then-not-is_stale-clause-logging g c =
 
 pub returns-then-not-is_stale-clause-images : goal.returns-then-not-is_stale-clause-images
 returns-then-not-is_stale-clause-images g c k later h =
-    still_leaves (stale_by c.args.live.now.store) (g.D.Disk.history c.args.disk.now) (plan_of c.args.live.now) (state_of c.args.live.now) c.args.live.now.store k later h
+    still_leaves (stale_by c.args.live.now.store) (g.D.Disk.history c.args.disk.now) (plan_of c.args.live.now)
+    (state_of c.args.live.now) c.args.live.now.store k later h
 
 pub rotate-requires-clause-may : goal.rotate-requires-clause-may
 rotate-requires-clause-may g c =

@@ -6,7 +6,8 @@ use Rattle.serving.proofs.rotations.rotate_where_due.Goals as goal
 
 pub returns-then-not-rotation_due-clause-images : goal.returns-then-not-rotation_due-clause-images
 returns-then-not-rotation_due-clause-images g c k later h =
-    still_leaves (due_by c.args.live.now.checkpoint (state_of c.args.live.now).batches c.args.live.now.store) (g.D.Disk.history c.args.disk.now) (plan_of c.args.live.now) (state_of c.args.live.now) c.args.live.now.store k later h
+    still_leaves (due_by c.args.live.now.checkpoint (state_of c.args.live.now).batches c.args.live.now.store) (g.D.Disk.history c.args.disk.now)
+    (plan_of c.args.live.now) (state_of c.args.live.now) c.args.live.now.store k later h
 
 pub returns-clause-holds : goal.returns-clause-holds
 returns-clause-holds g c =
