@@ -58,7 +58,7 @@ after-append step (x ∷ xs) ys t = after-append step xs ys (step (fact_of x) t)
 
 module _ {A : Type 0} (step : Fact → A → A) (calm : (t : A) → step fact.Other t ≡ t)
     (commutes : (f g : Fact) (t : A) → step f (step g t) ≡ step g (step f t)) where
-  after-step : (rs : List Row) (f : Fact) (t : A) → after step rs (step f t) ≡ step f (after step rs t)
+  pub after-step : (rs : List Row) (f : Fact) (t : A) → after step rs (step f t) ≡ step f (after step rs t)
   after-step [] f t = refl
   after-step (r ∷ rs) f t = ap (after step rs) (commutes (fact_of r) f t) ∙ after-step rs f (step (fact_of r) t)
 
@@ -69,7 +69,7 @@ module _ {A : Type 0} (step : Fact → A → A) (calm : (t : A) → step fact.Ot
   after-unseen [] t all = refl
   after-unseen (r ∷ rs) t all = ap (after step rs) (calm-row r t all.0) ∙ after-unseen rs t all.1
 
-  put-new : (k : Key) (row : Cells) (es : List Row) (t : A) → fin.find key_cmp k es ≡ None
+  pub put-new : (k : Key) (row : Cells) (es : List Row) (t : A) → fin.find key_cmp k es ≡ None
       → after step (put key_cmp k row es) t ≡ after step es (step (fact_of (k, row)) t)
   put-new k row [] t none = refl
   put-new k row (e ∷ es) t none =
