@@ -17,8 +17,9 @@ BANK = "catalog bank\nrow acct 1 = 10\n"
 REST = "cannot stand there; docs/commands.md lists the commands"
 # What the command is, its input, its status, what is said at a terminal, and what is said at a pipe.
 ROWS = [
-    ("once", BANK + "tx add 1 x\n", 1, "aria: line 3 is refused by `argument`: tx add 1 x", ""),
-    ("once", BANK + "tx\tadd \x01\n", 1, "aria: line 3 is refused by `form`: tx?add ?", ""),
+    ("once", BANK + "tx add 1 x\n", 1, "aria: line 3 is refused by `word`: tx add 1 x", ""),
+    ("once", BANK + "tx\tadd \x01\n", 1, "aria: line 3 is refused by `byte`: tx?add ?", ""),
+    ("once", BANK + "tx add 1 1\n", 1, "aria: line 4, the end of the input, is refused by `unfinished`", ""),
     ("once", BANK + "tx add 1 1\nend 1\n", 0, "", ""),
     ("", "", 2, "aria: docs/commands.md lists the commands", ""),
     ("onec", "", 2, f"aria: `onec` {REST}", ""),

@@ -104,7 +104,8 @@ fn say_words<R: Eprint>(rt: &R, alloc: Global, words: &[String]) {
     }
 }
 
-/// Says what the refused line is, where it is in hand.
+/// Says what the refused line is, where it is in hand. An empty one is the end of the input, since no other is
+/// refused.
 fn say_line<S: Source, K: Sink, R: Eprint>(
     rt: &R,
     alloc: Global,
@@ -117,7 +118,9 @@ fn say_line<S: Source, K: Sink, R: Eprint>(
     let Some(line) = input.line(number) else {
         return;
     };
-    if let Ok(line) = shown(alloc, line) {
+    if line.is_empty() {
+        let _ = eprintln!(rt; "aria: line {number}, the end of the input, is refused by `{cause}`");
+    } else if let Ok(line) = shown(alloc, line) {
         let _ = eprintln!(rt; "aria: line {number} is refused by `{cause}`: {line}");
     }
 }
