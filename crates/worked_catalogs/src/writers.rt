@@ -1,6 +1,7 @@
 // What no clause shows: that catalogues are written where there is memory, and that the definitions say
 // the stated form. The texts were written by hand.
-use crate::{read_catalog, write_catalog};
+use cat_read::read_catalog;
+use cat_write::write_catalog;
 use std::test::Fail;
 
 const EMPTY: &str = r#"{"procs":[],"tables":[]}"#;

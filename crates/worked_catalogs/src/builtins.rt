@@ -1,6 +1,8 @@
 // The built-in catalogues: how many tables and procedures each has, counted by hand, and their texts.
 // The bank's text was written by hand, as docs/language.md shows it.
-use crate::{builtin, read_catalog, write_catalog};
+use cat_builtin::builtin;
+use cat_read::read_catalog;
+use cat_write::write_catalog;
 use proc_lang::Catalog;
 use std::alloc::Global;
 use std::test::Fail;

@@ -1,5 +1,5 @@
 // What texts are read as, worked out by hand.
-use crate::{CatRefused, read_catalog};
+use cat_read::{CatRefused, read_catalog};
 use proc_lang::{Path, PathPart};
 use std::alloc::{AllocError, Global};
 use std::test::Fail;
