@@ -5,7 +5,6 @@ use core_machine::Event::{Decide, Execute, Install, MarkRead, MarkWrite, Turn};
 use core_machine::{Core, CoreRefused, Event, run};
 use dep_rules::{Cause, Rule, Verdict};
 use std::alloc::Global;
-use std::fmt::Debug;
 use std::process::Abort;
 use std::test::Fail;
 
@@ -57,39 +56,48 @@ const ORDERS: [[Event; 18]; 2] = [
     ],
 ];
 
-/// Asserts that what was found in this case is what is wanted.
-fn same<T: PartialEq + Debug>(rt: &impl Abort, case: &impl Debug, found: &T, wanted: &T) {
-    assert_eq!(rt; found, wanted, "at {case:?}");
+/// Asserts that this holds of these events. An assertion in place costs its function several seconds of proof, a
+/// generic one more, and a call of this one next to none.
+fn holds(rt: &impl Abort, what: &str, events: &[Event], found: bool) {
+    assert!(rt; found, "{what} at {events:?}");
 }
 
-/// What a machine shows: its verdicts, what the accounts have, and whether it has settled.
-type Shown = (Vec<Verdict>, Vec<(i64, i64)>, bool);
-
-fn shown(alloc: Global, core: &Core) -> Result<Shown, Memory> {
-    let verdicts = Vec::from_slice(alloc, core.verdicts())?;
-    Ok((verdicts, amounts(alloc, core.tables())?, core.settled()))
+/// Whether the machine has settled by these verdicts, and the accounts have these amounts.
+fn is_settled(
+    alloc: Global,
+    core: &Core,
+    verdicts: &[Verdict],
+    rows: &[(i64, i64)],
+) -> Result<bool, Memory> {
+    let left = amounts(alloc, core.tables())?;
+    Ok(core.settled() && core.verdicts() == verdicts && left.as_slice() == rows)
 }
 
-fn settled(alloc: Global, verdicts: &[Verdict], rows: &[(i64, i64)]) -> Result<Shown, Memory> {
-    Ok((
-        Vec::from_slice(alloc, verdicts)?,
-        Vec::from_slice(alloc, rows)?,
-        true,
-    ))
+/// Asserts that these calls settle so by these events.
+fn settles(
+    rt: &impl Abort,
+    alloc: Global,
+    calls: &[Said],
+    events: &[Event],
+    verdicts: &[Verdict],
+    rows: &[(i64, i64)],
+) -> Result<(), Fail> {
+    let core = run(alloc, machine(alloc, calls, Rule::Reorder)?, events)?;
+    let right = is_settled(alloc, &core, verdicts, rows)?;
+    holds(rt, "the batch settles", events, right);
+    Ok(())
 }
 
 #[test]
 fn the_ring_settles_alike_in_two_orders(rt: HostRuntime) -> Result<(), Fail> {
-    let alloc = rt.alloc();
     let verdicts = [
         Verdict::Finish { raw: false },
         Verdict::Finish { raw: true },
         Verdict::Wait(Cause::Both(2, 1)),
     ];
-    let wanted = settled(alloc, &verdicts, &[(1, 10), (2, 10), (3, 20)])?;
+    let rows = [(1, 10), (2, 10), (3, 20)];
     for events in &ORDERS {
-        let core = run(alloc, machine(alloc, &RING, Rule::Reorder)?, events)?;
-        same(&rt, events, &shown(alloc, &core)?, &wanted);
+        settles(&rt, rt.alloc(), &RING, events, &verdicts, &rows)?;
     }
     Ok(())
 }
@@ -153,21 +161,27 @@ const NOT_DUE: [(&[Event], usize); 10] = [
     ),
 ];
 
-/// How a run ends: in a place that is named, or at its end.
-fn refusal(alloc: Global, core: Core, events: &[Event]) -> Result<Option<usize>, Memory> {
+/// Whether a run ends in the event at this place, which is not due.
+fn is_not_due(alloc: Global, core: Core, events: &[Event], place: usize) -> Result<bool, Memory> {
     match run(alloc, core, events) {
-        Ok(_) => Ok(None),
-        Err(CoreRefused::NotDue { at }) => Ok(Some(at)),
+        Ok(_) => Ok(false),
+        Err(CoreRefused::NotDue { at }) => Ok(at == place),
         Err(CoreRefused::Memory) => Err(Memory),
     }
 }
 
+/// Asserts that the ring ends in the event at this place.
+fn ring_ends(rt: &impl Abort, alloc: Global, events: &[Event], place: usize) -> Result<(), Fail> {
+    let core = machine(alloc, &RING, Rule::Reorder)?;
+    let right = is_not_due(alloc, core, events, place)?;
+    holds(rt, "the event is named", events, right);
+    Ok(())
+}
+
 #[test]
 fn the_first_event_that_is_not_due_is_named(rt: HostRuntime) -> Result<(), Fail> {
-    let alloc = rt.alloc();
     for (events, at) in NOT_DUE {
-        let found = refusal(alloc, machine(alloc, &RING, Rule::Reorder)?, events)?;
-        same(&rt, &events, &found, &Some(at));
+        ring_ends(&rt, rt.alloc(), events, at)?;
     }
     Ok(())
 }
@@ -178,8 +192,7 @@ fn a_turn_too_many_is_not_due(rt: HostRuntime) -> Result<(), Fail> {
     for order in &ORDERS {
         let mut events = Vec::from_slice(alloc, order)?;
         events.push(Turn)?;
-        let found = refusal(alloc, machine(alloc, &RING, Rule::Reorder)?, &events)?;
-        same(&rt, &events, &found, &Some(18));
+        ring_ends(&rt, alloc, &events, 18)?;
     }
     Ok(())
 }
@@ -195,7 +208,7 @@ fn a_batch_without_requests_settles_by_four_turns(rt: HostRuntime) -> Result<(),
     let alloc = rt.alloc();
     for (turns, wanted) in TURNS {
         let core = run(alloc, machine(alloc, &[], Rule::Plain)?, turns)?;
-        same(&rt, &turns, &core.settled(), &wanted);
+        holds(&rt, "it settles or not", turns, core.settled() == wanted);
     }
     Ok(())
 }
@@ -325,12 +338,10 @@ fn drawn(alloc: Global, draws: &mut Draws) -> Result<Vec<Event>, Memory> {
 #[test]
 fn ten_drawn_orders_of_twelve_requests_settle_alike(rt: HostRuntime) -> Result<(), Fail> {
     let alloc = rt.alloc();
-    let wanted = settled(alloc, &DECIDED, &AFTER)?;
     let mut draws = Draws::of(1, 0);
     for _ in 0..10 {
         let events = drawn(alloc, &mut draws)?;
-        let core = run(alloc, machine(alloc, &TWELVE, Rule::Reorder)?, &events)?;
-        same(&rt, &events, &shown(alloc, &core)?, &wanted);
+        settles(&rt, alloc, &TWELVE, &events, &DECIDED, &AFTER)?;
     }
     Ok(())
 }

@@ -1,15 +1,15 @@
 // Slots that are laid, shown and loaded.
-ghost use Rattle.std.specs.Prelude.{◌<◌, ◌≤◌, IfOk};
+ghost use Rattle.std.specs.Prelude.{◌<◌, ◌≤◌};
 ghost use Rattle.aria_base.specs.declared.limits.TheConstants.{MOST_PERCENT};
 ghost use Rattle.slot_images.specs.Said.{checkpoint_in, IsInOrder};
 
-use crate::words::{same, slotted};
+use crate::words::{MEMORY, holds, same_bytes, slotted};
 use batch_rules::verdicts::Rule;
 use checkpoint::{Head, blank, lay, show};
 use disk_model::{LogRefused, MemDisk};
 use slot_images::{Image, body_for, load};
 use std::alloc::Global;
-use std::test::Fail;
+use std::process::Abort;
 
 /// The first checkpoint of a store without tables, by reorder and 101.
 const FIRST: [u8; 79] =
@@ -20,109 +20,94 @@ const FIRST: [u8; 79] =
 const SECOND: [u8; 223] =
     *b"\x01ARIA\x01\0\x07\x02\0\0\0\0\0\0\0\x01\x02\0\0\0\0\0\0\x03\0\0\0\0\0\0\0\xb7\0\0\0\0\0\0\0catalog text\n:{\"procs\":[{\"args\":[\"text\"],\"body\":[],\"name\":\"p\",\"regs\":[]}],\"tables\":[{\"cols\":[\"int\"],\"key\":[\"text\"],\"name\":\"t\"}]}\nrow t \"a\" = 1\nrow t \"b\" = -2\nheld 1 p \"x\"\nheld 3 p \"\"\n";
 
-/// Lays an image in this slot of a new disk and shows it.
-fn laid(alloc: Global, slot: u8, head: &Head, body: &[u8]) -> Result<MemDisk, Fail>
+/// Lays an image in this slot and shows it.
+fn lay_shown(disk: &mut MemDisk, slot: u8, head: &Head, body: &[u8]) -> Result<(), LogRefused>
     requires slot { slot < 2 }
     requires fallback { head.now.fallback ≤ MOST_PERCENT }
 {
-    let mut disk = MemDisk::new(alloc, 100, 1_000_000, Vec::new(alloc))?;
-    blank(&mut disk, slot)?;
-    lay(&mut disk, slot, head, body)?;
-    show(&mut disk, slot)?;
-    Ok(disk)
+    blank(disk, slot)?;
+    lay(disk, slot, head, body)?;
+    show(disk, slot)
 }
 
-/// The image of a slot of a disk with these bytes in it.
-fn loaded(alloc: Global, disk: &mut MemDisk, slot: u8) -> Result<Image, Fail>
+/// The image of a slot that shows one.
+fn image_of(rt: &impl Abort, alloc: Global, disk: &mut MemDisk, slot: u8) -> Image
     requires { slot < 2 }
-    ensures { IfOk result (λ image. IsInOrder slot (checkpoint_in image)) }
+    ensures { IsInOrder slot (checkpoint_in result) }
 {
-    match load(alloc, disk, slot)? {
-        Some(image) => Ok(image),
-        None => Err(Fail::new("the slot shows an image")),
-    }
+    let found = load(alloc, disk, slot).expect(rt, "the disk answers");
+    found.expect(rt, "the slot shows an image")
 }
 
-/// The bytes of the slot of a new disk, where the image of one with these bytes is laid in it.
-fn laid_again(alloc: Global, slot: u8, bytes: &[u8]) -> Result<Vec<u8>, Fail>
+/// The bytes of this slot on a new disk, where the image is laid in it.
+fn laid(rt: &impl Abort, alloc: Global, slot: u8, image: &Image) -> Vec<u8>
+    requires slot { slot < 2 }
+    requires image { IsInOrder slot (checkpoint_in image.now) }
+{
+    let body = body_for(alloc, &image.catalog, &image.tables, image.held.as_slice());
+    let body = body.expect(rt, MEMORY);
+    let mut disk = slotted(rt, alloc, &[], &[], 0);
+    let laid = lay_shown(&mut disk, slot, &image.head(), body.as_slice());
+    laid.expect(rt, "the disk answers");
+    disk.bytes(slot).to_vec(alloc).expect(rt, MEMORY)
+}
+
+/// Asserts that what the slot of this disk shows is laid with these bytes.
+fn is_laid_again(rt: &impl Abort, alloc: Global, slot: u8, disk: &mut MemDisk, wanted: &[u8])
     requires { slot < 2 }
 {
-    let file = bytes.to_vec(alloc)?;
-    let mut disk = if slot == 0 {
-        slotted(alloc, file, Vec::new(alloc))?
-    } else {
-        slotted(alloc, Vec::new(alloc), file)?
-    };
-    let image = loaded(alloc, &mut disk, slot)?;
-    let body = body_for(alloc, &image.catalog, &image.tables, image.held.as_slice())?;
-    let copy = laid(alloc, slot, &image.head(), body.as_slice())?;
-    Ok(copy.bytes(slot).to_vec(alloc)?)
+    let image = image_of(rt, alloc, disk, slot);
+    let found = laid(rt, alloc, slot, &image);
+    same_bytes(rt, "laid again", found.as_slice(), wanted);
 }
 
 #[test]
-fn what_is_loaded_is_laid_as_it_was(rt: HostRuntime) -> Result<(), Fail> {
-    let first = laid_again(rt.alloc(), 1, &FIRST)?;
-    same(&rt, &"first", &first.as_slice(), &FIRST.as_slice());
-    let second = laid_again(rt.alloc(), 0, &SECOND)?;
-    same(&rt, &"second", &second.as_slice(), &SECOND.as_slice());
-    Ok(())
+fn what_is_loaded_is_laid_as_it_was(rt: HostRuntime) {
+    let alloc = rt.alloc();
+    let mut disk = slotted(&rt, alloc, &[], &FIRST, 0);
+    is_laid_again(&rt, alloc, 1, &mut disk, &FIRST);
+    let mut disk = slotted(&rt, alloc, &SECOND, &[], 0);
+    is_laid_again(&rt, alloc, 0, &mut disk, &SECOND);
 }
 
-/// The second image's fields, and how many rows and requests it has.
-fn fields(alloc: Global) -> Result<(Head, usize, usize), Fail> {
-    let mut disk = slotted(alloc, SECOND.to_vec(alloc)?, Vec::new(alloc))?;
-    let image = loaded(alloc, &mut disk, 0)?;
-    Ok((image.head(), image.tables.rows()?.len(), image.held.len()))
-}
-
-#[test]
-fn fields_are_those_of_the_bytes(rt: HostRuntime) -> Result<(), Fail> {
-    let head = Head {
-        format: 1,
-        rule: Rule::Plain,
-        fallback: 7,
-        generation: 2,
-        batches: 513,
-        requests: 3,
-    };
-    same(&rt, &"second", &fields(rt.alloc())?, &(head, 2, 2));
-    Ok(())
-}
-
-/// What is answered where this device call fails: the length, the gate, the head, the body.
-fn answer(alloc: Global, call: u64) -> Result<bool, LogRefused> {
-    let mut disk = failing(alloc, call)?;
-    Ok(load(alloc, &mut disk, 1)?.is_some())
-}
-
-/// A disk with the first checkpoint, on which one call fails.
-fn failing(alloc: Global, call: u64) -> Result<MemDisk, LogRefused> {
-    let made = MemDisk::of(
-        alloc,
-        Vec::new(alloc),
-        FIRST.to_vec(alloc)?,
-        Vec::new(alloc),
-        Vec::new(alloc),
-        100,
-        1000,
-        vec![in alloc; call]?,
-    );
-    match made {
-        Ok(disk) => Ok(disk),
-        Err(_) => Err(LogRefused::Memory),
-    }
+/// Whether this is the second image's head.
+fn is_second(head: &Head) -> bool {
+    *head
+        == Head {
+            format: 1,
+            rule: Rule::Plain,
+            fallback: 7,
+            generation: 2,
+            batches: 513,
+            requests: 3,
+        }
 }
 
 #[test]
-fn each_call_fails_in_turn(rt: HostRuntime) -> Result<(), Fail> {
+fn fields_are_those_of_the_bytes(rt: HostRuntime) {
+    let alloc = rt.alloc();
+    let mut disk = slotted(&rt, alloc, &SECOND, &[], 0);
+    let image = image_of(&rt, alloc, &mut disk, 0);
+    let rows = image.tables.rows().expect(&rt, MEMORY).len();
+    holds(&rt, "its head", is_second(&image.head()));
+    holds(&rt, "its rows", rows == 2);
+    holds(&rt, "its requests", image.held.len() == 2);
+}
+
+/// Whether the first slot cannot be loaded since the disk fails at this call.
+fn is_fault(rt: &impl Abort, alloc: Global, call: u64) -> bool {
+    let mut disk = slotted(rt, alloc, &[], &FIRST, call);
+    let refused = load(alloc, &mut disk, 1).err();
+    matches!(refused, Some(LogRefused::DiskFault))
+}
+
+/// The calls are those for the length, the gate, the head and the body.
+#[test]
+fn each_call_fails_in_turn(rt: HostRuntime) {
+    let alloc = rt.alloc();
     for call in 1..=4 {
-        same(
-            &rt,
-            &call,
-            &answer(rt.alloc(), call),
-            &Err(LogRefused::DiskFault),
-        );
+        holds(&rt, "the fault is told", is_fault(&rt, alloc, call));
     }
-    same(&rt, &"none", &answer(rt.alloc(), 5), &Ok(true));
-    Ok(())
+    let mut disk = slotted(&rt, alloc, &[], &FIRST, 5);
+    let _image = image_of(&rt, alloc, &mut disk, 1);
 }

@@ -1,7 +1,8 @@
 // A script at its limit of bytes.
 ghost use Rattle.std.specs.Prelude.{◌<◌};
 
-use crate::outcomes::{FIRST, outcome_within, same, start};
+use crate::checks::same;
+use crate::outcomes::{FIRST, outcome_within, start};
 use script_places::Mode;
 use std::alloc::Global;
 use std::process::Abort;
@@ -32,7 +33,7 @@ fn within(
 {
     let echo = start(alloc, Mode::Once, FIRST)?;
     let found = outcome_within(alloc, limit, echo, THREE.as_bytes(), piece)?;
-    same(rt, &limit, &found.as_slice(), &wanted.as_bytes());
+    same(rt, "a bound of bytes", &found, wanted);
     Ok(())
 }
 

@@ -1,5 +1,6 @@
 // Sources and sinks that fail.
-use crate::outcomes::{FIRST, outcome, same, start};
+use crate::checks::same;
+use crate::outcomes::{FIRST, outcome, start};
 use script_places::Mode;
 use std::process::Abort;
 use std::test::Fail;
@@ -27,7 +28,7 @@ fn sources_that_fail(rt: HostRuntime) -> Result<(), Fail> {
     for (call, wanted) in BY_SOURCE {
         let echo = start(alloc, Mode::Once, FIRST)?;
         let found = outcome(alloc, echo, SCRIPT.as_bytes(), 7, &[call], &[])?;
-        same(&rt, &call, &found.as_slice(), &wanted.as_bytes());
+        same(&rt, "a call that fails", &found, wanted);
     }
     Ok(())
 }
@@ -49,7 +50,7 @@ fn sinks_that_fail(rt: HostRuntime) -> Result<(), Fail> {
     for (call, wanted) in BY_SINK {
         let echo = start(alloc, Mode::Once, FIRST)?;
         let found = outcome(alloc, echo, REFUSED.as_bytes(), 7, &[], &[call])?;
-        same(&rt, &call, &found.as_slice(), &wanted.as_bytes());
+        same(&rt, "a call that fails", &found, wanted);
     }
     Ok(())
 }
@@ -66,7 +67,7 @@ fn the_first_event_decides(rt: HostRuntime) -> Result<(), Fail> {
     ] {
         let echo = start(alloc, Mode::Once, FIRST)?;
         let found = outcome(alloc, echo, text.as_bytes(), 7, &[call], &[])?;
-        same(&rt, &call, &found.as_slice(), &wanted.as_bytes());
+        same(&rt, "a call that fails", &found, wanted);
     }
     Ok(())
 }

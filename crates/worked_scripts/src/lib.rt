@@ -1,8 +1,10 @@
 //! Worked scripts, which the gate runs, and the smallest command that reads one.
 //!
-//! [`Echo`] prints in one word what each line of a script asks for. Scripts that a command line can show are
-//! cases of `worked_cases`. `scripts` has some that begin behind batches, which no command line can bring
-//! about, `bounds` one at its limit of bytes, and `faults` sources and sinks that fail at each call in turn.
+//! [`Echo`] prints in one word what each line of a script asks for. Scripts and lines that a command line can
+//! show are cases of `worked_cases`. `scripts` has some that begin behind batches, which no command line can bring
+//! about, `bounds` one at its limit of bytes, and `faults` sources and sinks that fail at each call in turn. `forms`
+//! has lines that say a catalogue or a piece of one, and `cuttings` feeds texts in pieces of many sizes. `answers`
+//! and `refusals` have what is printed with all its bytes, worked out by hand.
 //!
 //! ```text
 //! catalog bank          nothing
@@ -18,10 +20,22 @@ mod echoes;
 pub use echoes::Echo;
 
 #[cfg(test)]
+mod answers;
+#[cfg(test)]
 mod bounds;
+#[cfg(test)]
+mod catalogs;
+#[cfg(test)]
+mod checks;
+#[cfg(test)]
+mod cuttings;
 #[cfg(test)]
 mod faults;
 #[cfg(test)]
+mod forms;
+#[cfg(test)]
 mod outcomes;
+#[cfg(test)]
+mod refusals;
 #[cfg(test)]
 mod scripts;

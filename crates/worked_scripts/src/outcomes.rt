@@ -9,8 +9,6 @@ use script_course::{MOST_BYTES, Stop, read_through};
 use script_places::{Counts, Mode, ScriptPlace};
 use script_text::{LinesRefused, Refusal};
 use std::alloc::Global;
-use std::fmt::Debug;
-use std::process::Abort;
 use std::test::Fail;
 
 /// Before the first batch.
@@ -19,11 +17,6 @@ pub const FIRST: Counts = Counts {
     requests: 0,
     waiting: 0,
 };
-
-/// Asserts that what was found in this case is what was worked out for it.
-pub fn same<T: PartialEq + Debug>(rt: &impl Abort, case: &impl Debug, found: &T, wanted: &T) {
-    assert_eq!(rt; found, wanted, "at {case:?}");
-}
 
 /// A script of this command of which nothing was read. That of `run` is read with the bank.
 pub fn start(alloc: Global, mode: Mode, counts: Counts) -> Result<Echo, Fail> {

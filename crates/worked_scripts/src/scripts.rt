@@ -1,8 +1,9 @@
 // Scripts of `once` and `check` that begin behind batches, and what each comes to.
 ghost use Rattle.std.specs.Prelude.{◌<◌};
 
+use crate::checks::same;
 use crate::echoes::Echo;
-use crate::outcomes::{outcome, same, start};
+use crate::outcomes::{outcome, start};
 use script_places::{Counts, Mode};
 use std::alloc::Global;
 use std::process::Abort;
@@ -31,7 +32,7 @@ fn read_by(
     requires { 0 < piece }
 {
     let found = outcome(alloc, echo, text.as_bytes(), piece, &[], &[])?;
-    same(rt, &text, &found.as_slice(), &wanted.as_bytes());
+    same(rt, text, &found, wanted);
     Ok(())
 }
 

@@ -37,7 +37,7 @@ const KINDS: [(RefusalKind, &str); 12] = [
 fn each_refusal_has_its_line(rt: HostRuntime) -> Result<(), Fail> {
     for (kind, said) in KINDS {
         let found = print_refusal(rt.alloc(), &Refusal { line: 3, kind })?;
-        same(&rt, &said, &found, said.as_bytes());
+        same(&rt, "a refusal", &found, said);
     }
     Ok(())
 }
@@ -65,6 +65,6 @@ fn notices(alloc: Global) -> Result<Vec<u8>, Memory> {
 
 #[test]
 fn commands_have_lines_of_their_own(rt: HostRuntime) -> Result<(), Fail> {
-    same(&rt, &"commands", &notices(rt.alloc())?, NOTICES.as_bytes());
+    same(&rt, "commands", &notices(rt.alloc())?, NOTICES);
     Ok(())
 }

@@ -1,7 +1,7 @@
 // Texts cut into pieces, and what is refused of them.
 ghost use Rattle.std.specs.Prelude.{◌<◌};
 
-use crate::words::same;
+use crate::checks::same;
 use aria_base::Bytes;
 use script_text::{Lines, LinesRefused, RefusalKind};
 use std::alloc::Global;
@@ -82,7 +82,7 @@ fn cutting_makes_no_difference(rt: HostRuntime) -> Result<(), Fail> {
             return Err(Fail::new("pieces have bytes"));
         }
         let found = barred(rt.alloc(), 1000, 4096, TEXT.as_bytes(), size)?;
-        same(&rt, &size, &found.as_slice(), &BARRED.as_bytes());
+        same(&rt, "a cut text", &found, BARRED);
     }
     Ok(())
 }
@@ -114,7 +114,7 @@ const BOUNDED: [(u64, u32, &str, &str); 14] = [
 fn first_byte_past_a_bound_refuses(rt: HostRuntime) -> Result<(), Fail> {
     for (limit, longest, text, said) in BOUNDED {
         let found = barred(rt.alloc(), limit, longest, text.as_bytes(), 1)?;
-        same(&rt, &text, &found.as_slice(), &said.as_bytes());
+        same(&rt, text, &found, said);
     }
     Ok(())
 }
@@ -140,11 +140,6 @@ fn refusals_change_nothing(rt: HostRuntime) -> Result<(), Fail> {
     if let Some(last) = lines.finish() {
         out.extend_from_slice(last.as_slice())?;
     }
-    same(
-        &rt,
-        &"bars",
-        &out.as_slice(),
-        &b"abc|d|abc|d|abc|01234".as_slice(),
-    );
+    same(&rt, "bars", &out, "abc|d|abc|d|abc|01234");
     Ok(())
 }

@@ -110,7 +110,7 @@ fn each_reply_has_its_line(rt: HostRuntime) -> Result<(), Fail> {
     let order = vec![in alloc; 9, 7, 8]?;
     let answer = answer(20, replies(alloc, &catalog)?, order);
     let found = print_answer(alloc, &catalog, &answer)?;
-    same(&rt, &"all", &found, REPLIES.as_bytes());
+    same(&rt, "all", &found, REPLIES);
     Ok(())
 }
 
@@ -120,6 +120,6 @@ fn an_empty_order_stands_alone(rt: HostRuntime) -> Result<(), Fail> {
     let answer = answer(1, Vec::new(alloc), Vec::new(alloc));
     let mut out = Vec::from_slice(alloc, b"before\n")?;
     append_answer(&mut out, &catalog(alloc)?, &answer)?;
-    same(&rt, &"empty", &out, b"before\nbatch 1\norder\nend 1\n");
+    same(&rt, "empty", &out, "before\nbatch 1\norder\nend 1\n");
     Ok(())
 }
