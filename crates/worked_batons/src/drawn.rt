@@ -14,7 +14,7 @@ use test_banks::{Account, Ask, drawn, drawn_ask};
 const LISTS: u32 = 500;
 
 /// How many workers run a list.
-fn crew_of(list: u32) -> u32
+pub fn crew_of(list: u32) -> u32
     ensures { (1 ≤ result) × (result ≤ MOST_WORKERS) }
 {
     match list % 3 {
