@@ -3,7 +3,8 @@
 //!
 //! `cuts` has a head and a script that end at each of their bytes, `stops` every image of a stop that memory
 //! tells, `formats` those of a store of format 1, and `faults` a source, a sink and a disk that fail at each of
-//! their calls in turn. `outcomes` runs the top call over memory, and asserts.
+//! their calls in turn. `timely` has a source that looks at the sink whenever more of it is asked for. `outcomes`
+//! runs the top call over memory, and asserts.
 #![tactic(auto)]
 
 #[cfg(test)]
@@ -16,3 +17,5 @@ mod formats;
 mod outcomes;
 #[cfg(test)]
 mod stops;
+#[cfg(test)]
+mod timely;
