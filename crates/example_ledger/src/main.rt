@@ -1,20 +1,22 @@
 //! A ledger on the engine as a library, in a store that outlives the program. Three batches run on three replicas,
-//! each in the store before a byte of its answer is printed; then the store is opened again.
+//! each in the store before a byte of its answer is printed. The answer of a fourth comes as a value. Then the store
+//! is opened again.
 #![tactic(auto)]
 
-ghost use Rattle.std.specs.Prelude.{IfOk};
-ghost use Rattle.serving.specs.Lives.{IsRunnable};
-ghost use Rattle.serving.specs.Stored.{IsLogging};
+mod batches;
+mod outcomes;
 
-use answer_text::print_state;
-use aria_base::{FileSink, Free, GREATEST_NUMBER, LONGEST_LINE, MOST_REQUESTS, Memory, Sink};
+use crate::batches::{answer, serve};
+use crate::outcomes::outcomes;
+use answer_text::{print_answer, print_state};
+use aria_base::{FileSink, Free, Memory, Sink};
 use aria_store::{Image, Store, StoreRefused};
+use batch_core::Answer;
 use batch_rules::verdicts::Rule;
 use cat_read::{CatRefused, read_catalog};
 use dir_disk::DirDisk;
 use disk_model::Disk;
-use image_text::read_calls;
-use serving::{Delivery, Live, serve_batch};
+use serving::{Delivery, Live};
 use std::alloc::Global;
 use std::fs::Files;
 use std::io::{Print, writer};
@@ -36,12 +38,15 @@ const CATALOG: &str = r#"{"tables":[{"name":"account","key":["int"],"cols":["int
 {"name":"balance","args":["int"],"regs":["int","text"],"body":[
 ["need","account",[["arg",0]],[0,1],2],["give",["reg",0]],["give",["reg",1]]]}]}"#;
 
-/// The batches, each call a line.
+/// The batches whose answers are printed, each call a line.
 const BATCHES: [&str; 3] = [
     "tx open 1 \"ada\" 100\ntx open 2 \"bob\" 20\n",
     "tx pay 1 2 30\ntx pay 2 1 500\ntx balance 1\n",
     "tx pay 2 1 15\ntx pay 2 1 10\ntx balance 2\n",
 ];
+
+/// The batch whose answer is taken as a value.
+const LAST: &str = "tx pay 1 2 5\ntx pay 2 1 90\ntx balance 2\n";
 
 /// Three replicas of two workers each, and a checkpoint behind each second batch.
 const SETTINGS: RunSettings = RunSettings {
@@ -65,7 +70,7 @@ enum Fault {
     NotOpened(NotOpened),
     #[error("the lines are not calls of the catalogue")]
     NoCalls,
-    #[error("the lines of a batch are together longer than a line may be")]
+    #[error("the line of a call is longer than a line may be")]
     TooLong,
     #[error("too many calls wait")]
     NoRoom,
@@ -93,11 +98,12 @@ fn run<R: AllocGlobal + Files + Print + Threads + Sync>(rt: &R) -> Result<(), Fa
     for lines in BATCHES {
         ledger = serve(rt, alloc, ledger, lines, &mut out, &mut disk)?;
     }
+    let (ledger, answer) = answer(rt, alloc, ledger, LAST, &mut disk)?;
+    tell(alloc, &ledger, &answer, &mut out)?;
     let ledger = open(rt, alloc, &SETTINGS, &mut disk, &Free).map_err(Fault::NotOpened)?;
     for engine in ledger.replicas.parts().as_slice() {
         let rows = print_state(alloc, engine.catalog(), engine.tables(), engine.batches())?;
-        out.give(&rows)
-            .map_err(|_| Fault::NotDelivered(Delivery::NoWrite))?;
+        give(&rows, &mut out)?;
     }
     Ok(())
 }
@@ -119,32 +125,15 @@ fn create<D: Disk>(alloc: Global, disk: &mut D) -> Result<(), Fault> {
     Ok(())
 }
 
-/// Runs the calls of these lines as the next batch, and prints its answer once it is in the store.
-fn serve<K: Sink, D: Disk, R: Threads + Sync>(
-    rt: &R,
-    alloc: Global,
-    ledger: Live,
-    lines: &str,
-    out: &mut K,
-    disk: &mut D,
-) -> Result<Live, Fault>
-    requires runnable { IsRunnable ledger }
-    requires logging { IsLogging (D.history disk.old) ledger }
-    ensures runnable { IfOk result IsRunnable }
-    ensures logging { IfOk result (IsLogging (D.history disk.new)) }
-{
+/// Prints an answer, and what became of each of its requests.
+fn tell<K: Sink>(alloc: Global, ledger: &Live, answer: &Answer, out: &mut K) -> Result<(), Fault> {
     let catalog = ledger.replicas.first().catalog();
-    let calls = read_calls(alloc, catalog, lines.as_bytes())?.ok_or(Fault::NoCalls)?;
-    if LONGEST_LINE < lines.len() {
-        return Err(Fault::TooLong);
-    }
-    if MOST_REQUESTS - ledger.waiting() < calls.len() {
-        return Err(Fault::NoRoom);
-    }
-    let left = GREATEST_NUMBER - ledger.requests();
-    if left < calls.len() as u64 || GREATEST_NUMBER == ledger.batches() {
-        return Err(Fault::NoNumbers);
-    }
-    let (next, why) = serve_batch(rt, alloc, ledger, calls, out, disk, &Free);
-    next.ok_or(Fault::NotDelivered(why))
+    let text = print_answer(alloc, catalog, answer)?;
+    give(&text, out)?;
+    give(outcomes(alloc, answer)?.as_bytes(), out)
+}
+
+fn give<K: Sink>(bytes: &[u8], out: &mut K) -> Result<(), Fault> {
+    out.give(bytes)
+        .map_err(|_| Fault::NotDelivered(Delivery::NoWrite))
 }
