@@ -60,7 +60,7 @@ pub fn rule_word(rule: Rule) -> &'static str {
     }
 }
 
-/// Any settings; workers and replicas are no matter of a script.
+/// Any settings; workers, replicas and batons are no matter of a script.
 fn drawn_config(draws: &mut Draws) -> Config {
     Config {
         rule: drawn_rule(draws),

@@ -32,6 +32,9 @@ const ROOM: usize = 1_000_000;
 /// Behind how many batches a checkpoint is laid, 0 for none.
 const CHECKPOINTS: [&str; 3] = ["0", "1", "2"];
 
+/// How what waits is run again: wave after wave, or by handed rows.
+const LATE_RUNS: [&str; 2] = ["", " --batons"];
+
 /// How many bytes a source gives at a time.
 const PIECES: [usize; 3] = [1, 7, 4096];
 
@@ -101,15 +104,16 @@ fn empty_disk(rt: &impl Abort, alloc: Global) -> MemDisk {
     MemDisk::new(alloc, 1000, 1_000_000, Vec::new(alloc)).expect(rt, MEMORY)
 }
 
-/// The options of a run of a script. How many workers and replicas there are is drawn, when rows are listed
-/// is not.
+/// The options of a run of a script. How many workers and replicas there are is drawn, and how what waits is
+/// run again; when rows are listed is not.
 fn options(rt: &impl Abort, alloc: Global, draws: &mut Draws, each: bool, drain: bool) -> String {
     let workers = drawn(draws, 3);
     let replicas = drawn(draws, 2);
+    let batons = LATE_RUNS[(drawn(draws, 2) - 1) as usize];
     let state = if each { "each" } else { "last" };
     let drain = if drain { " --drain" } else { "" };
     let options = format!(in alloc;
-        " --workers {workers} --replicas {replicas} --state {state}{drain}"
+        " --workers {workers} --replicas {replicas}{batons} --state {state}{drain}"
     );
     options.expect(rt, MEMORY)
 }
