@@ -1,31 +1,36 @@
 -- The fronts of a key's parts that were scanned are the scanned prefixes that the key is under.
-use Rattle.std.proofs.Common.{◌≡◌, ℕ, zero, suc, ◌+◌, ◌≤◌, List, [], ◌∷◌, ◌++◌, take, length, Bool, true, false, refl, sym, ap, ◌∙◌, inl, inr, arith, add-one}
-use Rattle.std.specs.Prelude.{◌||◌, ◌&&◌, if◌then◌else◌, nat_eq, nat_lt, slice_index_or}
+use Rattle.std.proofs.Common.{◌≡◌, ◌≢◌, ℕ, ℤ, pos, negsuc, zero, suc, ◌+◌, ◌≤◌, ◌<◌, List, [], ◌∷◌, ◌++◌, take, length, Bool, true, false, refl, sym, ap, ◌∙◌, inl, inr, arith, add-one}
+use Rattle.std.specs.Prelude.{◌||◌, ◌&&◌, if◌then◌else◌, min, nat_eq, nat_lt, slice_index_or}
 use Rattle.std.specs.List.{All, list_any}
-use Rattle.std.specs.Ordering.{eq_by_cmp, is_eq, nat_cmp, ordering_then}
+use Rattle.std.specs.Ordering.{eq_by_cmp, is_eq, nat_cmp, int_cmp, ordering_then}
 use Rattle.std.specs.Cmp.Lexicographic.{slice_cmp}
 use Rattle.std.specs.declared.cmp.Ordering.{Ordering}
 use Rattle.std.specs.declared.cmp.Ordering.TheVariants.{Less, Equal, Greater}
 use Rattle.std.specs.FinMap as fin
+use Rattle.std.proofs.Math.Nat.{min-le_left, min-le_right, le-min}
 use Rattle.std.proofs.lemmas.Bool.{cases_lt, lt-ltb, le-ltb, eq-eqb, ne_eqb}
 use Rattle.std.proofs.lemmas.Bool.Decides.{eqb_tells}
-use Rattle.std.specs.Cmp.{unsigned_tied}
+use Rattle.std.specs.Cmp.{unsigned_tied, tied_itself, Equal-is}
+use Rattle.std.specs.FinMap.{int_cmp-IsAntisymmetric}
+use Rattle.std.proofs.lemmas.Cmp.{int_cmp_total}
 use Rattle.std.proofs.lemmas.List.Elements.{All-nil, All-cons, All-append}
 use Rattle.std.proofs.lemmas.List.Folds.{list_any-append}
 use Rattle.aria_base.specs.Orders.{part_cmp, key_cmp}
 use Rattle.aria_base.specs.declared.keys.Part.{Part}
 use Rattle.aria_base.specs.declared.keys.Key.{Key}
+use Rattle.aria_base.specs.declared.limits.TheConstants.{MOST_PARTS}
 use Rattle.aria_base.proofs.Orders.{key_cmp-IsAntisymmetric}
 use Rattle.batch_rules.specs.Touches.{is_among}
 use Rattle.batch_rules.proofs.Maps.{same_key}
 use Rattle.range_rules.specs.declared.routines.Prefix.{Prefix}
-use Rattle.range_rules.specs.Scans.{begins, is_under, key_of}
+use Rattle.range_rules.specs.Scans.{begins, is_under, key_at}
 use Rattle.range_marks.specs.Decisions.{AreMarks}
 use Rattle.range_runs.specs.Indexes.{Listed}
-use Rattle.range_marks.specs.Marks.{front_of, fronts_up_to, marks_on}
+use Rattle.range_marks.specs.Marks.{whole_table, mark_of, prefix_of, front_of, front_count, fronts_below, marks_on}
+use Rattle.range_marks.specs.declared.places.TheConstants.{NO_TABLE}
 
-pub fronts_more : (scanned : Listed) (k : Key) (n : ℕ) → fronts_up_to scanned k (n + 1) ≡ fronts_up_to scanned k n
-    ++ (if fin.contains_key scanned (front_of k (n + 1)) then front_of k (n + 1) ∷ [] else [])
+pub fronts_more : (scanned : Listed) (k : Key) (n : ℕ) → fronts_below scanned k (n + 1) ≡ fronts_below scanned k n
+    ++ (if fin.contains_key scanned (front_of k n) then front_of k n ∷ [] else [])
 fronts_more scanned k n = rw add-one refl
 
 -- ---- tests
@@ -74,6 +79,51 @@ suc_same a b = elim (eqb_tells a b) [
   | inr apart ↦ let e = apart.1 in apart.0 ∙ sym (ne_eqb (suc a) (suc b) (λ same. e (omega arith)))
 ]
 
+-- ---- keys that stand for prefixes
+
+-- parts of which there are not as many differ
+unlike : (xs ys : List Part) → length xs ≢ length ys → is_eq (slice_cmp part_cmp xs ys) ≡ false
+unlike [] [] ne = absurd (ne refl)
+unlike [] (y ∷ ys) ne = refl
+unlike (x ∷ xs) [] ne = refl
+unlike (x ∷ xs) (y ∷ ys) ne = tied_then (part_cmp x y) (slice_cmp part_cmp xs ys)
+    ∙ ap (λ b. is_eq (part_cmp x y) && b) (unlike xs ys (λ e. ne (ap suc e))) ∙ and_false (is_eq (part_cmp x y))
+
+abbrev size : ℤ → ℕ
+size (pos n) = n
+size (negsuc n) = n
+
+numbers_tied : (t u : ℕ) → is_eq (int_cmp (pos t) (pos u)) ≡ nat_eq t u
+numbers_tied t u = elim (eqb_tells t u) [
+  | inl same ↦ ap (λ n. is_eq (int_cmp (pos t) (pos n))) (sym same.1) ∙ (Equal-is (int_cmp (pos t) (pos t))).1 (tied_itself int_cmp_total (pos t)) ∙ sym same.0
+  | inr apart ↦ elim (int_cmp (pos t) (pos u)) as (λ o. int_cmp (pos t) (pos u) ≡ o → is_eq o ≡ nat_eq t u) [
+    | Less ↦ λ _. sym apart.0
+    | Equal ↦ λ e. absurd (apart.1 (ap size (int_cmp-IsAntisymmetric (pos t) (pos u) e)))
+    | Greater ↦ λ _. sym apart.0
+  ] refl
+]
+
+same_tables : (t u : ℕ) → eq_by_cmp key_cmp (whole_table t) (whole_table u) ≡ (nat_eq t u && true)
+same_tables t u = tied_then (int_cmp (pos t) (pos u)) Equal ∙ ap (λ b. b && true) (numbers_tied t u)
+
+-- two prefixes are one exactly where the keys are that stand for them
+same_mark : (p q : Prefix) → length p.parts < MOST_PARTS → length q.parts < MOST_PARTS
+    → eq_by_cmp key_cmp (mark_of p) (mark_of q) ≡ (nat_eq p.table q.table && is_eq (slice_cmp part_cmp p.parts q.parts))
+same_mark p q few less = at p.parts q.parts few less
+  where
+    at : (ps qs : List Part) → length ps < MOST_PARTS → length qs < MOST_PARTS
+        → eq_by_cmp key_cmp (key_at (whole_table p.table) p.table ps) (key_at (whole_table q.table) q.table qs)
+        ≡ (nat_eq p.table q.table && is_eq (slice_cmp part_cmp ps qs))
+    at [] [] few less = same_tables p.table q.table
+    at [] (y ∷ ys) few less = tied_then (nat_cmp NO_TABLE q.table) (slice_cmp part_cmp (whole_table p.table).parts (y ∷ ys))
+        ∙ ap (λ b. is_eq (nat_cmp NO_TABLE q.table) && b) (unlike (whole_table p.table).parts (y ∷ ys) (λ e. omega (arith, less, e)))
+        ∙ and_false (is_eq (nat_cmp NO_TABLE q.table)) ∙ sym (and_false (nat_eq p.table q.table))
+    at (x ∷ xs) [] few less = tied_then (nat_cmp p.table NO_TABLE) (slice_cmp part_cmp (x ∷ xs) (whole_table q.table).parts)
+        ∙ ap (λ b. is_eq (nat_cmp p.table NO_TABLE) && b) (unlike (x ∷ xs) (whole_table q.table).parts (λ e. omega (arith, few, e)))
+        ∙ and_false (is_eq (nat_cmp p.table NO_TABLE)) ∙ sym (and_false (nat_eq p.table q.table))
+    at (x ∷ xs) (y ∷ ys) few less = tied_then (nat_cmp p.table q.table) (slice_cmp part_cmp (x ∷ xs) (y ∷ ys))
+        ∙ ap (λ b. b && is_eq (slice_cmp part_cmp (x ∷ xs) (y ∷ ys))) (unsigned_tied p.table q.table)
+
 -- ---- fronts
 
 same_parts : (ps xs : List Part) (n : ℕ) → n ≤ length xs → is_eq (slice_cmp part_cmp ps (take n xs)) ≡ (begins ps xs && nat_eq (length ps) n)
@@ -86,10 +136,16 @@ same_parts (p ∷ ps) (x ∷ xs) (suc n) below = tied_then (part_cmp p x) (slice
     ∙ ap (λ b. eq_by_cmp part_cmp p x && b) (same_parts ps xs n (omega arith)) ∙ and_assoc (eq_by_cmp part_cmp p x) (begins ps xs) (nat_eq (length ps) n)
     ∙ ap (λ b. (eq_by_cmp part_cmp p x && begins ps xs) && b) (suc_same (length ps) n)
 
-same_front : (p : Prefix) (k : Key) (n : ℕ) → n ≤ length k.parts → eq_by_cmp key_cmp (key_of p) (front_of k n) ≡ (is_under p k && nat_eq (length p.parts) n)
-same_front p k n below = tied_then (nat_cmp p.table k.table) (slice_cmp part_cmp p.parts (take n k.parts))
-    ∙ (λ i. unsigned_tied p.table k.table i && same_parts p.parts k.parts n below i) ∙ and_assoc (nat_eq p.table k.table) (begins p.parts k.parts)
-    (nat_eq (length p.parts) n)
+few_taken : (xs : List Part) (n : ℕ) → length (take n xs) ≤ n
+few_taken xs zero = omega arith
+few_taken [] (suc n) = omega arith
+few_taken (x ∷ xs) (suc n) = let few = few_taken xs n in omega (arith, few)
+
+same_front : (p : Prefix) (k : Key) (n : ℕ) → n ≤ length k.parts → n < MOST_PARTS → length p.parts < MOST_PARTS
+    → eq_by_cmp key_cmp (mark_of p) (front_of k n) ≡ (is_under p k && nat_eq (length p.parts) n)
+same_front p k n below few short = same_mark p (prefix_of k n) short (let t = few_taken k.parts n in omega (arith, t, few))
+    ∙ ap (λ b. nat_eq p.table k.table && b) (same_parts p.parts k.parts n below)
+    ∙ and_assoc (nat_eq p.table k.table) (begins p.parts k.parts) (nat_eq (length p.parts) n)
 
 -- a scanned prefix is the front that was looked up, or it is not there
 looked_up : (scanned : Listed) (q f : Key) → fin.contains_key scanned q ≡ true → is_among key_cmp (if fin.contains_key scanned f then f ∷ [] else []) q
@@ -103,13 +159,15 @@ looked_up scanned q f there = elim (fin.contains_key scanned f) as (λ b. fin.co
       ] refl
     ] refl
 
-fronts_each : (scanned : Listed) (k : Key) (n : ℕ) (p : Prefix) → n ≤ length k.parts → 1 ≤ length p.parts → fin.contains_key scanned (key_of p) ≡ true
-    → is_among key_cmp (fronts_up_to scanned k n) (key_of p) ≡ (is_under p k && nat_lt (length p.parts) (suc n))
-fronts_each scanned k zero p below some there = sym (ap (λ b. is_under p k && b) (le-ltb (length p.parts) 1 some) ∙ and_false _)
-fronts_each scanned k (suc n) p below some there =
-    list_any-append (eq_by_cmp key_cmp (key_of p)) (fronts_up_to scanned k n) _
-    ∙ (λ i. fronts_each scanned k n p (omega arith) some there i || (looked_up scanned (key_of p) (front_of k (suc n)) there ∙ same_front p k (suc n) below) i)
-    ∙ and_or (is_under p k) (nat_lt (length p.parts) (suc n)) (nat_eq (length p.parts) (suc n)) ∙ ap (λ b. is_under p k && b) (lt_step (length p.parts) (suc n))
+fronts_each : (scanned : Listed) (k : Key) (n : ℕ) (p : Prefix) → n ≤ length k.parts + 1 → n ≤ MOST_PARTS → length p.parts < MOST_PARTS
+    → fin.contains_key scanned (mark_of p) ≡ true
+    → is_among key_cmp (fronts_below scanned k n) (mark_of p) ≡ (is_under p k && nat_lt (length p.parts) n)
+fronts_each scanned k zero p below few short there = sym (ap (λ b. is_under p k && b) (le-ltb (length p.parts) 0 (omega arith)) ∙ and_false _)
+fronts_each scanned k (suc n) p below few short there =
+    let one = looked_up scanned (mark_of p) (front_of k n) there ∙ same_front p k n (omega (arith, below)) (omega (arith, few)) short in
+    list_any-append (eq_by_cmp key_cmp (mark_of p)) (fronts_below scanned k n) _
+    ∙ (λ i. fronts_each scanned k n p (omega (arith, below)) (omega (arith, few)) short there i || one i)
+    ∙ and_or (is_under p k) (nat_lt (length p.parts) n) (nat_eq (length p.parts) n) ∙ ap (λ b. is_under p k && b) (lt_step (length p.parts) n)
 
 begins_within : (ps xs : List Part) → begins ps xs ≡ true → length ps ≤ length xs
 begins_within [] xs e = omega arith
@@ -119,23 +177,32 @@ begins_within (p ∷ ps) (x ∷ xs) e = elim (eq_by_cmp part_cmp p x) as (λ b. 
   | false ↦ λ e. cc
 ] e
 
-under_within : (p : Prefix) (k : Key) → (is_under p k && nat_lt (length p.parts) (suc (length k.parts))) ≡ is_under p k
-under_within p k = elim (nat_eq p.table k.table) as (λ t. ((t && begins p.parts k.parts) && nat_lt (length p.parts) (suc (length k.parts)))
+below_both : (a n m : ℕ) → a < n → a < m → a < min n m
+below_both a n m less few = le-min less few
+
+under_within : (p : Prefix) (k : Key) → length p.parts < MOST_PARTS → (is_under p k && nat_lt (length p.parts) (front_count k)) ≡ is_under p k
+under_within p k short = elim (nat_eq p.table k.table) as (λ t. ((t && begins p.parts k.parts) && nat_lt (length p.parts) (front_count k))
     ≡ (t && begins p.parts k.parts)) [
-      | true ↦ elim (begins p.parts k.parts) as (λ b. begins p.parts k.parts ≡ b → (b && nat_lt (length p.parts) (suc (length k.parts))) ≡ b) [
-        | true ↦ λ e. let few = begins_within p.parts k.parts e in lt-ltb (length p.parts) (suc (length k.parts)) (omega arith)
+      | true ↦ elim (begins p.parts k.parts) as (λ b. begins p.parts k.parts ≡ b → (b && nat_lt (length p.parts) (front_count k)) ≡ b) [
+        | true ↦ λ e.
+            let few = begins_within p.parts k.parts e in
+            lt-ltb (length p.parts) (front_count k) (below_both (length p.parts) (length k.parts + 1) MOST_PARTS (omega (arith, few)) short)
         | false ↦ λ e. refl
       ] refl
       | false ↦ refl
     ]
 
+few_fronts : (k : Key) → (front_count k ≤ length k.parts + 1) × (front_count k ≤ MOST_PARTS)
+few_fronts k = (min-le_left (length k.parts + 1) MOST_PARTS, min-le_right (length k.parts + 1) MOST_PARTS)
+
 -- a scanned prefix is marked exactly where one of the keys is under it
-pub marked_each : (scanned : Listed) (ks : List Key) (p : Prefix) → 1 ≤ length p.parts → fin.contains_key scanned (key_of p) ≡ true
-    → is_among key_cmp (marks_on scanned ks) (key_of p) ≡ list_any (is_under p) ks
-marked_each scanned [] p some there = refl
-marked_each scanned (k ∷ ks) p some there =
-    list_any-append (eq_by_cmp key_cmp (key_of p)) (fronts_up_to scanned k (length k.parts)) (marks_on scanned ks)
-    ∙ (λ i. (fronts_each scanned k (length k.parts) p (omega arith) some there ∙ under_within p k) i || marked_each scanned ks p some there i)
+pub marked_each : (scanned : Listed) (ks : List Key) (p : Prefix) → length p.parts < MOST_PARTS → fin.contains_key scanned (mark_of p) ≡ true
+    → is_among key_cmp (marks_on scanned ks) (mark_of p) ≡ list_any (is_under p) ks
+marked_each scanned [] p short there = refl
+marked_each scanned (k ∷ ks) p short there =
+    let fronts = fronts_each scanned k (front_count k) p (few_fronts k).0 (few_fronts k).1 short there ∙ under_within p k short in
+    list_any-append (eq_by_cmp key_cmp (mark_of p)) (fronts_below scanned k (front_count k)) (marks_on scanned ks)
+    ∙ (λ i. fronts i || marked_each scanned ks p short there i)
 
 -- and nothing else is
 module _ (scanned : Listed) where
@@ -148,16 +215,16 @@ module _ (scanned : Listed) where
     | false ↦ λ e. All-nil There
   ] refl
 
-  fronts : (k : Key) (n : ℕ) → All There (fronts_up_to scanned k n)
+  fronts : (k : Key) (n : ℕ) → All There (fronts_below scanned k n)
   fronts k zero = All-nil There
-  fronts k (suc n) = All-append There (fronts_up_to scanned k n) _ (fronts k n) (one (front_of k (suc n)))
+  fronts k (suc n) = All-append There (fronts_below scanned k n) _ (fronts k n) (one (front_of k n))
 
   pub marked_scanned : (ks : List Key) → All There (marks_on scanned ks)
   marked_scanned [] = All-nil There
-  marked_scanned (k ∷ ks) = All-append There (fronts_up_to scanned k (length k.parts)) (marks_on scanned ks) (fronts k (length k.parts)) (marked_scanned ks)
+  marked_scanned (k ∷ ks) = All-append There (fronts_below scanned k (front_count k)) (marks_on scanned ks) (fronts k (front_count k)) (marked_scanned ks)
 
 pub are_marks : (scanned : Listed) (ks : List Key) → AreMarks (fin.keys scanned) ks (marks_on scanned ks)
 are_marks scanned ks = record {
   among = λ k d below. sym (fin.contains_key-keys scanned (slice_index_or (marks_on scanned ks) k d)) ∙ marked_scanned scanned ks k d below;
-  each = λ p some there. marked_each scanned ks p some (fin.contains_key-keys scanned (key_of p) ∙ there);
+  each = λ p short there. marked_each scanned ks p short (fin.contains_key-keys scanned (mark_of p) ∙ there);
 }

@@ -20,9 +20,8 @@ use Rattle.dep_rules.specs.declared.sets.Sets.{Sets}
 use Rattle.key_numbering.specs.Numbers.{number_in, numbers_of}
 use Rattle.range_rules.specs.declared.routines.Ran.{Ran}
 use Rattle.range_rules.specs.Batches.{depends, written}
-use Rattle.range_rules.specs.Scans.{key_of}
 use Rattle.range_marks.specs.Decisions.{Spot, IsSpot, TellsKeys, AreApart, AreCounted, scan_verdicts}
-use Rattle.range_marks.specs.Marks.{marks_on, scanned_by, sets_with}
+use Rattle.range_marks.specs.Marks.{mark_of, marks_on, scanned_by, sets_with}
 use Rattle.range_marks.proofs.Judging.{verdicts-are}
 use Rattle.range_marks.proofs.Marking.{are_marks}
 use Rattle.range_marks.proofs.Spots.{IsSheetOf, holds_among}
@@ -40,8 +39,8 @@ map_id (x ∷ xs) = ap (λ l. x ∷ l) (map_id xs)
 -- no scanned prefix is taken for a key
 none_whole : (whole : Key → Bool) (rs : List Ran) → All (TellsKeys whole) rs → All (λ k. whole k ≡ false) (scanned_by rs)
 none_whole whole [] tell = All-nil (λ k. whole k ≡ false)
-none_whole whole (r ∷ rs) tell = All-append (λ k. whole k ≡ false) (map key_of r.scans) (scanned_by rs)
-    (All-map (λ k. whole k ≡ false) key_of r.scans (All-head (TellsKeys whole) r rs tell).scans)
+none_whole whole (r ∷ rs) tell = All-append (λ k. whole k ≡ false) (map mark_of r.scans) (scanned_by rs)
+    (All-map (λ k. whole k ≡ false) mark_of r.scans (All-head (TellsKeys whole) r rs tell).scans)
     (none_whole whole rs (All-tail (TellsKeys whole) r rs tell))
 
 module _ (rs : List Ran) (apart : AreApart rs) (sheet : Sheet) (n : NumbersSets (map (sets_with (scanned rs)) rs) sheet) where
@@ -84,7 +83,7 @@ module _ (rs : List Ran) (apart : AreApart rs) (sheet : Sheet) (n : NumbersSets 
         reads = refl;
         writes = refl;
         are = are_marks (scanned rs) (written r);
-        scans = λ j e within. listed (key_of (slice_index_or r.scans j e)) ∙ own_scans rs i d below j e within;
+        scans = λ j e within. listed (mark_of (slice_index_or r.scans j e)) ∙ own_scans rs i d below j e within;
       })
 
   no_key_whole : All (λ k. apart.whole k ≡ false) all_keys

@@ -10,6 +10,7 @@ use Rattle.std.proofs.lemmas.List.Folds.{list_any-append}
 use Rattle.std.proofs.lemmas.Option.{slice_get_within, get_or_from_slice_get}
 use Rattle.aria_base.specs.Orders.{key_cmp}
 use Rattle.aria_base.specs.declared.keys.Key.{Key}
+use Rattle.aria_base.specs.declared.limits.TheConstants.{MOST_PARTS}
 use Rattle.aria_base.proofs.Orders.{key_cmp_total, key_cmp-IsAntisymmetric}
 use Rattle.batch_rules.specs.declared.verdicts.Rule.{Rule}
 use Rattle.batch_rules.specs.Touches.{is_among}
@@ -24,8 +25,9 @@ use Rattle.dep_rules.specs.Sheets.{Sheet, writes_at}
 use Rattle.dep_rules.specs.Words.{tids_before}
 use Rattle.dep_rules.proofs.Sheets.{same_all}
 use Rattle.range_rules.specs.declared.routines.Prefix.{Prefix}
-use Rattle.range_rules.specs.Scans.{key_of, covers_any}
+use Rattle.range_rules.specs.Scans.{covers_any}
 use Rattle.range_rules.specs.Batches.{written, depends}
+use Rattle.range_marks.specs.Marks.{mark_of}
 use Rattle.range_marks.specs.Decisions.{Spot, AreMarks, IsSpot, TellsKeys, own_at, on_sheet, scan_verdict}
 
 -- ---- lists that meet
@@ -82,22 +84,22 @@ module _ (whole : Key → Bool) where
   ] refl e
 
 -- the marks that meet some scans are those of keys under them
-marks_cover : (scanned keys marks : List Key) (ps : List Prefix) → AreMarks scanned keys marks → All (λ p. is_among key_cmp scanned (key_of p) ≡ true) ps
-    → All (λ p. 1 ≤ length p.parts) ps
-    → meets key_cmp (map key_of ps) marks ≡ covers_any ps keys
-marks_cover scanned keys marks [] are all long = refl
-marks_cover scanned keys marks (p ∷ ps) are all long =
-    let In : Prefix → Type 0 = λ p. is_among key_cmp scanned (key_of p) ≡ true in
-    let Long : Prefix → Type 0 = λ p. 1 ≤ length p.parts in
-    λ i. are.each p (All-head Long p ps long) (All-head In p ps all) i || marks_cover scanned keys marks ps are (All-tail In p ps all)
-    (All-tail Long p ps long) i
+marks_cover : (scanned keys marks : List Key) (ps : List Prefix) → AreMarks scanned keys marks → All (λ p. is_among key_cmp scanned (mark_of p) ≡ true) ps
+    → All (λ p. length p.parts < MOST_PARTS) ps
+    → meets key_cmp (map mark_of ps) marks ≡ covers_any ps keys
+marks_cover scanned keys marks [] are all short = refl
+marks_cover scanned keys marks (p ∷ ps) are all short =
+    let In : Prefix → Type 0 = λ p. is_among key_cmp scanned (mark_of p) ≡ true in
+    let Short : Prefix → Type 0 = λ p. length p.parts < MOST_PARTS in
+    λ i. are.each p (All-head Short p ps short) (All-head In p ps all) i || marks_cover scanned keys marks ps are (All-tail In p ps all)
+    (All-tail Short p ps short) i
 
 -- ---- two runs of a batch
 
 module _ (whole : Key → Bool) (scanned : List Key) (parts : All (λ k. whole k ≡ false) scanned) (me other : Spot)
     (my : IsSpot scanned me) (its : IsSpot scanned other) (mine : TellsKeys whole me.ran) (theirs : TellsKeys whole other.ran) where
-  all_scans : (s : Spot) → TellsKeys whole s.ran → All (λ m. whole m ≡ false) (map key_of s.ran.scans)
-  all_scans s t = All-map (λ m. whole m ≡ false) key_of s.ran.scans t.scans
+  all_scans : (s : Spot) → TellsKeys whole s.ran → All (λ m. whole m ≡ false) (map mark_of s.ran.scans)
+  all_scans s t = All-map (λ m. whole m ≡ false) mark_of s.ran.scans t.scans
 
   all_marks : (keys marks : List Key) → AreMarks scanned keys marks → All (λ m. whole m ≡ false) marks
   all_marks keys marks are k d below = holds_among whole scanned (get_or marks k d) parts (are.among k d below)
@@ -109,7 +111,7 @@ module _ (whole : Key → Bool) (scanned : List Key) (parts : All (λ k. whole k
 
   pub raw_is : meets key_cmp me.sets.reads other.sets.writes ≡ (meets key_cmp me.ran.reads (written other.ran) || covers_any me.ran.scans (written other.ran))
   raw_is =
-      let scans = map key_of me.ran.scans in
+      let scans = map mark_of me.ran.scans in
       let theirs_written = written other.ran in
       (λ i. meets key_cmp (my.reads i) (its.writes i)) ∙ list_any-append (is_among key_cmp (theirs_written ++ its.marks)) me.ran.reads scans
       ∙ (λ i. (meets_behind me.ran.reads theirs_written its.marks
@@ -117,18 +119,18 @@ module _ (whole : Key → Bool) (scanned : List Key) (parts : All (λ k. whole k
       (none_met whole true me.ran.reads its.marks mine.reads (all_marks theirs_written its.marks its.are)) ∙ or_false _) i
       || (meets_behind scans theirs_written its.marks
       ∙ ap (λ b. b || meets key_cmp scans its.marks) (none_met whole false scans theirs_written (all_scans me mine) theirs.writes)
-      ∙ marks_cover scanned theirs_written its.marks me.ran.scans its.are my.scans mine.long) i)
+      ∙ marks_cover scanned theirs_written its.marks me.ran.scans its.are my.scans mine.short) i)
 
   pub war_is : meets key_cmp me.sets.writes other.sets.reads ≡ (meets key_cmp (written me.ran) other.ran.reads || covers_any other.ran.scans (written me.ran))
   war_is =
-      let scans = map key_of other.ran.scans in
+      let scans = map mark_of other.ran.scans in
       let my_written = written me.ran in
       (λ i. meets key_cmp (my.writes i) (its.reads i)) ∙ list_any-append (is_among key_cmp (other.ran.reads ++ scans)) my_written my.marks
       ∙ (λ i. (meets_behind my_written other.ran.reads scans
       ∙ ap (λ b. meets key_cmp my_written other.ran.reads || b) (none_met whole true my_written scans mine.writes (all_scans other theirs)) ∙ or_false _) i
       || (meets_behind my.marks other.ran.reads scans
       ∙ ap (λ b. b || meets key_cmp my.marks scans) (none_met whole false my.marks other.ran.reads (all_marks my_written my.marks my.are) theirs.reads)
-      ∙ meets_both my.marks scans ∙ marks_cover scanned my_written my.marks other.ran.scans my.are its.scans theirs.long) i)
+      ∙ meets_both my.marks scans ∙ marks_cover scanned my_written my.marks other.ran.scans my.are its.scans theirs.short) i)
 
 -- ---- a batch, by its sheet
 

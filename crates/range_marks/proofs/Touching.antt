@@ -18,11 +18,10 @@ use Rattle.key_numbering.specs.Numbers.{numbers_of}
 use Rattle.range_rules.specs.declared.routines.Ran.{Ran}
 use Rattle.range_rules.specs.declared.routines.TheConstants.{MOST_ACTIONS}
 use Rattle.range_rules.specs.Batches.{written}
-use Rattle.range_rules.specs.Scans.{key_of}
 use Rattle.range_runs.specs.Indexes.{Listed, with_keys}
 use Rattle.range_runs.proofs.Following.{has-with_keys}
 use Rattle.range_marks.specs.Decisions.{touch_count}
-use Rattle.range_marks.specs.Marks.{marks_on, scanned_by, with_scans, sets_with}
+use Rattle.range_marks.specs.Marks.{mark_of, marks_on, scanned_by, with_scans, sets_with}
 use Rattle.range_marks.specs.Within.{IsWithin}
 use Rattle.range_marks.proofs.Few.{few_numbers}
 use Rattle.range_marks.proofs.Marking.{marked_scanned}
@@ -63,7 +62,7 @@ has_scans : (scanned : Listed) (rs : List Ran) (q : Key)
     → fin.contains_key (with_scans scanned rs) q ≡ (fin.contains_key scanned q || is_among key_cmp (scanned_by rs) q)
 has_scans scanned [] q = or_nothing (fin.contains_key scanned q)
 has_scans scanned (r ∷ rs) q =
-    let own = map key_of r.scans in
+    let own = map mark_of r.scans in
     has_scans (with_keys scanned own) rs q
     ∙ ap (λ h. h || is_among key_cmp (scanned_by rs) q) (has-with_keys scanned own q)
     ∙ or_of_three (fin.contains_key scanned q) (is_among key_cmp own q) (is_among key_cmp (scanned_by rs) q)
@@ -74,20 +73,20 @@ pub all_scanned : (rs : List Ran) (q : Key) → fin.contains_key (with_scans fin
 all_scanned rs q = has_scans fin.empty rs q
     ∙ ap (λ b. b || is_among key_cmp (scanned_by rs) q) (ap is_some (fin.get-empty {X = Unit {0}} key_cmp q))
 
-pub own_scans : (rs : List Ran) → All (λ r. All (λ p. In (scanned_by rs) (key_of p)) r.scans) rs
-own_scans [] = All-nil (λ r. All (λ p. In [] (key_of p)) r.scans)
+pub own_scans : (rs : List Ran) → All (λ r. All (λ p. In (scanned_by rs) (mark_of p)) r.scans) rs
+own_scans [] = All-nil (λ r. All (λ p. In [] (mark_of p)) r.scans)
 own_scans (r ∷ rs) =
-    let own = map key_of r.scans in
+    let own = map mark_of r.scans in
     let all : All (In (scanned_by (r ∷ rs))) own = λ i d below. among_left own (scanned_by rs) (slice_index_or own i d) (among_own own i d below) in
-    All-cons (λ r. All (λ p. In (own ++ scanned_by rs) (key_of p)) r.scans) r rs
-    (All-unmapped (In (own ++ scanned_by rs)) key_of r.scans all)
-    (λ i d below j e within. among_right own (scanned_by rs) (key_of (slice_index_or (slice_index_or rs i d).scans j e))
+    All-cons (λ r. All (λ p. In (own ++ scanned_by rs) (mark_of p)) r.scans) r rs
+    (All-unmapped (In (own ++ scanned_by rs)) mark_of r.scans all)
+    (λ i d below j e within. among_right own (scanned_by rs) (mark_of (slice_index_or (slice_index_or rs i d).scans j e))
     (own_scans rs i d below j e within))
 
 -- ---- all that was touched
 
 abbrev touched_by : Ran → List Key
-touched_by r = (r.reads ++ written r) ++ map key_of r.scans
+touched_by r = (r.reads ++ written r) ++ map mark_of r.scans
 
 abbrev pub all_touched : List Ran → List Key
 all_touched [] = []
@@ -99,9 +98,9 @@ few_touched (r ∷ rs) few =
     let own = All-head (λ r. touch_count r ≤ MOST_ACTIONS) r rs few in
     let rest = few_touched rs (All-tail (λ r. touch_count r ≤ MOST_ACTIONS) r rs few) in
     let whole = length-append (touched_by r) (all_touched rs) in
-    let two = length-append (r.reads ++ written r) (map key_of r.scans) in
+    let two = length-append (r.reads ++ written r) (map mark_of r.scans) in
     let one = length-append r.reads (written r) in
-    omega (arith, own, rest, whole, two, one, length-map r.scans key_of, length-map r.writes (λ row. row.0))
+    omega (arith, own, rest, whole, two, one, length-map r.scans mark_of, length-map r.writes (λ row. row.0))
 
 -- a part of what each touched is among all
 module _ (part : Ran → List Key) (inside : (r : Ran) (k : Key) → In (part r) k → In (touched_by r) k) where
@@ -116,7 +115,7 @@ module _ (part : Ran → List Key) (inside : (r : Ran) (k : Key) → In (part r)
 scanned_in : (rs : List Ran) (k : Key) → In (scanned_by rs) k → In (all_touched rs) k
 scanned_in [] k e = cc
 scanned_in (r ∷ rs) k e =
-    let own = map key_of r.scans in
+    let own = map mark_of r.scans in
     either_in (is_among key_cmp own k) (is_among key_cmp (scanned_by rs) k) (In (touched_by r ++ all_touched rs) k)
     (sym (list_any-append (eq_by_cmp key_cmp k) own (scanned_by rs)) ∙ e)
     (λ first. among_left (touched_by r) (all_touched rs) k (among_right (r.reads ++ written r) own k first))
@@ -135,11 +134,11 @@ module _ (rs : List Ran) where
   all_within i d below =
       let r = slice_index_or rs i d in
       record {
-        reads = All-append (In (all_touched rs)) r.reads (map key_of r.scans)
-            (parts_in (λ r. r.reads) (λ r k e. among_left (r.reads ++ written r) (map key_of r.scans) k (among_left r.reads (written r) k e)) rs i d below)
-            (parts_in (λ r. map key_of r.scans) (λ r k e. among_right (r.reads ++ written r) (map key_of r.scans) k e) rs i d below);
+        reads = All-append (In (all_touched rs)) r.reads (map mark_of r.scans)
+            (parts_in (λ r. r.reads) (λ r k e. among_left (r.reads ++ written r) (map mark_of r.scans) k (among_left r.reads (written r) k e)) rs i d below)
+            (parts_in (λ r. map mark_of r.scans) (λ r k e. among_right (r.reads ++ written r) (map mark_of r.scans) k e) rs i d below);
         writes = All-append (In (all_touched rs)) (written r) (marks_on scanned (written r))
-            (parts_in written (λ r k e. among_left (r.reads ++ written r) (map key_of r.scans) k (among_right r.reads (written r) k e)) rs i d below)
+            (parts_in written (λ r k e. among_left (r.reads ++ written r) (map mark_of r.scans) k (among_right r.reads (written r) k e)) rs i d below)
             (marks_in (written r));
       }
 

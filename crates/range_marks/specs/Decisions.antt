@@ -1,11 +1,12 @@
 -- Verdicts by the numbers of keys and prefixes: a scanned prefix is numbered like a key, and a write marks each scanned prefix that it is
 -- under. Such marks count where something was read, and never between two writes.
-use Rattle.std.specs.Prelude.{◌≡◌, ◌≤◌, ◌+◌, ◌*◌, ◌-◌, ℕ, Option, Bool, true, false, List, ◌++◌, map, take, length, slice_index, slice_index_or}
+use Rattle.std.specs.Prelude.{◌≡◌, ◌≤◌, ◌<◌, ◌+◌, ◌*◌, ◌-◌, ℕ, Option, Bool, true, false, List, ◌++◌, map, take, length, slice_index, slice_index_or}
 use Rattle.aria_base.specs.Reserved.{tid_under}
 use Rattle.std.specs.List.{All, list_any, range_with_len}
 use Rattle.std.specs.Ordering.{nat_cmp}
 use Rattle.aria_base.specs.Orders.{key_cmp}
 use Rattle.aria_base.specs.declared.keys.Key.{Key}
+use Rattle.aria_base.specs.declared.limits.TheConstants.{MOST_PARTS}
 use Rattle.batch_rules.specs.declared.verdicts.Rule.{Rule}
 use Rattle.batch_rules.specs.declared.verdicts.Verdict.{Verdict}
 use Rattle.batch_rules.specs.Touches.{is_among}
@@ -15,8 +16,9 @@ use Rattle.dep_rules.specs.Sheets.{Sheet, reads_at, writes_at}
 use Rattle.dep_rules.specs.Words.{tids_before, earlier_only}
 use Rattle.range_rules.specs.declared.routines.Prefix.{Prefix}
 use Rattle.range_rules.specs.declared.routines.Ran.{Ran}
-use Rattle.range_rules.specs.Scans.{is_under, key_of}
+use Rattle.range_rules.specs.Scans.{is_under}
 use Rattle.range_rules.specs.Batches.{written}
+use Rattle.range_marks.specs.Marks.{mark_of}
 
 -- ---- keys and prefixes of a batch
 
@@ -28,23 +30,23 @@ pub record Spot : Type 0 where
 -- of the scanned prefixes, these are the ones that one of the keys is under, in any order and however often each stands there
 pub record AreMarks (scanned keys marks : List Key) : Type 0 where
   pub among : All (λ m. is_among key_cmp scanned m ≡ true) marks
-  pub each : (p : Prefix) → 1 ≤ length p.parts → is_among key_cmp scanned (key_of p) ≡ true
-      → is_among key_cmp marks (key_of p) ≡ list_any (is_under p) keys
+  pub each : (p : Prefix) → length p.parts < MOST_PARTS → is_among key_cmp scanned (mark_of p) ≡ true
+      → is_among key_cmp marks (mark_of p) ≡ list_any (is_under p) keys
 
 -- what was scanned stands behind what was read, and what is marked behind what was written
 pub record IsSpot (scanned : List Key) (s : Spot) : Type 0 where
   pub marks : List Key
-  pub reads : s.sets.reads ≡ s.ran.reads ++ map key_of s.ran.scans
+  pub reads : s.sets.reads ≡ s.ran.reads ++ map mark_of s.ran.scans
   pub writes : s.sets.writes ≡ written s.ran ++ marks
   pub are : AreMarks scanned (written s.ran) marks
-  pub scans : All (λ p. is_among key_cmp scanned (key_of p) ≡ true) s.ran.scans
+  pub scans : All (λ p. is_among key_cmp scanned (mark_of p) ≡ true) s.ran.scans
 
--- a test tells the keys of a run from its prefixes, which have parts
+-- a test tells the keys of a run from those that stand for its prefixes, which have fewer parts than a key may have
 pub record TellsKeys (whole : Key → Bool) (ran : Ran) : Type 0 where
   pub reads : All (λ k. whole k ≡ true) ran.reads
   pub writes : All (λ k. whole k ≡ true) (written ran)
-  pub scans : All (λ p. whole (key_of p) ≡ false) ran.scans
-  pub long : All (λ p. 1 ≤ length p.parts) ran.scans
+  pub scans : All (λ p. whole (mark_of p) ≡ false) ran.scans
+  pub short : All (λ p. length p.parts < MOST_PARTS) ran.scans
 
 -- there is one test for all runs
 pub record AreApart (rans : List Ran) : Type 0 where

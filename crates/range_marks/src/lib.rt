@@ -16,6 +16,7 @@ mod decisions;
 mod judgements;
 mod marks;
 mod numbers;
+mod places;
 mod touches;
 
 pub use judgements::judge;

@@ -2,17 +2,17 @@
 ghost use Rattle.std.specs.Prelude.{◌≡◌, ◌≤◌, ◌++◌, [], ◌∷◌, if◌then◌else◌, length, map, IfOk, OnOk};
 ghost use Rattle.std.specs.FinMap as fin;
 ghost use Rattle.batch_rules.specs.Touches.{keys_of};
-ghost use Rattle.range_rules.specs.Scans.{key_of};
-ghost use Rattle.range_marks.specs.Marks.{front_of, fronts_up_to, marks_on, with_scans};
+ghost use Rattle.range_marks.specs.Marks.{front_count, front_of, fronts_below, mark_of, marks_on, with_scans};
 ghost use Rattle.range_runs.specs.Indexes.{with_keys};
 
-use aria_base::{Duplicate, Key, Memory, Parts, Row};
+use crate::places::whole_table;
+use aria_base::{Duplicate, Key, MOST_PARTS, Memory, Parts, Row};
 use range_rules::{Prefix, Ran};
 use std::alloc::Global;
 use std::collections::BTreeMap;
 use std::marker::Model;
 
-/// The prefixes that a batch scans, as keys. A contract sees the map that has something at each of them.
+/// The prefixes that a batch scans, by the keys that stand for them. A contract sees the map that has something at each of them.
 #[derive(Drop)]
 pub(crate) struct Scanned {
     prefixes: BTreeMap<Key, ()>,
@@ -52,7 +52,7 @@ impl Scanned {
 
     /// Adds prefixes.
     fn add_all(&mut self, alloc: Global, prefixes: &[Prefix]) -> Result<(), Memory>
-        ensures { OnOk result (self.new ≡ with_keys self.old (map key_of prefixes.now)) }
+        ensures { OnOk result (self.new ≡ with_keys self.old (map mark_of prefixes.now)) }
     {
         for prefix in prefixes {
             self.add(alloc, prefix)?;
@@ -62,7 +62,7 @@ impl Scanned {
 
     /// Adds a prefix.
     fn add(&mut self, alloc: Global, prefix: &Prefix) -> Result<(), Memory>
-        ensures added { OnOk result (self.new ≡ fin.insert self.old (key_of prefix.now) tt) }
+        ensures added { OnOk result (self.new ≡ fin.insert self.old (mark_of prefix.now) tt) }
     {
         let _none = self.prefixes.insert(as_key(alloc, prefix)?, ())?;
         Ok(())
@@ -92,11 +92,11 @@ impl Scanned {
 
     /// Adds those that the key is under.
     fn mark(&self, alloc: Global, key: &Key, marks: &mut Vec<Key>) -> Result<(), Memory>
-        ensures { OnOk result (marks.new.items ≡ marks.old.items ++ fronts_up_to self.now key.now (length key.now.parts)) }
+        ensures { OnOk result (marks.new.items ≡ marks.old.items ++ fronts_below self.now key.now (front_count key.now)) }
     {
-        let count = key.parts.as_slice().len();
-        for shorter in 0..count {
-            let front = front(alloc, key, shorter + 1)?;
+        let fronts = (key.parts.as_slice().len() + 1).min(MOST_PARTS);
+        for count in 0..fronts {
+            let front = front(alloc, key, count)?;
             let there = self.contains(&front);
             push_if(marks, front, there)?;
         }
@@ -104,14 +104,11 @@ impl Scanned {
     }
 }
 
-/// A prefix as a key.
+/// The key that stands for a prefix.
 pub(crate) fn as_key(alloc: Global, prefix: &Prefix) -> Result<Key, Memory>
-    ensures { IfOk result (λ key. key ≡ key_of prefix.now) }
+    ensures { IfOk result (λ key. key ≡ mark_of prefix.now) }
 {
-    Ok(Key {
-        table: prefix.table,
-        parts: prefix.parts.duplicate(alloc)?,
-    })
+    prefix.key_or(alloc, whole_table(prefix.table))
 }
 
 /// Adds the key, if that is so.
@@ -125,12 +122,14 @@ fn push_if(marks: &mut Vec<Key>, key: Key, so: bool) -> Result<(), Memory>
     Ok(())
 }
 
-/// The key with its first parts alone.
+/// The key that stands for the prefix of a key's first parts.
 fn front(alloc: Global, key: &Key, count: usize) -> Result<Key, Memory>
-    requires first { 1 ≤ count }
-    requires within { count ≤ length key.now.parts }
+    requires { count ≤ length key.now.parts }
     ensures { IfOk result (λ front. front ≡ front_of key.now count) }
 {
+    if count == 0 {
+        return Ok(whole_table(key.table));
+    }
     let mut parts = Vec::with_capacity(alloc, count)?;
     for part in &key.parts.as_slice()[..count] {
         parts.push(part.duplicate(alloc)?)?;

@@ -2,8 +2,7 @@
 ghost use Rattle.std.specs.Prelude.{◌≡◌, ◌≤◌, ◌++◌, map, length, IfOk, OnOk};
 ghost use Rattle.aria_base.specs.declared.limits.TheConstants.{MOST_REQUESTS, MOST_WORKERS};
 ghost use Rattle.batch_rules.specs.Touches.{keys_of};
-ghost use Rattle.range_rules.specs.Scans.{key_of};
-ghost use Rattle.range_marks.specs.Marks.{sets_with};
+ghost use Rattle.range_marks.specs.Marks.{mark_of, sets_with};
 
 use crate::marks::{Scanned, as_key};
 use aria_base::{Duplicate, Free, Items, Key, Memory, Place, Row};
@@ -88,9 +87,9 @@ fn touched(alloc: Global, scanned: &Scanned, ran: &Ran) -> Result<Sets, Memory>
     })
 }
 
-/// Appends prefixes, as keys.
+/// Appends the keys that stand for prefixes.
 fn append_prefixes(alloc: Global, keys: &mut Vec<Key>, prefixes: &[Prefix]) -> Result<(), Memory>
-    ensures { OnOk result (keys.new.items ≡ keys.old.items ++ map key_of prefixes.now) }
+    ensures { OnOk result (keys.new.items ≡ keys.old.items ++ map mark_of prefixes.now) }
 {
     for prefix in prefixes {
         keys.push(as_key(alloc, prefix)?)?;

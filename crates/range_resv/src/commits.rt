@@ -2,7 +2,7 @@
 ghost use Rattle.std.specs.Prelude.{◌≡◌, ◌≤◌, ◌++◌, List, [], ◌∷◌, length, IfOk, OnOk};
 ghost use Rattle.std.specs.List.{All};
 ghost use Rattle.aria_base.specs.declared.limits.TheConstants.{MOST_WORKERS};
-ghost use Rattle.proc_lang.specs.Catalogs.{run_of};
+ghost use Rattle.proc_lang.specs.Catalogs.{IsCatalog, run_of};
 ghost use Rattle.range_rules.specs.declared.routines.TheConstants.{MOST_WORKS};
 ghost use Rattle.range_runs.specs.Indexes.{IsIndexOf, followed_all};
 ghost use Rattle.range_suits.specs.Laws.{IsWell};
@@ -49,6 +49,7 @@ pub(crate) fn commit<R: Routine, P: Pace + Sync, T: Threads + Sync>(
     config: &Config,
     pace: &P,
 ) -> Result<Committed, Memory>
+    requires catalog { IsCatalog catalog.now }
     requires list { length list.now ≤ MOST_WORKS }
     requires index { IsIndexOf index tables }
     requires well { All (λ w. IsWell catalog.now (R.taken routines.now) (R.act routines.now) w tables) list.now }

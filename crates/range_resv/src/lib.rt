@@ -27,6 +27,6 @@ mod settlements;
 
 pub use engines::ScanEngine;
 pub use range_rules::{
-    Action, MOST_ACTIONS, MOST_WORKS, NumberedWork, Nums, Pairs, Prefix, Routine, RoutineCall,
-    Seen, Work,
+    Action, Front, MOST_ACTIONS, MOST_WORKS, NumberedWork, Nums, Pairs, Prefix, Routine,
+    RoutineCall, Seen, Work,
 };

@@ -9,7 +9,8 @@ use Rattle.aria_base.proofs.Orders.{key_cmp_total, key_cmp-IsAntisymmetric}
 use Rattle.batch_rules.specs.Trees.{set_at}
 use Rattle.batch_rules.specs.Touches.{is_among, overwritten, installed}
 use Rattle.batch_rules.proofs.Maps.{get-set_at, same_key}
-use Rattle.range_runs.specs.Indexes.{Listed, with_keys, followed_one, followed, followed_all, IsIndexOf}
+use Rattle.range_runs.specs.Indexes.{Listed, with_keys, followed_one, followed, followed_all, IsIndexOf, HasKeys}
+use Rattle.range_runs.specs.Leasts.{can_be}
 
 -- what an index has after a write
 has-followed : {X : Type 0} (index : Listed) (k : Key) (row : Option X) (q : Key)
@@ -58,6 +59,24 @@ insert-there index k there = fin.same_map key_cmp_total key_cmp-IsAntisymmetric 
   where
     only : (x : Unit {0}) → Some x ≡ Some tt
     only tt = refl
+
+-- ---- all that an index has can be keys
+
+pub no_keys : (es : List (Key × Unit {0})) → es ≡ [] → HasKeys (fin.from_entries es)
+no_keys es e q there = cc (sym (ap is_some (fin.get-from_entries key_cmp_total es q ∙ ap (fin.find key_cmp q) e)) ∙ there)
+
+pub insert_keys : (index : Listed) (k : Key) → HasKeys index → can_be k.parts ≡ true → HasKeys (fin.insert index k tt)
+insert_keys index k has can q there = elim (eq_by_cmp key_cmp q k) as (λ e. eq_by_cmp key_cmp q k ≡ e → cond e true (fin.contains_key index q) ≡ true
+    → can_be q.parts ≡ true) [
+      | true ↦ λ e _. ap (λ (k : Key). can_be k.parts) (same_key key_cmp-IsAntisymmetric q k e) ∙ can
+      | false ↦ λ e there. has q there
+    ] refl (sym (has-followed {X = Unit {0}} index k (Some tt) q) ∙ there)
+
+pub remove_keys : (index : Listed) (k : Key) → HasKeys index → HasKeys (fin.remove index k)
+remove_keys index k has q there = elim (eq_by_cmp key_cmp q k) as (λ e. cond e false (fin.contains_key index q) ≡ true → can_be q.parts ≡ true) [
+  | true ↦ λ there. cc
+  | false ↦ λ there. has q there
+] (sym (has-followed {X = Unit {0}} index k None q) ∙ there)
 
 -- ---- all keys of a database
 

@@ -1,11 +1,12 @@
 -- The keys of a database in order.
-use Rattle.std.specs.Prelude.{◌≡◌, List, [], ◌∷◌, Option, is_some, if◌then◌else◌}
+use Rattle.std.specs.Prelude.{◌≡◌, List, [], ◌∷◌, Option, is_some, true, if◌then◌else◌}
 use Rattle.std.specs.Coded.{Coded}
 use base.Stored.{coded_unit}
 use Rattle.std.specs.FinMap as fin
 use Rattle.aria_base.specs.contracts.keys.Key as key
 use Rattle.aria_base.specs.Orders.{key_cmp, Database}
 use Rattle.aria_base.specs.declared.keys.Key.{Key}
+use Rattle.range_runs.specs.Leasts.{can_be}
 
 -- keys, each with nothing but that it is there
 abbrev pub Listed : Type 0
@@ -34,3 +35,7 @@ followed_all index (ws ∷ more) = followed_all (followed index ws) more
 -- an index has the keys of a database
 abbrev pub IsIndexOf : Listed → Database → Type 0
 IsIndexOf index db = (k : Key) → fin.contains_key index k ≡ fin.contains_key db k
+
+-- all that it has can be keys
+abbrev pub HasKeys : Listed → Type 0
+HasKeys index = (k : Key) → fin.contains_key index k ≡ true → can_be k.parts ≡ true

@@ -5,6 +5,7 @@ ghost use Rattle.std.specs.FinMap as fin;
 ghost use Rattle.range_rules.specs.Scans.{is_under};
 ghost use Rattle.range_runs.specs.Indexes.{IsIndexOf, followed};
 
+use crate::leasts::{least_under, see_key};
 use crate::prefixes::is_under;
 use aria_base::{Duplicate, Key, Memory, Row};
 use range_rules::Prefix;
@@ -21,13 +22,15 @@ pub struct Index {
 
 impl Model for Index {
     ghost use Rattle.std.specs.FinMap as fin;
-    ghost use Rattle.range_runs.specs.Indexes.{Listed, listed_code};
+    ghost use Rattle.range_runs.specs.Indexes.{Listed, listed_code, HasKeys};
 
     ghost Value = { Listed };
 
     ghost coded = { listed_code };
 
     ghost view = { λ a. fin.from_entries a.keys.entries };
+
+    ghost invariant = { λ a. HasKeys (fin.from_entries a.keys.entries) };
 }
 
 impl Index {
@@ -57,6 +60,7 @@ impl Index {
         ensures added { OnOk result (self.new ≡ fin.insert self.old key tt) }
         ensures kept { OnErr result (self.new ≡ self.old) }
     {
+        see_key(&key);
         let _none = self.keys.insert(key, ())?;
         Ok(())
     }
@@ -106,10 +110,7 @@ impl Index {
     pub fn under(&self, alloc: Global, prefix: &Prefix) -> Result<Vec<&Key>, Memory>
         ensures { IfOk result (λ keys. map (λ k. k.now) keys.items ≡ filter (is_under prefix.now) (fin.keys self.now)) }
     {
-        let least = Key {
-            table: prefix.table,
-            parts: prefix.parts.duplicate(alloc)?,
-        };
+        let least = least_under(alloc, prefix)?;
         let mut keys = Vec::new(alloc);
         for (key, _) in self.keys.range(&least..) {
             if !is_under(prefix, key) {

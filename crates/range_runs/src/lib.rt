@@ -12,6 +12,7 @@
 
 mod found;
 mod indexes;
+mod leasts;
 mod prefixes;
 mod runs;
 mod windows;

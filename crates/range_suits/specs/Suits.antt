@@ -31,10 +31,10 @@ module _ (schema : List Table) where
   FitsWrite k None = FitsKey k
   FitsWrite k (Some row) = Fits schema k row
 
-  -- a prefix has some of the parts of its table's keys, and not all
+  -- a prefix has none or some of the parts of its table's keys, and not all
   abbrev pub FitsPrefix : Prefix → Type 0
   FitsPrefix p = IsSomeAnd (slice_get schema p.table)
-      (λ table. (1 ≤ length p.parts) × (length p.parts < length table.key) × (map part_kind p.parts ≡ take (length p.parts) table.key))
+      (λ table. (length p.parts < length table.key) × (map part_kind p.parts ≡ take (length p.parts) table.key))
 
   abbrev pub FitsAction : Action → Type 0
   FitsAction (Read k) = FitsKey k

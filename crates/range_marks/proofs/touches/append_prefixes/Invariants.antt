@@ -1,6 +1,6 @@
 use Rattle.std.proofs.Common.{◌≡◌, ◌++◌, drop, map}
-use Rattle.range_rules.specs.Scans.{key_of}
+use Rattle.range_marks.specs.Marks.{mark_of}
 use Rattle.range_marks.proofs.touches.append_prefixes.Given as goal
 
 abbrev pub invariant-loop-prefix : goal.invariant-loop-prefix
-invariant-loop-prefix l = l.keys.items ++ map key_of (drop l.prefix-index l.prefixes) ≡ l.initial.keys.items ++ map key_of l.prefixes
+invariant-loop-prefix l = l.keys.items ++ map mark_of (drop l.prefix-index l.prefixes) ≡ l.initial.keys.items ++ map mark_of l.prefixes

@@ -3,6 +3,9 @@ use Rattle.proc_lang.specs.Catalogs.{IsCatalog, run_of}
 use Rattle.range_resv.proofs.Batching.{May, many-verdicts, few-asked, well-asked, finished, ready-again}
 use Rattle.range_resv.proofs.engines.ScanEngine.run_batch.Goals as goal
 
+pub commit-requires-clause-catalog : goal.commit-requires-clause-catalog
+commit-requires-clause-catalog g c κs within = subst IsCatalog c.catalog.view_is c.catalog.invariant
+
 pub commit-requires-clause-list : goal.commit-requires-clause-list
 commit-requires-clause-list g c κs within =
     let taken = g.R.Routine.taken c.args.routines.now in

@@ -9,5 +9,5 @@ loop-key-init c =
       tt,
       rw (← c.self.view_is, c.new-keys.ensures.items)
           (ap (front_under p) (c.into_iter-key-iterator.ensures.into_iter_gives ∙ c.range-key-items.ensures.between tt)
-          ∙ found_under p _ (λ i. record { table = p.table; parts = c.in_ok-duplicate.ensures i }) _ c.range-key-items.ensures.ordered),
+          ∙ found_under p _ c.in_ok-least.ensures _ c.self.invariant c.range-key-items.ensures.ordered),
     )
