@@ -11,8 +11,8 @@ use Rattle.aria_base.specs.declared.values.Value.{Value}
 use Rattle.aria_base.specs.declared.values.Value.TheVariants as value
 use Rattle.aria_base.specs.declared.limits.TheConstants.{LONGEST_TEXT, MOST_PARTS, MOST_COLUMNS}
 use Rattle.proc_lang.specs.declared.ends.Trap.TheVariants.{Overflow, Zero, Long}
-use Rattle.proc_lang.specs.declared.operators.Source.{Source}
-use Rattle.proc_lang.specs.declared.operators.Source.TheVariants as source
+use Rattle.proc_lang.specs.declared.operators.Operand.{Operand}
+use Rattle.proc_lang.specs.declared.operators.Operand.TheVariants as source
 use Rattle.proc_lang.specs.declared.operators.UnaryOp.{UnaryOp}
 use Rattle.proc_lang.specs.declared.operators.UnaryOp.TheVariants as unary
 use Rattle.proc_lang.specs.declared.operators.BinaryOp.{BinaryOp}
@@ -105,7 +105,7 @@ arg_gives (arg.List tuples ∷ args) zero h = tt
 arg_gives (a ∷ args) (suc n) h = arg_gives args n h.1
 
 module _ (r : Request) (printed : PrintedCall r.call) (item : List ℤ) (regs : List Value) (held : PrintedCells regs) where
-  named_gives : (from : Source) (n : ℕ) → PrintedValue (named_value r item regs from n)
+  named_gives : (from : Operand) (n : ℕ) → PrintedValue (named_value r item regs from n)
   named_gives source.Reg n = at_or PrintedValue regs n (value.Int (pos 0)) tt held
   named_gives source.Arg n = arg_gives r.call.args n printed
   named_gives source.Item n = tt
