@@ -1,12 +1,12 @@
 -- The order of keys is total, keys that tie are equal, and the order is the derived one.
-use Rattle.std.proofs.Common.{◌≡◌, refl, sym, ap, subst}
+use Rattle.std.proofs.Common.{◌≡◌, true, refl, sym, ap, subst}
 use Rattle.std.proofs.Math.Path.{fun_ext}
 use Rattle.std.specs.Cmp.{IsTotalOrder}
 use Rattle.std.specs.FinMap.{IsAntisymmetric, slice_cmp-IsAntisymmetric, int_cmp-IsAntisymmetric, nat_cmp-IsAntisymmetric}
 use Rattle.std.proofs.lemmas.Cmp.{int_cmp_total, nat_cmp_total, nat_list_cmp_total, lists_total, on_total, then_total}
 use Rattle.std.specs.declared.cmp.Ordering.{Ordering}
 use Rattle.std.specs.declared.cmp.Ordering.TheVariants.{Less, Equal, Greater}
-use Rattle.std.specs.Ordering.{nat_cmp, ordering_reverse, ordering_then}
+use Rattle.std.specs.Ordering.{eq_by_cmp, is_eq, nat_cmp, ordering_reverse, ordering_then}
 use Rattle.std.specs.Cmp.Lexicographic.{slice_cmp}
 use Rattle.aria_base.specs.declared.keys.Part.{Part}
 use Rattle.aria_base.specs.declared.keys.Part.TheVariants as part
@@ -61,6 +61,15 @@ key_cmp-IsAntisymmetric a b e =
     let table = nat_cmp-IsAntisymmetric a.table b.table ties.0 in
     let parts = slice_cmp-IsAntisymmetric part_cmp-IsAntisymmetric a.parts b.parts ties.1 in
     λ i. record { table = table i; parts = parts i }
+
+equal : (r : Ordering) → is_eq r ≡ true → r ≡ Equal
+equal Less e = cc
+equal Equal e = refl
+equal Greater e = cc
+
+-- keys that tie are equal
+pub same_key : (q k : Key) → eq_by_cmp key_cmp q k ≡ true → q ≡ k
+same_key q k tied = key_cmp-IsAntisymmetric q k (equal _ tied)
 
 -- ---- the order of the derived comparison
 

@@ -32,7 +32,7 @@ module _ {K : Type 0} (R : K → K → Ordering) (keys : List K) (number : K →
   abbrev Has : K → Type 0
   Has k = is_among R keys k ≡ true
 
-  among_numbers : (ys : List K) (k : K) → Has k → All Has ys → is_among nat_cmp (map number ys) (number k) ≡ is_among R ys k
+  pub among_numbers : (ys : List K) (k : K) → Has k → All Has ys → is_among nat_cmp (map number ys) (number k) ≡ is_among R ys k
   among_numbers [] k has all = refl
   among_numbers (y ∷ ys) k has all =
       let here = one k y has (All-head Has y ys all) in

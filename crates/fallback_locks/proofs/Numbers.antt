@@ -10,6 +10,7 @@ use Rattle.aria_base.specs.Orders.{key_cmp}
 use Rattle.aria_base.specs.declared.keys.Key.{Key}
 use Rattle.batch_rules.specs.Numberings.{IsOneToOneOn, HasKeysOf}
 use Rattle.batch_rules.specs.Touches.{Declared, is_among, may_read, may_write}
+use Rattle.batch_rules.proofs.Numberings.{among_numbers}
 use Rattle.batch_rules.specs.Waves.{Waved, conflicts, wave_behind, waved}
 use Rattle.dep_rules.specs.Sheets.{Sheet}
 use Rattle.proc_exec.specs.Limits.{touchable}
@@ -49,13 +50,6 @@ module _ {K : Type 0} (R : K → K → Ordering) (keys : List K) (number : K →
   abbrev Has : K → Type 0
   Has k = is_among R keys k ≡ true
 
-  among_numbers : (ys : List K) (k : K) → Has k → All Has ys → is_among nat_cmp (map number ys) (number k) ≡ is_among R ys k
-  among_numbers [] k has all = refl
-  among_numbers (y ∷ ys) k has all =
-      let here = one k y has (All-head Has y ys all) in
-      let rest = among_numbers ys k has (All-tail Has y ys all) in
-      λ i. here i || rest i
-
   any_numbers : (test : ℕ → Bool) (also : K → Bool) → ((k : K) → Has k → test (number k) ≡ also k) → (xs : List K) → All Has xs
       → list_any test (map number xs) ≡ list_any also xs
   any_numbers test also same [] all = refl
@@ -70,9 +64,9 @@ module _ {K : Type 0} (R : K → K → Ordering) (keys : List K) (number : K →
   pub conflicts_numbers : (a b : Declared K) → All Has a.reads → All Has a.writes → All Has b.reads → All Has b.writes
       → conflicts nat_cmp (numbered a) (numbered b) ≡ conflicts R a b
   conflicts_numbers a b ar aw br bw =
-      let reads = any_numbers (may_write nat_cmp (numbered a)) (may_write R a) (λ k has. among_numbers a.writes k has aw) b.reads br in
+      let reads = any_numbers (may_write nat_cmp (numbered a)) (may_write R a) (λ k has. among_numbers R keys number one a.writes k has aw) b.reads br in
       let writes = any_numbers (may_read nat_cmp (numbered a)) (may_read R a)
-      (λ k has i. among_numbers a.reads k has ar i || among_numbers a.writes k has aw i) b.writes bw in
+      (λ k has i. among_numbers R keys number one a.reads k has ar i || among_numbers R keys number one a.writes k has aw i) b.writes bw in
       λ i. reads i || writes i
 
 -- ---- and so the waves are the same

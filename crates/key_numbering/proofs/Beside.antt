@@ -7,18 +7,9 @@ use Rattle.std.specs.declared.cmp.Ordering.TheVariants.{Less, Equal, Greater}
 use Rattle.std.specs.FinMap as fin
 use Rattle.aria_base.specs.Orders.{key_cmp}
 use Rattle.aria_base.specs.declared.keys.Key.{Key}
-use Rattle.aria_base.proofs.Orders.{key_cmp_total, key_cmp-IsAntisymmetric}
+use Rattle.aria_base.proofs.Orders.{key_cmp_total, key_cmp-IsAntisymmetric, same_key}
 use Rattle.key_numbering.specs.Beside.{beside, IsApart}
 use Rattle.key_numbering.specs.Numbers.{Numbers}
-
-equal : (r : Ordering) → is_eq r ≡ true → r ≡ Equal
-equal Less e = cc
-equal Equal e = refl
-equal Greater e = cc
-
--- keys that tie are equal
-pub same_key : (q k : Key) → eq_by_cmp key_cmp q k ≡ true → q ≡ k
-same_key q k tied = key_cmp-IsAntisymmetric q k (equal _ tied)
 
 find-append : (q : Key) (xs ys : List (Key × ℕ)) → fin.find key_cmp q (xs ++ ys) ≡ option_or (fin.find key_cmp q xs) (fin.find key_cmp q ys)
 find-append q [] ys = refl

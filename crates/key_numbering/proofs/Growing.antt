@@ -11,13 +11,12 @@ use Rattle.std.proofs.lemmas.List.Elements.{All-nil, All-cons, All-head, All-tai
 use Rattle.std.proofs.lemmas.List.Sums.{sum_by-cons}
 use Rattle.aria_base.specs.Orders.{key_cmp}
 use Rattle.aria_base.specs.declared.keys.Key.{Key}
-use Rattle.aria_base.proofs.Orders.{key_cmp_total}
+use Rattle.aria_base.proofs.Orders.{key_cmp_total, same_key}
 use Rattle.batch_rules.specs.Numberings.{IsOneToOneOn, HasKeysOf}
 use Rattle.batch_rules.specs.Touches.{is_among}
 use Rattle.dep_rules.specs.declared.sets.Sets.{Sets}
 use Rattle.dep_rules.specs.Decisions.{reads_of, writes_of}
 use Rattle.key_numbering.specs.Numbers.{Numbers, AreNumbers, Keeps, number_in, with_key, with_keys, with_sets, touch_count}
-use Rattle.key_numbering.proofs.Beside.{same_key}
 
 abbrev pub Has : Numbers → Key → Type 0
 Has m k = (n : ℕ) × (fin.get m k ≡ Some n)

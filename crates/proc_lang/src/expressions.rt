@@ -108,7 +108,7 @@ impl Duplicate for Exprs {
 
 /// An expression with the same term as this one.
 #[cycle(copying)]
-pub fn copy_expr(alloc: Global, expr: &Expr) -> Result<Expr, Memory>
+pub(crate) fn copy_expr(alloc: Global, expr: &Expr) -> Result<Expr, Memory>
     ensures { IfOk result (λ copy. term_of copy ≡ term_of expr.now) }
 {
     match expr.shape() {

@@ -20,7 +20,7 @@ mod statements;
 pub use accesses::Access;
 pub use catalogs::{Catalog, Checked, table_named};
 pub use ends::{End, Gives, Trap};
-pub use expressions::{Expr, Exprs, copy_expr};
+pub use expressions::{Expr, Exprs};
 pub use flaws::{ARGUMENT, COLUMNS, KEY_LENGTH, KIND, NESTING, REGISTER, UNKNOWN_TABLE, Wrong};
 pub use limits::{
     DEEPEST_EXPR, GREATEST_CODE, MOST_ACCESSES, MOST_BLOCKS, MOST_FRONT, MOST_GIVEN, MOST_PROCS,
@@ -28,4 +28,4 @@ pub use limits::{
 };
 pub use operators::{BinaryOp, Operand, Shape, UnaryOp};
 pub use procs::{ArgKind, ArgKinds, Path, PathPart, Proc};
-pub use statements::{Block, Regs, Stmt, copy_stmt};
+pub use statements::{Block, Regs, Stmt};

@@ -98,7 +98,7 @@ impl Duplicate for Block {
 
 /// A statement that means the same as this one.
 #[cycle(copying)]
-pub fn copy_stmt(alloc: Global, stmt: &Stmt) -> Result<Stmt, Memory>
+pub(crate) fn copy_stmt(alloc: Global, stmt: &Stmt) -> Result<Stmt, Memory>
     ensures { IfOk result (λ copy. step_of copy ≡ step_of stmt.now) }
 {
     match stmt {

@@ -1,4 +1,3 @@
 pub mod Following
 mod Ranges
 mod RowsUnder
-pub mod Trees

@@ -19,7 +19,7 @@ use Rattle.aria_base.proofs.Orders.{part_cmp_total, part_cmp-IsAntisymmetric, ke
 use Rattle.std.specs.BTreeMap.Range.{entries_between}
 use Rattle.std.specs.declared.ops.Bound.TheVariants.{Included, Unbounded}
 use Rattle.std.specs.FinMap as fin
-use Rattle.range_runs.proofs.Trees.{entries-from_entries}
+use Rattle.aria_base.proofs.Trees.{entries-from_entries}
 use Rattle.range_rules.specs.declared.routines.Prefix.{Prefix}
 use Rattle.range_rules.specs.Scans.{begins, is_under, key_of, key_at, key_or}
 use Rattle.batch_rules.specs.Touches.{is_among}

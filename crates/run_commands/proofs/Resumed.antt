@@ -13,7 +13,7 @@ use Rattle.disk_model.proofs.Spans.{leaves_more, leaves_then}
 use Rattle.disk_model.specs.Histories.{History, LeavesAll, MayLeave}
 use Rattle.image_text.specs.Payloads.{Batch}
 use Rattle.proc_lang.specs.Catalogs.{Plan}
-use Rattle.script_course.proofs.Turns.{front_behind, front_longer, front_none}
+use Rattle.script_course.proofs.Turns.{front_longer, front_none}
 use Rattle.script_course.specs.Courses.{Course, Goes, Out, Stops, behind, out_behind, told, whole}
 use Rattle.script_course.specs.Served.{Completes, Finishes, FinishesCut, IsSoFar, Serves, Tells}
 use Rattle.script_course.specs.declared.stops.Stop.{Stop}
@@ -37,6 +37,7 @@ use Rattle.run_commands.specs.Saves.{IsLeft, ReadsAs, saved_behind}
 use Rattle.run_commands.specs.Turns.{HoldsScript, saved_over}
 use Rattle.run_commands.proofs.Endings.{held_still, holds_leave, laid_as, saved_still}
 use Rattle.run_commands.proofs.Kept.{keeps_cut, keeps_on, keeps_quiet}
+use Rattle.script_course.proofs.Ends.{finishes_behind}
 use Rattle.run_commands.proofs.Ran.{no_lines}
 use Rattle.run_commands.proofs.Turns.{left_both, left_still, onward_none}
 use Rattle.script_places.specs.Places.{plan_in}
@@ -52,24 +53,11 @@ open_over disk live script is logging =
 
 -- ---- what is printed, behind the count
 
-cut_behind : (out : Out) (first : List ℕ) (ga gm gc : Option (List ℕ)) (why : Stop) → Appends ga gm first → FinishesCut out gm gc why
-    → FinishesCut (out_behind first out) ga gc why
-cut_behind out first ga gm gc stop.Refused gives h = (h.0, Appends-trans ga gm gc first out.bytes gives h.1)
-cut_behind out first ga gm gc stop.NoMemory gives h = front_behind ga gm gc first out.bytes gives h
-cut_behind out first ga gm gc stop.NoWrite gives h = front_behind ga gm gc first out.bytes gives h
-cut_behind out first ga gm gc stop.NoDisk gives h = front_behind ga gm gc first out.bytes gives h
-cut_behind out first ga gm gc stop.NoRead gives h = front_behind ga gm gc first out.bytes gives h
-
-finishes_behind : (out : Out) (first : List ℕ) (ga gm gc : Option (List ℕ)) (result : Result ℕ Stop) → Appends ga gm first → Finishes out gm gc result
-    → Finishes (out_behind first out) ga gc result
-finishes_behind out first ga gm gc (Ok status) gives h = (h.0, Appends-trans ga gm gc first out.bytes gives h.1)
-finishes_behind out first ga gm gc (Err why) gives h = cut_behind out first ga gm gc why gives h
-
 all_behind : (out : List ℕ → Out) (first : List ℕ) (left ga gm gc : Option (List ℕ)) (result : Result ℕ Stop) → Appends ga gm first
     → IfSome left (λ text. Finishes (out text) gm gc result)
     → IfSome left (λ text. Finishes (out_behind first (out text)) ga gc result)
 all_behind out first None ga gm gc result gives h = tt
-all_behind out first (Some text) ga gm gc result gives h = finishes_behind (out text) first ga gm gc result gives h
+all_behind out first (Some text) ga gm gc result gives h = finishes_behind first (out text) ga gm gc result gives h
 
 so_far_behind : (c : Course Doing) (first : List ℕ) (ga gm gc : Option (List ℕ)) → Appends ga gm first → IsSoFar c gm gc → IsSoFar (behind first c) ga gc
 so_far_behind (Goes bytes d) first ga gm gc gives h = Appends-trans ga gm gc first bytes gives h

@@ -11,14 +11,19 @@ use Rattle.script_course.specs.declared.stops.Stop.{Stop}
 use Rattle.script_course.specs.declared.stops.Stop.TheVariants as stop
 use Rattle.script_course.proofs.Turns.{front_longer, front_behind}
 
-finishes_behind : (bytes : List ℕ) (out : Out) (old mid new : Option (List ℕ)) (result : Result ℕ Stop) → Appends old mid bytes → Finishes out mid new result
-    → Finishes (out_behind bytes out) old new result
+-- what ended behind bytes that were given before
+pub cut_behind : (bytes : List ℕ) (out : Out) (old mid new : Option (List ℕ)) (why : Stop) → Appends old mid bytes → FinishesCut out mid new why
+    → FinishesCut (out_behind bytes out) old new why
+cut_behind bytes out old mid new stop.Refused first h = (h.0, Appends-trans old mid new bytes out.bytes first h.1)
+cut_behind bytes out old mid new stop.NoMemory first h = front_behind old mid new bytes out.bytes first h
+cut_behind bytes out old mid new stop.NoWrite first h = front_behind old mid new bytes out.bytes first h
+cut_behind bytes out old mid new stop.NoDisk first h = front_behind old mid new bytes out.bytes first h
+cut_behind bytes out old mid new stop.NoRead first h = front_behind old mid new bytes out.bytes first h
+
+pub finishes_behind : (bytes : List ℕ) (out : Out) (old mid new : Option (List ℕ)) (result : Result ℕ Stop) → Appends old mid bytes
+    → Finishes out mid new result → Finishes (out_behind bytes out) old new result
 finishes_behind bytes out old mid new (Ok status) first h = (h.0, Appends-trans old mid new bytes out.bytes first h.1)
-finishes_behind bytes out old mid new (Err stop.Refused) first h = (h.0, Appends-trans old mid new bytes out.bytes first h.1)
-finishes_behind bytes out old mid new (Err stop.NoMemory) first h = front_behind old mid new bytes out.bytes first h
-finishes_behind bytes out old mid new (Err stop.NoWrite) first h = front_behind old mid new bytes out.bytes first h
-finishes_behind bytes out old mid new (Err stop.NoDisk) first h = front_behind old mid new bytes out.bytes first h
-finishes_behind bytes out old mid new (Err stop.NoRead) first h = front_behind old mid new bytes out.bytes first h
+finishes_behind bytes out old mid new (Err why) first h = cut_behind bytes out old mid new why first h
 
 module _ {R : Type 0} (on_end : R → Out) where
   ended_on : (c : Course R) (r : R) (old mid new : Option (List ℕ)) (result : Result ℕ Stop) → IsGoing r c old mid → Finishes (on_end r) mid new result

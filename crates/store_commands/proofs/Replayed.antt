@@ -32,6 +32,7 @@ use Rattle.serving.specs.Stored.{handed_in, is_crowded, state_at}
 use Rattle.serving.specs.declared.lives.Live.{Live}
 use Rattle.slot_images.specs.Images.{Checkpoint}
 use Rattle.store_files.proofs.Syncs.{rose_later}
+use Rattle.script_course.proofs.Ends.{finishes_behind}
 use Rattle.store_files.specs.declared.refusals.StoreRefused.{StoreRefused}
 use Rattle.store_files.specs.declared.refusals.StoreRefused.TheVariants as of_store
 use Rattle.store_openings.specs.Openings.{AreRunnable, MayFollow, ReadsAs, log_in, offset_in}
@@ -44,15 +45,6 @@ use Rattle.run_commands.specs.Resumes.{damaged_out}
 use Rattle.store_commands.specs.declared.steps.Halt.TheVariants as halt
 
 -- ---- outputs behind bytes that were given
-
-finishes_behind : (bytes : List ℕ) (out : Out) (old mid new : Option (List ℕ)) (result : Result ℕ Stop) → Appends old mid bytes → Finishes out mid new result
-    → Finishes (out_behind bytes out) old new result
-finishes_behind bytes out old mid new (Ok status) first h = (h.0, Appends-trans old mid new bytes out.bytes first h.1)
-finishes_behind bytes out old mid new (Err stop.Refused) first h = (h.0, Appends-trans old mid new bytes out.bytes first h.1)
-finishes_behind bytes out old mid new (Err stop.NoMemory) first h = front_behind old mid new bytes out.bytes first h
-finishes_behind bytes out old mid new (Err stop.NoWrite) first h = front_behind old mid new bytes out.bytes first h
-finishes_behind bytes out old mid new (Err stop.NoDisk) first h = front_behind old mid new bytes out.bytes first h
-finishes_behind bytes out old mid new (Err stop.NoRead) first h = front_behind old mid new bytes out.bytes first h
 
 -- an output of which a prefix was given, whatever stopped it
 pub finishes_cut : (out : Out) (old new : Option (List ℕ)) (why : Stop) → IsCut why → AppendsFront old new out.bytes → Finishes out old new (Err why)

@@ -12,9 +12,9 @@ use Rattle.std.proofs.lemmas.List.Sorted.{IsPermutation-swap_remove}
 use Rattle.std.specs.List.{IsDistinct}
 use Rattle.aria_base.specs.Orders.{key_cmp, Cells}
 use Rattle.aria_base.specs.declared.keys.Key.{Key}
-use Rattle.aria_base.proofs.Orders.{key_cmp_total, key_cmp-IsAntisymmetric}
+use Rattle.aria_base.proofs.Orders.{key_cmp_total, key_cmp-IsAntisymmetric, same_key}
 use Rattle.tbl_rows.specs.Pools.{Entries, AllApart}
-use Rattle.tbl_rows.proofs.Searched.{same_key, is_entry_of, find-none, is_at-position, find-at, find-set}
+use Rattle.tbl_rows.proofs.Searched.{is_entry_of, find-none, is_at-position, find-at, find-set}
 use Rattle.tbl_rows.proofs.Beside.{remove-none}
 use Rattle.tbl_rows.proofs.Listed.{nil_apart, find-head, apart-cons, apart-tail, apart-append, apart-permutation, find-permutation}
 

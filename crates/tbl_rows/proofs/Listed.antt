@@ -20,10 +20,10 @@ use Rattle.std.proofs.lemmas.Map.Keys.{IsDistinct-IsPermutation, IsDistinct-head
 use Rattle.std.proofs.lemmas.Option.{get_or_from_slice_get, slice_get-get_or, slice_get_within}
 use Rattle.aria_base.specs.Orders.{key_cmp, Cells, Database}
 use Rattle.aria_base.specs.declared.keys.Key.{Key}
-use Rattle.aria_base.proofs.Orders.{key_cmp_total, derived_cmp, derived-is}
+use Rattle.aria_base.proofs.Orders.{key_cmp_total, derived_cmp, derived-is, same_key}
 use Rattle.tbl_rows.specs.Pools.{Entries, AllApart, Adds}
-use Rattle.tbl_rows.proofs.Trees.{entries-is}
-use Rattle.tbl_rows.proofs.Searched.{same_key, find-append}
+use Rattle.aria_base.proofs.Trees.{entries-is}
+use Rattle.tbl_rows.proofs.Searched.{find-append}
 
 pub nil_apart : AllApart []
 unfolding IsDistinct

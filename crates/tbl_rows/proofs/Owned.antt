@@ -5,9 +5,8 @@ use Rattle.std.specs.Ordering.{eq_by_cmp}
 use Rattle.std.specs.FinMap as fin
 use Rattle.aria_base.specs.Orders.{key_cmp, Cells}
 use Rattle.aria_base.specs.declared.keys.Key.{Key}
-use Rattle.aria_base.proofs.Orders.{key_cmp_total}
+use Rattle.aria_base.proofs.Orders.{key_cmp_total, same_key}
 use Rattle.tbl_rows.specs.Shards.{home, Piece, IsOwn, with_row, without_row, bare}
-use Rattle.tbl_rows.proofs.Searched.{same_key}
 
 pub IsOwn-bare : (number : ℕ) → IsOwn (bare number)
 IsOwn-bare number q some = let there : IsSome {T = Cells} None = subst IsSome (fin.get-empty key_cmp q) some in cc

@@ -11,16 +11,7 @@ use Rattle.std.proofs.lemmas.List.Quantifiers.{position-Some}
 use Rattle.std.proofs.lemmas.Iterator.Adapters.{position_from-zero}
 use Rattle.aria_base.specs.Orders.{key_cmp}
 use Rattle.aria_base.specs.declared.keys.Key.{Key}
-use Rattle.aria_base.proofs.Orders.{key_cmp-IsAntisymmetric}
-
-equal : (r : Ordering) → is_eq r ≡ true → r ≡ Equal
-equal Less e = cc
-equal Equal e = refl
-equal Greater e = cc
-
--- keys that tie are equal
-pub same_key : (q k : Key) → eq_by_cmp key_cmp q k ≡ true → q ≡ k
-same_key q k tied = key_cmp-IsAntisymmetric q k (equal _ tied)
+use Rattle.aria_base.proofs.Orders.{same_key}
 
 pub apart_stays : {A : Type 0} (q k : Key) (w x : A) → (q ≡ k → ⊥) → cond (eq_by_cmp key_cmp q k) w x ≡ x
 apart_stays q k w x apart =

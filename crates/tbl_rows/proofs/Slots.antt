@@ -11,7 +11,7 @@ use Rattle.aria_base.specs.declared.keys.Key.{Key}
 use Rattle.tbl_rows.specs.Hashes.{hash_of}
 use Rattle.tbl_rows.specs.Pools.{slot}
 use Rattle.tbl_rows.specs.declared.homes.TheConstants.{BUCKET_SHIFT}
-use Rattle.tbl_rows.proofs.Searched.{same_key}
+use Rattle.aria_base.proofs.Orders.{same_key}
 
 -- keys of two hashes are two
 pub hash_apart : (k q : Key) (h g : ℕ) → h ≡ hash_of k → g ≡ hash_of q → (h ≡ g → ⊥) → eqb h g ≡ eq_by_cmp key_cmp k q

@@ -11,9 +11,9 @@ use Rattle.std.proofs.lemmas.List.Sorted.{IsPermutation-sym, IsPermutation-trans
 use Rattle.std.proofs.lemmas.List.{append-nil, get_or_default, get_or-set_same, get_or-set_other, length-set}
 use Rattle.aria_base.specs.Orders.{key_cmp, Cells, Database}
 use Rattle.aria_base.specs.declared.keys.Key.{Key}
-use Rattle.aria_base.proofs.Orders.{key_cmp_total, key_cmp-IsAntisymmetric}
+use Rattle.aria_base.proofs.Orders.{key_cmp_total, key_cmp-IsAntisymmetric, same_key}
 use Rattle.tbl_rows.specs.Pools.{Entries, AllApart, Adds, pooled, IsSpread}
-use Rattle.tbl_rows.proofs.Searched.{same_key, apart_stays, find-append, or_none}
+use Rattle.tbl_rows.proofs.Searched.{apart_stays, find-append, or_none}
 use Rattle.tbl_rows.proofs.Listed.{nil_apart, apart-append, apart-entries, entries-permuted}
 
 abbrev pub listed : List Database → Entries

@@ -1,77 +1,22 @@
--- What the ordered map of std says of its entries, as finite maps say it.
-use Rattle.std.proofs.Common.{◌≡◌, List, [], ◌∷◌, Option, Some, None, Bool, cond, true, false, ◌&&◌, refl, sym, ap, subst, ◌∙◌}
+-- A copy of an ordered map, row by row.
+use Rattle.std.proofs.Common.{◌≡◌, List, [], ◌∷◌, Option, None, Some, cond, refl, sym, ap, ◌∙◌}
 use Rattle.std.proofs.Math.Path.{fun_ext}
-use Rattle.std.specs.Prelude.{T}
 use Rattle.std.specs.Cmp.{eq_by_cmp_equiv}
-use Rattle.std.specs.Ordering.{eq_by_cmp, is_eq, is_lt}
-use Rattle.std.specs.declared.cmp.Ordering.TheVariants.{Less}
-use Rattle.std.specs.List.{AllByRecursion}
+use Rattle.std.specs.Ordering.{eq_by_cmp}
 use Rattle.std.specs.List.Sorted.{IsStrictlySortedBy}
-use Rattle.std.proofs.lemmas.Map.Keys.{sorted_head, sorted_tail, IsDistinct-from_sorted}
+use Rattle.std.proofs.lemmas.Map.Keys.{IsDistinct-from_sorted}
 use Rattle.std.specs.Map.{lookup, keys_of, update_all}
 use Rattle.std.proofs.lemmas.Map.Made.{update_all_none}
 use Rattle.std.specs.BTreeMap.{is_at}
 use Rattle.std.specs.FinMap as fin
-use Rattle.std.specs.FinMap.Entries.{below_all}
-use Rattle.aria_base.specs.Orders.{key_cmp, Cells, Database}
+use Rattle.aria_base.specs.Orders.{key_cmp, Cells}
 use Rattle.aria_base.specs.declared.keys.Key.{Key}
-use Rattle.aria_base.proofs.Orders.{key_cmp_total, key_cmp-IsAntisymmetric, derived_cmp, derived-is, derived_same, derived_total}
-
-lookup-find : (es : List (Key × Cells)) (q : Key) → lookup (is_at (derived_cmp q)) es ≡ fin.find key_cmp q es
-lookup-find [] q = refl
-lookup-find (e ∷ es) q = λ i. cond (is_eq (derived-is q e.0 i)) (Some e.1) (lookup-find es q i)
-
--- the finite map of the entries has at a key what a look-up finds
-pub get-lookup : (es : List (Key × Cells)) (q : Key) → fin.get (fin.from_entries {R = key_cmp} es) q ≡ lookup (is_at (derived_cmp q)) es
-get-lookup es q = fin.get-from_entries key_cmp_total es q ∙ sym (lookup-find es q)
-
--- a change at a key, which is found from the key or from the query alike
-changed : (es fs : List (Key × Cells)) (k : Key) (w : Option Cells)
-    → ((q : Key) → lookup (is_at (derived_cmp q)) fs ≡ cond (is_at (derived_cmp k) q) w (lookup (is_at (derived_cmp q)) es)) → (q : Key)
-    → fin.get (fin.from_entries {R = key_cmp} fs) q ≡ cond (eq_by_cmp key_cmp q k) w (fin.get (fin.from_entries {R = key_cmp} es) q)
-changed es fs k w is q =
-    get-lookup fs q ∙ is q ∙ ap (λ b. cond b w (lookup (is_at (derived_cmp q)) es)) (ap is_eq (derived-is k q) ∙ (eq_by_cmp_equiv key_cmp_total).symm k q)
-    ∙ ap (cond (eq_by_cmp key_cmp q k) w) (sym (get-lookup es q))
-
-pub from_entries-insert : (es fs : List (Key × Cells)) (k : Key) (row : Cells)
-    → ((q : Key) → lookup (is_at (derived_cmp q)) fs ≡ cond (is_at (derived_cmp k) q) (Some row) (lookup (is_at (derived_cmp q)) es))
-    → fin.from_entries {R = key_cmp} fs ≡ fin.insert (fin.from_entries es) k row
-from_entries-insert es fs k row is = fin.same_map key_cmp_total key_cmp-IsAntisymmetric _ _ (λ q. changed es fs k (Some row) is q
-    ∙ sym (fin.get-insert key_cmp_total _ k row q))
-
-pub from_entries-remove : (es fs : List (Key × Cells)) (k : Key)
-    → ((q : Key) → lookup (is_at (derived_cmp q)) fs ≡ cond (is_at (derived_cmp k) q) None (lookup (is_at (derived_cmp q)) es))
-    → fin.from_entries {R = key_cmp} fs ≡ fin.remove (fin.from_entries es) k
-from_entries-remove es fs k is = fin.same_map key_cmp_total key_cmp-IsAntisymmetric _ _ (λ q. changed es fs k None is q
-    ∙ sym (fin.get-remove key_cmp_total _ k q))
+use Rattle.aria_base.proofs.Orders.{key_cmp_total, key_cmp-IsAntisymmetric, derived_cmp, derived_total}
+use Rattle.aria_base.proofs.Trees.{get-lookup}
 
 pub from_entries-same : (es fs : List (Key × Cells)) → ((q : Key) → lookup (is_at (derived_cmp q)) fs ≡ lookup (is_at (derived_cmp q)) es)
     → fin.from_entries {R = key_cmp} fs ≡ fin.from_entries es
 from_entries-same es fs is = fin.same_map key_cmp_total key_cmp-IsAntisymmetric _ _ (λ q. get-lookup fs q ∙ is q ∙ sym (get-lookup es q))
-
-both : (a b : Bool) → T a → T b → T (a && b)
-both true b p q = q
-both false b p q = p
-
-below_all-from : (k : Key) (es : List (Key × Cells)) → AllByRecursion (λ y. key_cmp k y ≡ Less) (keys_of es) → T (below_all key_cmp k es)
-below_all-from k [] below = tt
-below_all-from k (e ∷ es) below = both _ _ (subst (λ r. T (is_lt r)) (sym below.0) tt) (below_all-from k es below.1)
-
-is_sorted-from : (es : List (Key × Cells)) → IsStrictlySortedBy key_cmp (keys_of es) → T (fin.is_sorted key_cmp es)
-is_sorted-from [] rise = tt
-is_sorted-from (e ∷ es) rise = both _ _ (below_all-from e.0 es (sorted_head key_cmp e.0 (keys_of es) rise))
-    (is_sorted-from es (sorted_tail key_cmp e.0 (keys_of es) rise))
-
--- a list whose keys rise is that of the map which has at each key what is found in it
-pub entries-is : (m : Database) (es : List (Key × Cells)) → IsStrictlySortedBy key_cmp (keys_of es) → ((q : Key) → fin.get m q ≡ fin.find key_cmp q es)
-    → fin.entries m ≡ es
-entries-is m es rise is =
-    let sorted = is_sorted-from es rise in
-    ap fin.entries (fin.same_map key_cmp_total key_cmp-IsAntisymmetric m (fin.from_sorted es) (λ q. is q ∙ sym (fin.get-from_sorted key_cmp es q sorted)))
-    ∙ fin.entries-from_sorted key_cmp es sorted
-
-pub entries-from_entries : (es : List (Key × Cells)) → IsStrictlySortedBy derived_cmp (keys_of es) → fin.entries (fin.from_entries {R = key_cmp} es) ≡ es
-entries-from_entries es rise = entries-is _ es (subst (λ cmp. IsStrictlySortedBy cmp (keys_of es)) derived_same rise) (fin.get-from_entries key_cmp_total es)
 
 -- with these entries and, in turn, the ones that are left, a map is what all entries make
 pub record WillCopy (done left all : List (Key × Cells)) : Type 0 where

@@ -11,7 +11,7 @@ use Rattle.aria_base.specs.Orders.{key_cmp, Cells}
 use Rattle.aria_base.specs.declared.keys.Key.{Key}
 use Rattle.batch_rules.specs.Touches.{is_among, keys_of}
 use Rattle.tbl_rows.specs.Hashes.{hash_of}
-use Rattle.tbl_rows.proofs.Searched.{same_key}
+use Rattle.aria_base.proofs.Orders.{same_key}
 use Rattle.tbl_snapshot.specs.Marks.{bit_of, with_bit, AllMarked}
 use Rattle.tbl_snapshot.specs.Layers.{Buffer}
 use Rattle.tbl_snapshot.proofs.Buffers.{is_write_of, find-none, find-at, is_at-position}

@@ -12,12 +12,11 @@ use Rattle.std.proofs.Math.Seq.{take-suc}
 use lib.ListN.{set}
 use Rattle.aria_base.specs.Orders.{key_cmp}
 use Rattle.aria_base.specs.declared.keys.Key.{Key}
-use Rattle.aria_base.proofs.Orders.{key_cmp_total}
+use Rattle.aria_base.proofs.Orders.{key_cmp_total, same_key}
 use Rattle.dep_rules.specs.Decisions.{reads_of, writes_of}
 use Rattle.dep_rules.specs.Sheets.{AllBelow}
 use Rattle.dep_rules.specs.declared.sets.Sets.{Sets}
 use Rattle.key_numbering.specs.Numbers.{Numbers, AreNumbers, Keeps, number_in, with_key, with_keys, with_sets}
-use Rattle.key_numbering.proofs.Beside.{same_key}
 use Rattle.key_numbering.proofs.Growing.{new, len-new, number-new, keeps_on, keeps_keys, has_key, same_number, after_set, keeps_sets, either}
 use Rattle.key_numbering.proofs.Growing.{AreNumbers-empty, AreNumbers-new}
 use Rattle.touch_numbers.specs.Firsts.{from_one, HasNumbers, NumbersOne, NumbersList, NumbersAll}

@@ -10,7 +10,7 @@ use Rattle.std.specs.FinMap as fin
 use Rattle.rand_pcg.specs.Lcg.{Lcg}
 use Rattle.aria_base.specs.Orders.{key_cmp, Cells, Database}
 use Rattle.load_gen.specs.Draws.{random}
-use Rattle.tbl_rows.proofs.Trees.{entries-is}
+use Rattle.aria_base.proofs.Trees.{entries-is}
 use Rattle.tpcc_load.specs.declared.settings.Tpcc.{Tpcc}
 use Rattle.tpcc_load.specs.Draws.{over}
 use Rattle.tpcc_load.specs.Rows.{Row, laid}

@@ -1,8 +1,6 @@
 use Rattle.std.proofs.Common.{sym, ◌∙◌}
-use Rattle.std.specs.BTreeMap.{is_at}
-use Rattle.aria_base.proofs.Orders.{derived_cmp}
-use Rattle.key_numbering.proofs.Maps.{same_at, get-lookup}
+use Rattle.aria_base.proofs.Trees.{get-lookup}
 use Rattle.key_numbering.proofs.ordered.Ordered.get.Goals as goal
 
 pub returns : goal.returns
-returns c = rw (← c.self.view_is) (c.copied.ensures ∙ c.get.ensures.value ∙ sym (get-lookup (λ x. is_at (derived_cmp x)) same_at _ _))
+returns c = rw (← c.self.view_is) (c.copied.ensures ∙ c.get.ensures.value ∙ sym (get-lookup _ _))

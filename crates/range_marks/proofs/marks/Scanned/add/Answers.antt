@@ -1,6 +1,6 @@
 use Rattle.std.proofs.Common.{ap, ◌∙◌}
 use Rattle.std.specs.FinMap as fin
-use Rattle.range_runs.proofs.Trees.{from_entries-insert}
+use Rattle.aria_base.proofs.Trees.{from_entries-insert}
 use Rattle.range_marks.proofs.marks.Scanned.add.Goals as goal
 
 pub returns : goal.returns

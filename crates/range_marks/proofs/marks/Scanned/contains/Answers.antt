@@ -1,6 +1,6 @@
 use Rattle.std.proofs.Common.{sym, ap, ◌∙◌}
 use Rattle.std.specs.Prelude.{is_some}
-use Rattle.range_runs.proofs.Trees.{get-lookup}
+use Rattle.aria_base.proofs.Trees.{get-lookup}
 use Rattle.range_marks.proofs.marks.Scanned.contains.Goals as goal
 
 pub returns : goal.returns

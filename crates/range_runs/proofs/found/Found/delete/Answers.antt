@@ -1,4 +1,4 @@
-use Rattle.range_runs.proofs.Trees.{from_entries-remove}
+use Rattle.aria_base.proofs.Trees.{from_entries-remove}
 use Rattle.range_runs.proofs.found.Found.delete.Goals as goal
 
 pub returns : goal.returns

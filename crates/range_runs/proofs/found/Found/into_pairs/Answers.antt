@@ -1,5 +1,5 @@
 use Rattle.std.proofs.Common.{sym, ◌∙◌}
-use Rattle.range_runs.proofs.Trees.{entries-from_entries}
+use Rattle.aria_base.proofs.Trees.{entries-from_entries}
 use Rattle.range_runs.proofs.found.Found.into_pairs.Goals as goal
 
 pub loop-key-init : goal.loop-key-init

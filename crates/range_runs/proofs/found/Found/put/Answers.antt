@@ -1,4 +1,4 @@
-use Rattle.range_runs.proofs.Trees.{from_entries-insert}
+use Rattle.aria_base.proofs.Trees.{from_entries-insert}
 use Rattle.range_runs.proofs.found.Found.put.Goals as goal
 
 pub returns-in-Ok-clause-put : goal.returns-in-Ok-clause-put

@@ -1,7 +1,7 @@
 use Rattle.std.proofs.Common.{sym, subst}
 use Rattle.range_runs.specs.Indexes.{HasKeys}
 use Rattle.range_runs.proofs.Following.{insert_keys}
-use Rattle.range_runs.proofs.Trees.{from_entries-insert}
+use Rattle.aria_base.proofs.Trees.{from_entries-insert}
 use Rattle.range_runs.proofs.indexes.Index.add.Goals as goal
 
 pub returns-clause-added : goal.returns-clause-added

@@ -1,7 +1,7 @@
 use Rattle.std.proofs.Common.{sym, subst}
 use Rattle.range_runs.specs.Indexes.{HasKeys}
 use Rattle.range_runs.proofs.Following.{remove_keys}
-use Rattle.range_runs.proofs.Trees.{from_entries-remove}
+use Rattle.aria_base.proofs.Trees.{from_entries-remove}
 use Rattle.range_runs.proofs.indexes.Index.remove.Goals as goal
 
 pub returns : goal.returns

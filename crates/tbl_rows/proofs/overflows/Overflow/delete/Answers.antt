@@ -1,6 +1,6 @@
 use Rattle.std.proofs.Common.{refl, ap, sym, ◌∙◌}
 use Rattle.std.specs.Option.{is_some}
-use Rattle.tbl_rows.proofs.Trees.{from_entries-remove, get-lookup}
+use Rattle.aria_base.proofs.Trees.{from_entries-remove, get-lookup}
 use Rattle.tbl_rows.proofs.overflows.Overflow.delete.Goals as goal
 
 pub returns-clause-found : goal.returns-clause-found

@@ -1,5 +1,5 @@
 use Rattle.std.proofs.Common.{sym, ◌∙◌}
-use Rattle.tbl_rows.proofs.Trees.{get-lookup}
+use Rattle.aria_base.proofs.Trees.{get-lookup}
 use Rattle.tbl_rows.proofs.overflows.Overflow.get.Goals as goal
 
 pub returns : goal.returns

@@ -1,6 +1,6 @@
 use Rattle.std.proofs.Common.{◌++◌, ap, sym, ◌∙◌, map}
 use Rattle.std.specs.Map.Iter.{deref_pair}
-use Rattle.tbl_rows.proofs.Trees.{entries-from_entries}
+use Rattle.aria_base.proofs.Trees.{entries-from_entries}
 use Rattle.tbl_rows.proofs.overflows.Overflow.list.Goals as goal
 
 pub loop-key-init : goal.loop-key-init

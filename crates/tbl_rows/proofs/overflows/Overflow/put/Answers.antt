@@ -1,5 +1,5 @@
 use Rattle.std.proofs.Common.{refl, rules}
-use Rattle.tbl_rows.proofs.Trees.{from_entries-insert}
+use Rattle.aria_base.proofs.Trees.{from_entries-insert}
 use Rattle.tbl_rows.proofs.overflows.Overflow.put.Goals as goal
 use Rattle.tbl_rows.proofs.overflows.Overflow.put.Goals.{in-Ok, in-Err}
 

@@ -1,4 +1,4 @@
--- What the ordered map of std says of its entries, as finite maps say it, whatever stands at the keys.
+-- What the maps of the libraries say of their entries, as finite maps say it, whatever stands at the keys.
 use Rattle.std.proofs.Common.{◌≡◌, List, [], ◌∷◌, Option, Some, None, Bool, cond, true, false, ◌&&◌, refl, sym, ap, subst, ◌∙◌}
 use Rattle.std.specs.Prelude.{T}
 use Rattle.std.specs.Cmp.{eq_by_cmp_equiv}
@@ -19,33 +19,52 @@ both : (a b : Bool) → T a → T b → T (a && b)
 both true b p q = q
 both false b p q = p
 
-module _ {X : Type 0} where
-  lookup-find : (es : List (Key × X)) (q : Key) → lookup (is_at (derived_cmp q)) es ≡ fin.find key_cmp q es
+-- by any equality of keys that is that of their order
+module _ {X : Type 0} (E : Key → Key → Bool) (same : (x y : Key) → E x y ≡ eq_by_cmp key_cmp x y) where
+  lookup-find : (es : List (Key × X)) (q : Key) → lookup (E q) es ≡ fin.find key_cmp q es
   lookup-find [] q = refl
-  lookup-find (e ∷ es) q = λ i. cond (is_eq (derived-is q e.0 i)) (Some e.1) (lookup-find es q i)
+  lookup-find (e ∷ es) q = λ i. cond (same q e.0 i) (Some e.1) (lookup-find es q i)
 
   -- the finite map of the entries has at a key what a look-up finds
-  pub get-lookup : (es : List (Key × X)) (q : Key) → fin.get (fin.from_entries {R = key_cmp} es) q ≡ lookup (is_at (derived_cmp q)) es
-  get-lookup es q = fin.get-from_entries key_cmp_total es q ∙ sym (lookup-find es q)
+  pub get-by : (es : List (Key × X)) (q : Key) → fin.get (fin.from_entries {R = key_cmp} es) q ≡ lookup (E q) es
+  get-by es q = fin.get-from_entries key_cmp_total es q ∙ sym (lookup-find es q)
 
-  changed : (es fs : List (Key × X)) (k : Key) (w : Option X)
-      → ((q : Key) → lookup (is_at (derived_cmp q)) fs ≡ cond (is_at (derived_cmp k) q) w (lookup (is_at (derived_cmp q)) es)) → (q : Key)
+  changed : (es fs : List (Key × X)) (k : Key) (w : Option X) → ((q : Key) → lookup (E q) fs ≡ cond (E k q) w (lookup (E q) es)) → (q : Key)
       → fin.get (fin.from_entries {R = key_cmp} fs) q ≡ cond (eq_by_cmp key_cmp q k) w (fin.get (fin.from_entries {R = key_cmp} es) q)
   changed es fs k w is q =
-      get-lookup fs q ∙ is q ∙ ap (λ b. cond b w (lookup (is_at (derived_cmp q)) es)) (ap is_eq (derived-is k q) ∙ (eq_by_cmp_equiv key_cmp_total).symm k q)
-      ∙ ap (cond (eq_by_cmp key_cmp q k) w) (sym (get-lookup es q))
+      get-by fs q ∙ is q ∙ ap (λ b. cond b w (lookup (E q) es)) (same k q ∙ (eq_by_cmp_equiv key_cmp_total).symm k q)
+      ∙ ap (cond (eq_by_cmp key_cmp q k) w) (sym (get-by es q))
+
+  pub insert-by : (es fs : List (Key × X)) (k : Key) (x : X) → ((q : Key) → lookup (E q) fs ≡ cond (E k q) (Some x) (lookup (E q) es))
+      → fin.from_entries {R = key_cmp} fs ≡ fin.insert (fin.from_entries es) k x
+  insert-by es fs k x is = fin.same_map key_cmp_total key_cmp-IsAntisymmetric _ _
+      (λ q. changed es fs k (Some x) is q ∙ sym (fin.get-insert key_cmp_total _ k x q))
+
+  pub remove-by : (es fs : List (Key × X)) (k : Key) → ((q : Key) → lookup (E q) fs ≡ cond (E k q) None (lookup (E q) es))
+      → fin.from_entries {R = key_cmp} fs ≡ fin.remove (fin.from_entries es) k
+  remove-by es fs k is = fin.same_map key_cmp_total key_cmp-IsAntisymmetric _ _
+      (λ q. changed es fs k None is q ∙ sym (fin.get-remove key_cmp_total _ k q))
+
+-- the equality by the derived order, which the ordered map goes by
+abbrev tied : Key → Key → Bool
+tied x = is_at (derived_cmp x)
+
+same_tied : (x y : Key) → tied x y ≡ eq_by_cmp key_cmp x y
+same_tied x y = ap is_eq (derived-is x y)
+
+module _ {X : Type 0} where
+  pub get-lookup : (es : List (Key × X)) (q : Key) → fin.get (fin.from_entries {R = key_cmp} es) q ≡ lookup (is_at (derived_cmp q)) es
+  get-lookup = get-by tied same_tied
 
   pub from_entries-insert : (es fs : List (Key × X)) (k : Key) (x : X)
       → ((q : Key) → lookup (is_at (derived_cmp q)) fs ≡ cond (is_at (derived_cmp k) q) (Some x) (lookup (is_at (derived_cmp q)) es))
       → fin.from_entries {R = key_cmp} fs ≡ fin.insert (fin.from_entries es) k x
-  from_entries-insert es fs k x is = fin.same_map key_cmp_total key_cmp-IsAntisymmetric _ _
-      (λ q. changed es fs k (Some x) is q ∙ sym (fin.get-insert key_cmp_total _ k x q))
+  from_entries-insert = insert-by tied same_tied
 
   pub from_entries-remove : (es fs : List (Key × X)) (k : Key)
       → ((q : Key) → lookup (is_at (derived_cmp q)) fs ≡ cond (is_at (derived_cmp k) q) None (lookup (is_at (derived_cmp q)) es))
       → fin.from_entries {R = key_cmp} fs ≡ fin.remove (fin.from_entries es) k
-  from_entries-remove es fs k is = fin.same_map key_cmp_total key_cmp-IsAntisymmetric _ _
-      (λ q. changed es fs k None is q ∙ sym (fin.get-remove key_cmp_total _ k q))
+  from_entries-remove = remove-by tied same_tied
 
   below_all-from : (k : Key) (es : List (Key × X)) → AllByRecursion (λ y. key_cmp k y ≡ Less) (keys_of es) → T (below_all key_cmp k es)
   below_all-from k [] below = tt
