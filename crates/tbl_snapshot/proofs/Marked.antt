@@ -1,6 +1,6 @@
 -- The bits of hashes: a key whose bit is not set is none of those that set theirs.
-use Rattle.std.proofs.Common.{◌≡◌, ℕ, zero, suc, ◌<◌, ◌^◌, subst, List, [], ◌∷◌, ◌++◌, Option, Some, None, true, false, ◌||◌, max, refl, sym, ap, ◌∙◌, arith}
-use Rattle.std.specs.Prelude.{slice_index_or, slice_set, is_some, MatchOption}
+use Rattle.std.proofs.Common.{◌≡◌, ℕ, ◌<◌, ◌^◌, List, [], ◌∷◌, ◌++◌, Option, Some, None, true, false, ◌||◌, max, refl, sym, ap, ◌∙◌, arith}
+use Rattle.std.specs.Prelude.{slice_index_or, is_some, MatchOption}
 use Rattle.std.specs.Int.{bit_at}
 use Rattle.std.specs.List.{position}
 use Rattle.std.specs.Ordering.{eq_by_cmp}
@@ -57,21 +57,6 @@ pub placed : (ws : Buffer) (q : Key) (r : Option ℕ) → r ≡ position (is_wri
     → MatchOption r (fin.find key_cmp q ws ≡ None) (λ i. position (is_write_of q) ws ≡ Some i)
 placed ws q None is = find-none ws q (sym is)
 placed ws q (Some i) is = sym is
-
-pub marked_more_rows : (bits hash : ℕ) (ws : Buffer) (k : Key) (row : Option Cells) → hash ≡ hash_of k → AllMarked bits (keys_of ws)
-    → AllMarked (with_bit bits hash) (keys_of (ws ++ (k, row) ∷ []))
-marked_more_rows bits hash [] k row is all = marked_more bits hash [] k is all
-marked_more_rows bits hash (w ∷ ws) k row is all = (stays bits hash (bit_of (hash_of w.0)) all.0, marked_more_rows bits hash ws k row is all.1)
-
-marked_set : (bits : ℕ) (ws : Buffer) (i : ℕ) (row : Option Cells) (d : Key × Option Cells) → AllMarked bits (keys_of ws)
-    → AllMarked bits (keys_of (slice_set ws i ((slice_index_or ws i d).0, row)))
-marked_set bits [] i row d all = all
-marked_set bits (w ∷ ws) zero row d all = all
-marked_set bits (w ∷ ws) (suc i) row d all = (all.0, marked_set bits ws i row d all.1)
-
-pub marked_set_at : (bits : ℕ) (ws : Buffer) (i : ℕ) (row : Option Cells) (old : Key × Option Cells) → old ≡ slice_index_or ws i old
-    → AllMarked bits (keys_of ws) → AllMarked bits (keys_of (slice_set ws i (old.0, row)))
-marked_set_at bits ws i row old is all = subst (λ w. AllMarked bits (keys_of (slice_set ws i (w.0, row)))) (sym is) (marked_set bits ws i row old all)
 
 -- what is found at a place, and whether a key is written
 pub found_at : (ws : Buffer) (q : Key) (i : ℕ) (old : Key × Option Cells) → position (is_write_of q) ws ≡ Some i → old ≡ slice_index_or ws i old

@@ -16,6 +16,7 @@
 mod bits;
 mod changes;
 mod overlays;
+mod places;
 mod reads;
 mod searches;
 mod snapshots;

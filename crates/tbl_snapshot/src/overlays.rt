@@ -20,8 +20,8 @@ use tbl_rows::hash_of;
 /// A window on a snapshot that keeps what is written through it to itself. A contract sees the
 /// database below, the keys that were read from it in the order of their first reads, and the writes
 /// in the order of their first writes, each with its last row or absence. Its calls search these
-/// lists from the front, which is quick while they are short: the interpreter makes at most 256
-/// accesses in a run. The overlay itself has no bound.
+/// lists from the front while they are short, and from the thirty-third key on by the order of keys, so
+/// that a call costs a logarithm of what was touched. The overlay has no bound.
 #[derive(Drop)]
 pub struct Overlay<'a> {
     alloc: Global,
@@ -75,7 +75,7 @@ impl<'a> Overlay<'a> {
         ensures kept { OnErr result (self.new ≡ self.old) }
     {
         let mark = hash_of(&key);
-        self.writes.set(mark, key, row)?;
+        self.writes.set(self.alloc, mark, key, row)?;
         Ok(())
     }
 
@@ -92,7 +92,7 @@ impl<'a> Overlay<'a> {
         if self.reads.has(mark, &key) {
             return Ok(());
         }
-        self.reads.add(mark, key)?;
+        self.reads.add(self.alloc, mark, key)?;
         Ok(())
     }
 

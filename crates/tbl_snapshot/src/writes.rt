@@ -8,24 +8,29 @@ ghost use Rattle.batch_rules.specs.Touches.{is_among, keys_of, with_write};
 ghost use Rattle.tbl_rows.specs.Hashes.{hash_of};
 
 use crate::bits::{has_bit, with_bit};
-use crate::reads::FIRST_ROOM;
+use crate::places::{Places, places_with_write};
+use crate::reads::make_room;
 use crate::searches::place_of;
 use aria_base::{Key, Memory, Row};
-use std::alloc::{AllocError, Global};
+use std::alloc::Global;
 use std::marker::Model;
 
 /// Writes in the order of first writes, each with its last row or absence. A contract sees the list of
-/// them. Their hashes' bits spare a search for nearly every key that is not there.
+/// them. Their hashes' bits spare a search for nearly every key that is not there, while the writes are
+/// few; the places of many are kept.
 #[derive(Drop)]
 pub(crate) struct Writes {
     rows: Vec<(Key, Option<Row>)>,
     bits: u128,
+    places: Option<Places>,
 }
 
 impl Model for Writes {
     ghost use Rattle.tbl_snapshot.specs.Layers.{Buffer, buffer_code};
     ghost use Rattle.batch_rules.specs.Touches.{keys_of};
+    ghost use Rattle.std.specs.Option.{IfSome};
     ghost use Rattle.tbl_snapshot.specs.Marks.{AllMarked};
+    ghost use Rattle.tbl_snapshot.specs.Places.{HasPlaces};
 
     ghost Value = { Buffer };
 
@@ -33,7 +38,7 @@ impl Model for Writes {
 
     ghost view = { λ a. a.rows.items };
 
-    ghost invariant = { λ a. AllMarked a.bits (keys_of a.rows.items) };
+    ghost invariant = { λ a. AllMarked a.bits (keys_of a.rows.items) × IfSome a.places (HasPlaces (keys_of a.rows.items)) };
 }
 
 impl Writes {
@@ -44,6 +49,7 @@ impl Writes {
         Writes {
             rows: Vec::new(alloc),
             bits: 0,
+            places: None,
         }
     }
 
@@ -55,7 +61,10 @@ impl Writes {
         if !has_bit(self.bits, hash) {
             return None;
         }
-        place_of(&self.rows, key)
+        match &self.places {
+            Some(places) => places.get(key),
+            None => place_of(&self.rows, key),
+        }
     }
 
     /// What was written at the key of this hash.
@@ -81,7 +90,13 @@ impl Writes {
     }
 
     /// Sets what is written at the key of this hash.
-    pub(crate) fn set(&mut self, hash: u64, key: Key, row: Option<Row>) -> Result<(), Memory>
+    pub(crate) fn set(
+        &mut self,
+        alloc: Global,
+        hash: u64,
+        key: Key,
+        row: Option<Row>,
+    ) -> Result<(), Memory>
         requires { hash ≡ hash_of key }
         ensures written { OnOk result (self.new ≡ with_write key_cmp self.old key row) }
         ensures kept { OnErr result (self.new ≡ self.old) }
@@ -91,21 +106,28 @@ impl Writes {
                 self.rows[place].1 = row;
                 drop(key);
             }
-            None => self.add(hash, key, row)?,
+            None => self.add(alloc, hash, key, row)?,
         }
         Ok(())
     }
 
     /// Adds a write at the end.
-    #[tactic(auto, using(crate::proofs::Marked::marked_more_rows))]
-    fn add(&mut self, hash: u64, key: Key, row: Option<Row>) -> Result<(), Memory>
+    fn add(
+        &mut self,
+        alloc: Global,
+        hash: u64,
+        key: Key,
+        row: Option<Row>,
+    ) -> Result<(), Memory>
         requires { hash ≡ hash_of key }
         ensures added { OnOk result (self.new ≡ self.old ++ (key, row) ∷ []) }
         ensures kept { OnErr result (self.new ≡ self.old) }
     {
         make_room(&mut self.rows)?;
+        let places = places_with_write(alloc, self.places.take(), self.rows.as_slice(), &key)?;
         self.rows.push((key, row))?;
         self.bits = with_bit(self.bits, hash);
+        self.places = places;
         Ok(())
     }
 
@@ -122,14 +144,4 @@ impl Writes {
     {
         self.rows
     }
-}
-
-/// Makes room for the first few writes at once.
-fn make_room(rows: &mut Vec<(Key, Option<Row>)>) -> Result<(), AllocError>
-    ensures { rows.new.items ≡ rows.old.items }
-{
-    if 0 < rows.capacity() {
-        return Ok(());
-    }
-    rows.reserve(FIRST_ROOM)
 }
