@@ -60,22 +60,22 @@ module _ (m : Places) (ks : List Key) (k : Key) (has : HasPlaces ks m) where
   -- a key that is in the list already
   pub stays : is_some (place_in m k) ≡ true → HasPlaces (ks ++ k ∷ []) m
   stays some q = by_longer (place_in m q) q (elim (eq_by_cmp key_cmp q k) as (λ b. eq_by_cmp key_cmp q k ≡ b
-    → place_in m q ≡ longer (place_in m q) b (length ks)) [
-      | true ↦ λ t. there (place_in m q) (length ks) (ap (λ q. is_some (place_in m q)) (same_key q k t) ∙ some)
-      | false ↦ λ t. elsewhere (place_in m q) (length ks)
-    ] refl)
+      → place_in m q ≡ longer (place_in m q) b (length ks)) [
+        | true ↦ λ t. there (place_in m q) (length ks) (ap (λ q. is_some (place_in m q)) (same_key q k t) ∙ some)
+        | false ↦ λ t. elsewhere (place_in m q) (length ks)
+      ] refl)
 
   -- a new one
   pub notes : (g : Places) (n : ℕ) → length ks ≡ n → is_some (place_in m k) ≡ false
       → ((q : Key) → get derived_cmp g.map q ≡ cond (is_at (derived_cmp k) q) (Some n) (get derived_cmp m.map q)) → HasPlaces (ks ++ k ∷ []) g
   notes g n long none is q = by_longer (place_in g q) q (is q
-    ∙ ap (λ b. cond b (Some n) (place_in m q)) (ap is_eq (derived-is k q) ∙ (eq_by_cmp_equiv key_cmp_total).symm k q)
-    ∙ ap (λ n. cond (eq_by_cmp key_cmp q k) (Some n) (place_in m q)) (sym long)
-    ∙ elim (eq_by_cmp key_cmp q k) as (λ b. eq_by_cmp key_cmp q k ≡ b
-    → cond b (Some (length ks)) (place_in m q) ≡ longer (place_in m q) b (length ks)) [
-      | true ↦ λ t. here (place_in m q) (length ks) (ap (λ q. is_some (place_in m q)) (same_key q k t) ∙ none)
-      | false ↦ λ t. elsewhere (place_in m q) (length ks)
-    ] refl)
+      ∙ ap (λ b. cond b (Some n) (place_in m q)) (ap is_eq (derived-is k q) ∙ (eq_by_cmp_equiv key_cmp_total).symm k q)
+      ∙ ap (λ n. cond (eq_by_cmp key_cmp q k) (Some n) (place_in m q)) (sym long)
+      ∙ elim (eq_by_cmp key_cmp q k) as (λ b. eq_by_cmp key_cmp q k ≡ b
+      → cond b (Some (length ks)) (place_in m q) ≡ longer (place_in m q) b (length ks)) [
+        | true ↦ λ t. here (place_in m q) (length ks) (ap (λ q. is_some (place_in m q)) (same_key q k t) ∙ none)
+        | false ↦ λ t. elsewhere (place_in m q) (length ks)
+      ] refl)
 
 -- what the places say of the list
 pub among-places : (ks : List Key) (at : Option Places) (m : Places) (q : Key) → IfSome at (HasPlaces ks) → at ≡ Some m

@@ -112,13 +112,7 @@ impl Writes {
     }
 
     /// Adds a write at the end.
-    fn add(
-        &mut self,
-        alloc: Global,
-        hash: u64,
-        key: Key,
-        row: Option<Row>,
-    ) -> Result<(), Memory>
+    fn add(&mut self, alloc: Global, hash: u64, key: Key, row: Option<Row>) -> Result<(), Memory>
         requires { hash ≡ hash_of key }
         ensures added { OnOk result (self.new ≡ self.old ++ (key, row) ∷ []) }
         ensures kept { OnErr result (self.new ≡ self.old) }
