@@ -1,18 +1,13 @@
 -- The fronts of a key's parts that were scanned are the scanned prefixes that the key is under.
-use Rattle.std.proofs.Common.{◌≡◌, ◌≢◌, ℕ, ℤ, pos, negsuc, zero, suc, ◌+◌, ◌≤◌, ◌<◌, List, [], ◌∷◌, ◌++◌, take, length, Bool, true, false, refl, sym, ap, ◌∙◌, inl, inr, arith, add-one}
+use Rattle.std.proofs.Common.{◌≡◌, ℕ, zero, suc, ◌+◌, ◌≤◌, ◌<◌, List, [], ◌∷◌, ◌++◌, take, length, Bool, true, false, refl, sym, ap, ◌∙◌, inl, inr, arith, add-one}
 use Rattle.std.specs.Prelude.{◌||◌, ◌&&◌, if◌then◌else◌, min, nat_eq, nat_lt, slice_index_or}
 use Rattle.std.specs.List.{All, list_any}
-use Rattle.std.specs.Ordering.{eq_by_cmp, is_eq, nat_cmp, int_cmp, ordering_then}
+use Rattle.std.specs.Ordering.{eq_by_cmp, is_eq}
 use Rattle.std.specs.Cmp.Lexicographic.{slice_cmp}
-use Rattle.std.specs.declared.cmp.Ordering.{Ordering}
-use Rattle.std.specs.declared.cmp.Ordering.TheVariants.{Less, Equal, Greater}
 use Rattle.std.specs.FinMap as fin
 use Rattle.std.proofs.Math.Nat.{min-le_left, min-le_right, le-min}
 use Rattle.std.proofs.lemmas.Bool.{cases_lt, lt-ltb, le-ltb, eq-eqb, ne_eqb}
 use Rattle.std.proofs.lemmas.Bool.Decides.{eqb_tells}
-use Rattle.std.specs.Cmp.{unsigned_tied, tied_itself, Equal-is}
-use Rattle.std.specs.FinMap.{int_cmp-IsAntisymmetric}
-use Rattle.std.proofs.lemmas.Cmp.{int_cmp_total}
 use Rattle.std.proofs.lemmas.List.Elements.{All-nil, All-cons, All-append}
 use Rattle.std.proofs.lemmas.List.Folds.{list_any-append}
 use Rattle.aria_base.specs.Orders.{part_cmp, key_cmp}
@@ -23,11 +18,12 @@ use Rattle.aria_base.proofs.Orders.{key_cmp-IsAntisymmetric}
 use Rattle.batch_rules.specs.Touches.{is_among}
 use Rattle.batch_rules.proofs.Maps.{same_key}
 use Rattle.range_rules.specs.declared.routines.Prefix.{Prefix}
-use Rattle.range_rules.specs.Scans.{begins, is_under, key_at}
+use Rattle.range_rules.specs.Scans.{begins, is_under}
 use Rattle.range_marks.specs.Decisions.{AreMarks}
 use Rattle.range_runs.specs.Indexes.{Listed}
-use Rattle.range_marks.specs.Marks.{whole_table, mark_of, prefix_of, front_of, front_count, fronts_below, marks_on}
-use Rattle.range_marks.specs.declared.places.TheConstants.{NO_TABLE}
+use Rattle.range_runs.specs.Marks.{mark_of}
+use Rattle.range_runs.proofs.Marking.{tied_then, and_false, same_mark}
+use Rattle.range_marks.specs.Marks.{prefix_of, front_of, front_count, fronts_below, marks_on}
 
 pub fronts_more : (scanned : Listed) (k : Key) (n : ℕ) → fronts_below scanned k (n + 1) ≡ fronts_below scanned k n
     ++ (if fin.contains_key scanned (front_of k n) then front_of k n ∷ [] else [])
@@ -35,22 +31,9 @@ fronts_more scanned k n = rw add-one refl
 
 -- ---- tests
 
-tied_then : (a b : Ordering) → is_eq (ordering_then a b) ≡ (is_eq a && is_eq b)
-tied_then Less b = refl
-tied_then Equal b = refl
-tied_then Greater b = refl
-
 and_assoc : (a b c : Bool) → (a && (b && c)) ≡ ((a && b) && c)
 and_assoc true b c = refl
 and_assoc false b c = refl
-
-and_false : (a : Bool) → (a && false) ≡ false
-and_false true = refl
-and_false false = refl
-
-and_true : (a : Bool) → (a && true) ≡ a
-and_true true = refl
-and_true false = refl
 
 and_or : (a b c : Bool) → ((a && b) || (a && c)) ≡ (a && (b || c))
 and_or true b c = refl
@@ -78,51 +61,6 @@ suc_same a b = elim (eqb_tells a b) [
   | inl same ↦ let e = same.1 in same.0 ∙ sym (eq-eqb (suc a) (suc b) (omega arith))
   | inr apart ↦ let e = apart.1 in apart.0 ∙ sym (ne_eqb (suc a) (suc b) (λ same. e (omega arith)))
 ]
-
--- ---- keys that stand for prefixes
-
--- parts of which there are not as many differ
-unlike : (xs ys : List Part) → length xs ≢ length ys → is_eq (slice_cmp part_cmp xs ys) ≡ false
-unlike [] [] ne = absurd (ne refl)
-unlike [] (y ∷ ys) ne = refl
-unlike (x ∷ xs) [] ne = refl
-unlike (x ∷ xs) (y ∷ ys) ne = tied_then (part_cmp x y) (slice_cmp part_cmp xs ys)
-    ∙ ap (λ b. is_eq (part_cmp x y) && b) (unlike xs ys (λ e. ne (ap suc e))) ∙ and_false (is_eq (part_cmp x y))
-
-abbrev size : ℤ → ℕ
-size (pos n) = n
-size (negsuc n) = n
-
-numbers_tied : (t u : ℕ) → is_eq (int_cmp (pos t) (pos u)) ≡ nat_eq t u
-numbers_tied t u = elim (eqb_tells t u) [
-  | inl same ↦ ap (λ n. is_eq (int_cmp (pos t) (pos n))) (sym same.1) ∙ (Equal-is (int_cmp (pos t) (pos t))).1 (tied_itself int_cmp_total (pos t)) ∙ sym same.0
-  | inr apart ↦ elim (int_cmp (pos t) (pos u)) as (λ o. int_cmp (pos t) (pos u) ≡ o → is_eq o ≡ nat_eq t u) [
-    | Less ↦ λ _. sym apart.0
-    | Equal ↦ λ e. absurd (apart.1 (ap size (int_cmp-IsAntisymmetric (pos t) (pos u) e)))
-    | Greater ↦ λ _. sym apart.0
-  ] refl
-]
-
-same_tables : (t u : ℕ) → eq_by_cmp key_cmp (whole_table t) (whole_table u) ≡ (nat_eq t u && true)
-same_tables t u = tied_then (int_cmp (pos t) (pos u)) Equal ∙ ap (λ b. b && true) (numbers_tied t u)
-
--- two prefixes are one exactly where the keys are that stand for them
-same_mark : (p q : Prefix) → length p.parts < MOST_PARTS → length q.parts < MOST_PARTS
-    → eq_by_cmp key_cmp (mark_of p) (mark_of q) ≡ (nat_eq p.table q.table && is_eq (slice_cmp part_cmp p.parts q.parts))
-same_mark p q few less = at p.parts q.parts few less
-  where
-    at : (ps qs : List Part) → length ps < MOST_PARTS → length qs < MOST_PARTS
-        → eq_by_cmp key_cmp (key_at (whole_table p.table) p.table ps) (key_at (whole_table q.table) q.table qs)
-        ≡ (nat_eq p.table q.table && is_eq (slice_cmp part_cmp ps qs))
-    at [] [] few less = same_tables p.table q.table
-    at [] (y ∷ ys) few less = tied_then (nat_cmp NO_TABLE q.table) (slice_cmp part_cmp (whole_table p.table).parts (y ∷ ys))
-        ∙ ap (λ b. is_eq (nat_cmp NO_TABLE q.table) && b) (unlike (whole_table p.table).parts (y ∷ ys) (λ e. omega (arith, less, e)))
-        ∙ and_false (is_eq (nat_cmp NO_TABLE q.table)) ∙ sym (and_false (nat_eq p.table q.table))
-    at (x ∷ xs) [] few less = tied_then (nat_cmp p.table NO_TABLE) (slice_cmp part_cmp (x ∷ xs) (whole_table q.table).parts)
-        ∙ ap (λ b. is_eq (nat_cmp p.table NO_TABLE) && b) (unlike (x ∷ xs) (whole_table q.table).parts (λ e. omega (arith, few, e)))
-        ∙ and_false (is_eq (nat_cmp p.table NO_TABLE)) ∙ sym (and_false (nat_eq p.table q.table))
-    at (x ∷ xs) (y ∷ ys) few less = tied_then (nat_cmp p.table q.table) (slice_cmp part_cmp (x ∷ xs) (y ∷ ys))
-        ∙ ap (λ b. b && is_eq (slice_cmp part_cmp (x ∷ xs) (y ∷ ys))) (unsigned_tied p.table q.table)
 
 -- ---- fronts
 

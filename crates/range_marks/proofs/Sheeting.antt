@@ -21,7 +21,8 @@ use Rattle.key_numbering.specs.Numbers.{number_in, numbers_of}
 use Rattle.range_rules.specs.declared.routines.Ran.{Ran}
 use Rattle.range_rules.specs.Batches.{depends, written}
 use Rattle.range_marks.specs.Decisions.{Spot, IsSpot, TellsKeys, AreApart, AreCounted, scan_verdicts}
-use Rattle.range_marks.specs.Marks.{mark_of, marks_on, scanned_by, sets_with}
+use Rattle.range_runs.specs.Marks.{mark_of}
+use Rattle.range_marks.specs.Marks.{marks_on, scanned_by, sets_with}
 use Rattle.range_marks.proofs.Judging.{verdicts-are}
 use Rattle.range_marks.proofs.Marking.{are_marks}
 use Rattle.range_marks.proofs.Spots.{IsSheetOf, holds_among}

@@ -27,7 +27,7 @@ use Rattle.dep_rules.proofs.Sheets.{same_all}
 use Rattle.range_rules.specs.declared.routines.Prefix.{Prefix}
 use Rattle.range_rules.specs.Scans.{covers_any}
 use Rattle.range_rules.specs.Batches.{written, depends}
-use Rattle.range_marks.specs.Marks.{mark_of}
+use Rattle.range_runs.specs.Marks.{mark_of}
 use Rattle.range_marks.specs.Decisions.{Spot, AreMarks, IsSpot, TellsKeys, own_at, on_sheet, scan_verdict}
 
 -- ---- lists that meet

@@ -21,7 +21,8 @@ use Rattle.range_rules.specs.Batches.{written}
 use Rattle.range_runs.specs.Indexes.{Listed, with_keys}
 use Rattle.range_runs.proofs.Following.{has-with_keys}
 use Rattle.range_marks.specs.Decisions.{touch_count}
-use Rattle.range_marks.specs.Marks.{mark_of, marks_on, scanned_by, with_scans, sets_with}
+use Rattle.range_runs.specs.Marks.{mark_of}
+use Rattle.range_marks.specs.Marks.{marks_on, scanned_by, with_scans, sets_with}
 use Rattle.range_marks.specs.Within.{IsWithin}
 use Rattle.range_marks.proofs.Few.{few_numbers}
 use Rattle.range_marks.proofs.Marking.{marked_scanned}

@@ -18,7 +18,7 @@ use Rattle.range_rules.specs.declared.routines.Prefix.{Prefix}
 use Rattle.range_rules.specs.declared.routines.Ran.{Ran}
 use Rattle.range_rules.specs.Scans.{is_under}
 use Rattle.range_rules.specs.Batches.{written}
-use Rattle.range_marks.specs.Marks.{mark_of}
+use Rattle.range_runs.specs.Marks.{mark_of}
 
 -- ---- keys and prefixes of a batch
 

@@ -1,31 +1,17 @@
--- The keys that stand for prefixes; and the scanned prefixes that keys are under, found from the keys: each front of a key's parts is looked
--- up. And what a run touched, with prefixes beside keys.
-use Rattle.std.specs.Prelude.{ℕ, zero, suc, pos, ◌+◌, min, List, [], ◌∷◌, ◌++◌, map, take, length, if◌then◌else◌}
+-- The scanned prefixes that keys are under, found from the keys: each front of a key's parts is looked up. And what a run touched, with
+-- prefixes beside keys.
+use Rattle.std.specs.Prelude.{ℕ, zero, suc, ◌+◌, min, List, [], ◌∷◌, ◌++◌, map, take, length, if◌then◌else◌}
 use Rattle.std.specs.FinMap as fin
 use Rattle.aria_base.specs.declared.keys.Key.{Key}
-use Rattle.aria_base.specs.declared.keys.Part.{Part}
-use Rattle.aria_base.specs.declared.keys.Part.TheVariants as part
 use Rattle.aria_base.specs.declared.limits.TheConstants.{MOST_PARTS}
 use Rattle.dep_rules.specs.declared.sets.Sets.{Sets}
 use Rattle.range_rules.specs.declared.routines.Prefix.{Prefix}
 use Rattle.range_rules.specs.declared.routines.Ran.{Ran}
 use Rattle.range_rules.specs.Batches.{written}
-use Rattle.range_rules.specs.Scans.{key_or}
-use Rattle.range_marks.specs.declared.places.TheConstants.{NO_TABLE}
 use Rattle.range_runs.specs.Indexes.{Listed, with_keys}
+use Rattle.range_runs.specs.Marks.{mark_of}
 
--- the key that stands for a whole table: a prefix has fewer parts, and no table has that number
-abbrev pub nought : Part
-nought = part.Int (pos 0)
-
-abbrev pub whole_table : ℕ → Key
-whole_table t = record { table = NO_TABLE; parts = part.Int (pos t) ∷ nought ∷ nought ∷ nought ∷ nought ∷ [] }
-
--- the key that stands for a prefix among those that are numbered
-abbrev pub mark_of : Prefix → Key
-mark_of p = key_or (whole_table p.table) p
-
--- and for the prefix of a key's first parts
+-- the prefix of a key's first parts, and its mark
 abbrev pub prefix_of : Key → ℕ → Prefix
 prefix_of k count = record { table = k.table; parts = take count k.parts }
 

@@ -8,7 +8,7 @@ ghost use Rattle.range_rules.specs.declared.routines.TheConstants.{MOST_ACTIONS,
 ghost use Rattle.range_marks.specs.Decisions.{AreApart, touch_count};
 
 use crate::decisions::decide_all;
-use crate::marks::Scanned;
+use crate::marks::all_scanned;
 use crate::numbers::number_all;
 use crate::touches::{counts_of, touched_by_all};
 use aria_base::{Memory, Pace, TAGS};
@@ -34,7 +34,7 @@ pub fn judge<P: Pace + Sync, T: Threads + Sync>(
     requires workers { (1 ≤ workers) × (workers ≤ MOST_WORKERS) }
     ensures { IfOk result (λ verdicts. verdicts.items ≡ map (λ d. d.verdict) (judged depends rule [] rans.now)) }
 {
-    let scanned = Scanned::by(alloc, rans)?;
+    let scanned = all_scanned(alloc, rans)?;
     let sets = touched_by_all(rt, alloc, &scanned, rans, workers)?;
     let counts = counts_of(alloc, rans)?;
     let numbered = number_all(rt, alloc, &sets, workers)?;

@@ -5,7 +5,7 @@
 //! scan and a write, and never between two writes.
 //!
 //! ```text
-//! what each work came to ──> Scanned: all prefixes ──workers──> keys and prefixes of each
+//! what each work came to ──> Index: all prefixes ──workers──> keys and prefixes of each
 //!                                                                  │ numbers, reserve
 //!                                                                  v
 //!                               verdicts <──workers── closed words, a count of its own keys for each
@@ -16,7 +16,6 @@ mod decisions;
 mod judgements;
 mod marks;
 mod numbers;
-mod places;
 mod touches;
 
 pub use judgements::judge;

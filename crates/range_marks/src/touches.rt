@@ -2,12 +2,14 @@
 ghost use Rattle.std.specs.Prelude.{◌≡◌, ◌≤◌, ◌++◌, map, length, IfOk, OnOk};
 ghost use Rattle.aria_base.specs.declared.limits.TheConstants.{MOST_REQUESTS, MOST_WORKERS};
 ghost use Rattle.batch_rules.specs.Touches.{keys_of};
-ghost use Rattle.range_marks.specs.Marks.{mark_of, sets_with};
+ghost use Rattle.range_marks.specs.Marks.{sets_with};
+ghost use Rattle.range_runs.specs.Marks.{mark_of};
 
-use crate::marks::{Scanned, as_key};
+use crate::marks::marks_on;
 use aria_base::{Duplicate, Free, Items, Key, Memory, Place, Row};
 use dep_rules::Sets;
 use range_rules::{Prefix, Ran};
+use range_runs::{Index, mark_of};
 use std::alloc::Global;
 use std::thread::Threads;
 use work_crew::{Task, gather};
@@ -15,11 +17,11 @@ use work_crew::{Task, gather};
 /// To start a thread takes longer than to find what so many works touched.
 const LEAST_A_WORKER: u32 = 64;
 
-/// The runs of a batch, and the prefixes that they scanned.
+/// The runs of a batch, and the marks of the prefixes that they scanned.
 #[derive(Drop)]
 struct Touching<'a> {
     alloc: Global,
-    scanned: &'a Scanned,
+    scanned: &'a Index,
     rans: &'a [Ran],
     count: u32,
     ghost counted: { count ≡ length rans.now },
@@ -53,7 +55,7 @@ impl<'a> Task for Touching<'a> {
 pub(crate) fn touched_by_all<T: Threads + Sync>(
     rt: &T,
     alloc: Global,
-    scanned: &Scanned,
+    scanned: &Index,
     rans: &[Ran],
     workers: u32,
 ) -> Result<Vec<Sets>, Memory>
@@ -72,14 +74,14 @@ pub(crate) fn touched_by_all<T: Threads + Sync>(
 }
 
 /// What a run touched: what it scanned stands behind what it read, and what it marks behind what it wrote.
-fn touched(alloc: Global, scanned: &Scanned, ran: &Ran) -> Result<Sets, Memory>
+fn touched(alloc: Global, scanned: &Index, ran: &Ran) -> Result<Sets, Memory>
     ensures { IfOk result (λ sets. sets ≡ sets_with scanned.now ran.now) }
 {
     let mut reads = ran.reads.duplicate(alloc)?.into_vec();
     append_prefixes(alloc, &mut reads, ran.scans.as_slice())?;
     let writes = ran.writes.as_slice();
     let mut marked = keys_written(alloc, writes)?;
-    let mut marks = scanned.marks(alloc, writes)?;
+    let mut marks = marks_on(alloc, scanned, writes)?;
     marked.append(&mut marks)?;
     Ok(Sets {
         reads: Items::from_vec(reads),
@@ -87,12 +89,12 @@ fn touched(alloc: Global, scanned: &Scanned, ran: &Ran) -> Result<Sets, Memory>
     })
 }
 
-/// Appends the keys that stand for prefixes.
+/// Appends the marks of prefixes.
 fn append_prefixes(alloc: Global, keys: &mut Vec<Key>, prefixes: &[Prefix]) -> Result<(), Memory>
     ensures { OnOk result (keys.new.items ≡ keys.old.items ++ map mark_of prefixes.now) }
 {
     for prefix in prefixes {
-        keys.push(as_key(alloc, prefix)?)?;
+        keys.push(mark_of(alloc, prefix)?)?;
     }
     Ok(())
 }

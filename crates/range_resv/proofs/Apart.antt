@@ -23,8 +23,8 @@ use Rattle.range_rules.specs.Scans.{key_at}
 use Rattle.range_suits.specs.Laws.{IsWell}
 use Rattle.range_suits.specs.Suits.{FitsPrefix, has_parts, is_whole}
 use Rattle.range_marks.specs.Decisions.{TellsKeys, AreApart, touch_count}
-use Rattle.range_marks.specs.Marks.{mark_of, whole_table}
-use Rattle.range_marks.specs.declared.places.TheConstants.{NO_TABLE}
+use Rattle.range_runs.specs.Marks.{mark_of, whole_table}
+use Rattle.range_runs.specs.declared.marks.TheConstants.{NO_TABLE}
 
 -- a place behind a list has nothing
 not_there : {X : Type 0} (xs : List X) (n : ℕ) → length xs ≤ n → slice_get xs n ≡ None

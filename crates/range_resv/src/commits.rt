@@ -38,7 +38,7 @@ pub(crate) struct Committed {
 
 /// Runs the works of the list on the rows, decides which of them finish, and installs their writes. The
 /// index has the keys of the rows.
-pub(crate) fn commit<R: Routine, P: Pace + Sync, T: Threads + Sync>(
+pub(crate) fn commit<R: Routine + Sync, P: Pace + Sync, T: Threads + Sync>(
     rt: &T,
     alloc: Global,
     catalog: &Catalog,
@@ -58,7 +58,9 @@ pub(crate) fn commit<R: Routine, P: Pace + Sync, T: Threads + Sync>(
 {
     let workers = config.workers;
     let start = Snapshot::of(&tables);
-    let rans = run_all(alloc, catalog, routines, start, &index, list)?;
+    let rans = run_all(
+        rt, alloc, catalog, routines, start, &index, list, workers, pace,
+    )?;
     let verdicts = judge(rt, alloc, &rans, config.rule, workers, pace)?;
     let runs = take_apart(alloc, rans)?;
     let index = follow_all(alloc, index, &runs.changes, &verdicts)?;

@@ -9,11 +9,11 @@ use Rattle.aria_base.proofs.Orders.{key_cmp_total, key_cmp-IsAntisymmetric}
 use Rattle.batch_rules.specs.Trees.{set_at}
 use Rattle.batch_rules.specs.Touches.{is_among, overwritten, installed}
 use Rattle.batch_rules.proofs.Maps.{get-set_at, same_key}
-use Rattle.range_runs.specs.Indexes.{Listed, with_keys, followed_one, followed, followed_all, IsIndexOf, HasKeys}
+use Rattle.range_runs.specs.Indexes.{Listed, with_keys, followed_one, followed, followed_all, IsIndexOf, HasExactly, HasKeys}
 use Rattle.range_runs.specs.Leasts.{can_be}
 
 -- what an index has after a write
-has-followed : {X : Type 0} (index : Listed) (k : Key) (row : Option X) (q : Key)
+pub has-followed : {X : Type 0} (index : Listed) (k : Key) (row : Option X) (q : Key)
     → fin.contains_key (followed_one index k row) q ≡ cond (eq_by_cmp key_cmp q k) (is_some row) (fin.contains_key index q)
 has-followed index k None q = ap is_some (fin.get-remove key_cmp_total index k q)
     ∙ elim (eq_by_cmp key_cmp q k) as (λ b. is_some (cond b None (fin.get index q)) ≡ cond b false (fin.contains_key index q)) [
@@ -80,12 +80,12 @@ remove_keys index k has q there = elim (eq_by_cmp key_cmp q k) as (λ e. cond e 
 
 -- ---- all keys of a database
 
-one_more : (e h a : Bool) → ((cond e true h) || a) ≡ (h || (e || a))
+pub one_more : (e h a : Bool) → ((cond e true h) || a) ≡ (h || (e || a))
 one_more true true a = refl
 one_more true false a = refl
 one_more false h a = refl
 
-or_none : (h : Bool) → h ≡ (h || false)
+pub or_none : (h : Bool) → h ≡ (h || false)
 or_none true = refl
 or_none false = refl
 
@@ -99,3 +99,17 @@ has-with_keys index (k ∷ ks) q = has-with_keys (fin.insert index k tt) ks q
 pub all_listed : (index : Listed) (db : Database) → index ≡ with_keys fin.empty (fin.keys db) → IsIndexOf index db
 all_listed index db is q = ap (λ index. fin.contains_key index q) is ∙ has-with_keys fin.empty (fin.keys db) q
     ∙ (λ i. is_some (fin.get-empty {X = Unit {0}} key_cmp q i) || sym (fin.contains_key-keys db q) i)
+
+-- ---- the keys of a list
+
+pub exactly : (index : Listed) (ks : List Key) → index ≡ with_keys fin.empty ks → HasExactly ks index
+exactly index ks is q = ap (λ (index : Listed). fin.contains_key index q) is ∙ has-with_keys fin.empty ks q
+    ∙ ap (λ found. is_some found || is_among key_cmp ks q) (fin.get-empty {X = Unit {0}} key_cmp q)
+
+-- with one more
+pub exactly-more : (index more : Listed) (k : Key) (ks : List Key) → HasExactly ks index → more ≡ fin.insert index k tt → HasExactly (k ∷ ks) more
+exactly-more index more k ks has is q = ap (λ (index : Listed). fin.contains_key index q) is ∙ has-followed {X = Unit {0}} index k (Some tt) q
+    ∙ elim (eq_by_cmp key_cmp q k) as (λ e. cond e true (fin.contains_key index q) ≡ (e || is_among key_cmp ks q)) [
+      | true ↦ refl
+      | false ↦ has q
+    ]

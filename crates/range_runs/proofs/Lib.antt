@@ -1,3 +1,5 @@
 pub mod Following
+mod Layering
+pub mod Marking
 mod Ranges
 mod RowsUnder

@@ -10,12 +10,12 @@ use Rattle.aria_base.specs.Orders.{key_cmp, Cells, Database}
 use Rattle.aria_base.specs.declared.keys.Key.{Key}
 use Rattle.aria_base.proofs.Orders.{key_cmp_total, key_cmp-IsAntisymmetric}
 use Rattle.batch_rules.specs.Trees.{set_at}
-use Rattle.batch_rules.specs.Touches.{is_among, overwritten}
+use Rattle.batch_rules.specs.Touches.{is_among, keys_of, overwritten}
 use Rattle.batch_rules.proofs.Maps.{get-set_at, same_key}
 use Rattle.range_rules.specs.declared.routines.Prefix.{Prefix}
 use Rattle.range_rules.specs.Scans.{is_under}
-use Rattle.range_runs.specs.Indexes.{Listed, IsIndexOf}
-use Rattle.range_runs.specs.Windows.{put_if, write_under, written_under}
+use Rattle.range_runs.specs.Indexes.{Listed, IsIndexOf, HasExactly}
+use Rattle.range_runs.specs.Windows.{write_under, written_under}
 
 -- what the rows under a prefix have at a key
 pub get-under : {X : Type 0} (m : fin.FinMap key_cmp X) (p : Prefix) (q : Key) → fin.get (fin.retain_keys m (is_under p)) q
@@ -86,28 +86,74 @@ found-is index db found p is at = same_map key_cmp_total key_cmp-IsAntisymmetric
     ]
     ∙ sym (get-under db p q))
 
-either : (a b : Bool) (r : Option Cells) → cond b r (cond a r None) ≡ cond (a || (b || false)) r None
-either true true r = refl
-either true false r = refl
-either false true r = refl
-either false false r = refl
+-- ---- what stands at some keys, over what stood there
+
+either : (a b : Bool) (r s : Option Cells) → cond b r (cond a r s) ≡ cond (a || (b || false)) r s
+either true true r s = refl
+either true false r s = refl
+either false true r s = refl
+either false false r s = refl
 
 -- one key more
-pub found-more : (db found : Database) (ks : List Key) (k : Key) → ((q : Key) → fin.get found q ≡ cond (is_among key_cmp ks q) (fin.get db q) None)
-    → (q : Key) → fin.get (put_if found k (fin.get db k)) q ≡ cond (is_among key_cmp (ks ++ k ∷ []) q) (fin.get db q) None
-found-more db found ks k before q =
-    elim (fin.get db k) as (λ r. fin.get db k ≡ r → fin.get (put_if found k r) q ≡ cond (eq_by_cmp key_cmp q k) (fin.get db q) (fin.get found q)) [
-      | Some row ↦ λ r. fin.get-insert key_cmp_total found k row q
-          ∙ elim (eq_by_cmp key_cmp q k) as (λ e. eq_by_cmp key_cmp q k ≡ e → cond e (Some row) (fin.get found q) ≡ cond e (fin.get db q) (fin.get found q)) [
-            | true ↦ λ e. sym (ap (fin.get db) (same_key key_cmp-IsAntisymmetric q k e) ∙ r)
-            | false ↦ λ e. refl
-          ] refl
-      | None ↦ λ r. elim (eq_by_cmp key_cmp q k) as (λ e. eq_by_cmp key_cmp q k ≡ e → fin.get found q ≡ cond e (fin.get db q) (fin.get found q)) [
-        | true ↦ λ e. let none = ap (fin.get db) (same_key key_cmp-IsAntisymmetric q k e) ∙ r in before q
-            ∙ elim (is_among key_cmp ks q) as (λ b. cond b (fin.get db q) None ≡ fin.get db q) [ true ↦ refl | false ↦ sym none ]
-        | false ↦ λ e. refl
-      ] refl
+pub laid-more : (db found : Database) (old : Key → Option Cells) (ks : List Key) (k : Key)
+    → ((q : Key) → fin.get found q ≡ cond (is_among key_cmp ks q) (fin.get db q) (old q))
+    → (q : Key) → fin.get (set_at found k (fin.get db k)) q ≡ cond (is_among key_cmp (ks ++ k ∷ []) q) (fin.get db q) (old q)
+laid-more db found old ks k before q =
+    get-set_at key_cmp_total found k (fin.get db k) q
+    ∙ elim (eq_by_cmp key_cmp q k) as (λ e. eq_by_cmp key_cmp q k ≡ e → cond e (fin.get db k) (fin.get found q) ≡ cond e (fin.get db q) (fin.get found q)) [
+      | true ↦ λ e. sym (ap (fin.get db) (same_key key_cmp-IsAntisymmetric q k e))
+      | false ↦ λ e. refl
     ] refl
     ∙ ap (cond (eq_by_cmp key_cmp q k) (fin.get db q)) (before q)
-    ∙ either (is_among key_cmp ks q) (eq_by_cmp key_cmp q k) (fin.get db q)
-    ∙ sym (ap (λ b. cond b (fin.get db q) None) (list_any-append (eq_by_cmp key_cmp q) ks (k ∷ [])))
+    ∙ either (is_among key_cmp ks q) (eq_by_cmp key_cmp q k) (fin.get db q) (old q)
+    ∙ sym (ap (λ b. cond b (fin.get db q) (old q)) (list_any-append (eq_by_cmp key_cmp q) ks (k ∷ [])))
+
+-- ---- writes under a prefix, as they are found by their keys
+
+get-write_under : (p : Prefix) (db : Database) (k : Key) (row : Option Cells) (q : Key)
+    → fin.get (write_under p db k row) q ≡ cond (is_under p k && eq_by_cmp key_cmp q k) row (fin.get db q)
+get-write_under p db k row q =
+    elim (is_under p k) as (λ u. fin.get (if u then set_at db k row else db) q ≡ cond (u && eq_by_cmp key_cmp q k) row (fin.get db q)) [
+      | true ↦ get-set_at key_cmp_total db k row q
+      | false ↦ refl
+    ]
+
+-- one write more: `rest` stands at q by the writes behind it, of which one is at q exactly where `a` is true
+stands : (p : Prefix) (k q : Key) (row rest over old : Option Cells) (a u : Bool) → is_under p k ≡ u → rest ≡ cond (is_under p q && a) over old
+    → cond (u && eq_by_cmp key_cmp q k) row rest
+    ≡ cond (is_under p q && (eq_by_cmp key_cmp q k || a)) (cond (eq_by_cmp key_cmp q k) row over) old
+stands p k q row rest over old a true under is =
+    elim (eq_by_cmp key_cmp q k) as (λ e. eq_by_cmp key_cmp q k ≡ e → cond (true && e) row rest
+    ≡ cond (is_under p q && (e || a)) (cond e row over) old) [
+      | true ↦ λ e. sym (ap (λ b. cond (b && true) row old) (ap (is_under p) (same_key key_cmp-IsAntisymmetric q k e) ∙ under))
+      | false ↦ λ e. is
+    ] refl
+stands p k q row rest over old a false under is =
+    elim (eq_by_cmp key_cmp q k) as (λ e. eq_by_cmp key_cmp q k ≡ e → cond (false && e) row rest
+    ≡ cond (is_under p q && (e || a)) (cond e row over) old) [
+      | true ↦ λ e. let out = ap (is_under p) (same_key key_cmp-IsAntisymmetric q k e) ∙ under in is ∙ ap (λ b. cond (b && a) over old) out
+          ∙ sym (ap (λ b. cond (b && true) row old) out)
+      | false ↦ λ e. is
+    ] refl
+
+-- under the prefix stands what is written, wherever it is written over
+under-get : (p : Prefix) (base db : Database) (ws : List (Key × Option Cells)) (q : Key) → fin.get (written_under p db ws) q
+    ≡ cond (is_under p q && is_among key_cmp (keys_of ws) q) (fin.get (overwritten base ws) q) (fin.get db q)
+under-get p base db [] q =
+    elim (is_under p q) as (λ u. fin.get db q ≡ cond (u && false) (fin.get base q) (fin.get db q)) [ true ↦ refl | false ↦ refl ]
+under-get p base db (w ∷ ws) q =
+    get-write_under p (written_under p db ws) w.0 w.1 q
+    ∙ stands p w.0 q w.1 (fin.get (written_under p db ws) q) (fin.get (overwritten base ws) q) (fin.get db q) (is_among key_cmp (keys_of ws) q)
+    (is_under p w.0) refl (under-get p base db ws q)
+    ∙ sym (ap (λ r. cond (is_under p q && (eq_by_cmp key_cmp q w.0 || is_among key_cmp (keys_of ws) q)) r (fin.get db q))
+    (get-set_at key_cmp_total (overwritten base ws) w.0 w.1 q))
+
+-- at the keys that an index of the writes has under the prefix
+pub listed-is : (index : Listed) (p : Prefix) (base old found : Database) (ws : List (Key × Option Cells)) → HasExactly (keys_of ws) index
+    → ((q : Key) → fin.get found q
+    ≡ cond (is_among key_cmp (filter (is_under p) (fin.keys index)) q) (fin.get (overwritten base ws) q) (fin.get old q))
+    → found ≡ written_under p old ws
+listed-is index p base old found ws has at = same_map key_cmp_total key_cmp-IsAntisymmetric _ _ (λ q.
+    at q ∙ ap (λ b. cond b (fin.get (overwritten base ws) q) (fin.get old q)) (is_among-filter (is_under p) (fin.keys index) q
+    ∙ ap (λ b. is_under p q && b) (sym (fin.contains_key-keys index q) ∙ has q))
+    ∙ sym (under-get p base old ws q))

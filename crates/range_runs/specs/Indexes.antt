@@ -6,6 +6,7 @@ use Rattle.std.specs.FinMap as fin
 use Rattle.aria_base.specs.contracts.keys.Key as key
 use Rattle.aria_base.specs.Orders.{key_cmp, Database}
 use Rattle.aria_base.specs.declared.keys.Key.{Key}
+use Rattle.batch_rules.specs.Touches.{is_among}
 use Rattle.range_runs.specs.Leasts.{can_be}
 
 -- keys, each with nothing but that it is there
@@ -35,6 +36,10 @@ followed_all index (ws ∷ more) = followed_all (followed index ws) more
 -- an index has the keys of a database
 abbrev pub IsIndexOf : Listed → Database → Type 0
 IsIndexOf index db = (k : Key) → fin.contains_key index k ≡ fin.contains_key db k
+
+-- it has the keys of a list, and no others
+abbrev pub HasExactly : List Key → Listed → Type 0
+HasExactly keys index = (k : Key) → fin.contains_key index k ≡ is_among key_cmp keys k
 
 -- all that it has can be keys
 abbrev pub HasKeys : Listed → Type 0

@@ -1,3 +1,4 @@
 pub mod Indexes
 pub mod Leasts
+pub mod Marks
 pub mod Windows

@@ -1,7 +1,6 @@
 -- What a window sees of the database below it, and of what was written through it.
-use Rattle.std.specs.Prelude.{List, [], ◌∷◌, Option, Some, None, if◌then◌else◌, refl}
+use Rattle.std.specs.Prelude.{List, [], ◌∷◌, Option, if◌then◌else◌, refl}
 use Rattle.std.specs.Coded.{Coded, code_by, coded×, coded_list}
-use Rattle.std.specs.FinMap as fin
 use Rattle.aria_base.specs.Orders.{Cells, Database}
 use Rattle.aria_base.specs.declared.keys.Key.{Key}
 use Rattle.batch_rules.specs.Trees.{set_at}
@@ -12,11 +11,6 @@ use Rattle.range_rules.specs.declared.routines.Prefix.{Prefix}
 use Rattle.range_rules.specs.declared.routines.Seen.{Seen}
 use Rattle.range_rules.specs.Courses.{Course}
 use Rattle.range_rules.specs.Scans.{is_under, with_scan}
-
--- with the row at the key, if there is one
-abbrev pub put_if : Database → Key → Option Cells → Database
-put_if db k None = db
-put_if db k (Some row) = fin.insert db k row
 
 -- with a write that is under the prefix, and with all of these that are. Of a key that stands twice the first one counts
 abbrev pub write_under : Prefix → Database → Key → Option Cells → Database

@@ -1,8 +1,10 @@
 // Rows that a scan finds, in order.
 ghost use Rattle.std.specs.Prelude.{◌≡◌, IfOk, OnOk, OnErr};
+ghost use Rattle.std.specs.Option.{option_copied};
 ghost use Rattle.std.specs.FinMap as fin;
+ghost use Rattle.batch_rules.specs.Trees.{set_at};
 
-use aria_base::{Items, Key, Memory, Row};
+use aria_base::{Duplicate, Items, Key, Memory, Row};
 use range_rules::Pairs;
 use std::alloc::Global;
 use std::collections::BTreeMap;
@@ -38,8 +40,22 @@ impl Found {
         }
     }
 
+    /// Sets what stands at a key: a copy of the row, or nothing. An error: there was no memory.
+    pub(crate) fn set(&mut self, key: &Key, row: Option<&Row>) -> Result<(), Memory>
+        ensures { OnOk result (self.new ≡ set_at self.old key.now (option_copied row.entry)) }
+    {
+        let alloc = self.alloc;
+        match row {
+            Some(row) => self.put(key.duplicate(alloc)?, row.duplicate(alloc)?),
+            None => {
+                self.delete(key);
+                Ok(())
+            }
+        }
+    }
+
     /// Sets the row at a key. An error: there was no memory, and nothing has changed.
-    pub(crate) fn put(&mut self, key: Key, row: Row) -> Result<(), Memory>
+    fn put(&mut self, key: Key, row: Row) -> Result<(), Memory>
         ensures put { OnOk result (self.new ≡ fin.insert self.old key row) }
         ensures kept { OnErr result (self.new ≡ self.old) }
     {
@@ -50,7 +66,7 @@ impl Found {
     }
 
     /// Removes the row at a key, if there is one. No memory.
-    pub(crate) fn delete(&mut self, key: &Key)
+    fn delete(&mut self, key: &Key)
         ensures { self.new ≡ fin.remove self.old key.now }
     {
         let _old = self.rows.remove(key);

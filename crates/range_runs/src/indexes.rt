@@ -1,9 +1,10 @@
-// The keys of tables in order.
+// Keys in order.
 ghost use Rattle.std.specs.Prelude.{◌≡◌, if◌then◌else◌, map, is_some, IfOk, OnOk, OnErr};
 ghost use Rattle.std.specs.List.{filter};
 ghost use Rattle.std.specs.FinMap as fin;
+ghost use Rattle.batch_rules.specs.Touches.{keys_of};
 ghost use Rattle.range_rules.specs.Scans.{is_under};
-ghost use Rattle.range_runs.specs.Indexes.{IsIndexOf, followed};
+ghost use Rattle.range_runs.specs.Indexes.{IsIndexOf, HasExactly, followed};
 
 use crate::leasts::{least_under, see_key};
 use crate::prefixes::is_under;
@@ -14,7 +15,7 @@ use std::collections::BTreeMap;
 use std::marker::Model;
 use tbl_rows::Tables;
 
-/// The keys of rows, in order. A contract sees the map that has something at each of them.
+/// Keys in order, as those of all rows. A contract sees the map that has something at each of them.
 #[derive(Drop)]
 pub struct Index {
     keys: BTreeMap<Key, ()>,
@@ -55,8 +56,19 @@ impl Index {
         Ok(index)
     }
 
-    /// Adds a key.
-    fn add(&mut self, key: Key) -> Result<(), Memory>
+    /// The keys of these writes, of those too that remove a row.
+    pub(crate) fn of_writes(alloc: Global, writes: &[(Key, Option<Row>)]) -> Result<Index, Memory>
+        ensures { IfOk result (HasExactly (keys_of writes.now)) }
+    {
+        let mut index = Index::new(alloc);
+        for (key, _) in writes {
+            index.add(key.duplicate(alloc)?)?;
+        }
+        Ok(index)
+    }
+
+    /// Adds a key. An error: there was no memory, and nothing has changed.
+    pub fn add(&mut self, key: Key) -> Result<(), Memory>
         ensures added { OnOk result (self.new ≡ fin.insert self.old key tt) }
         ensures kept { OnErr result (self.new ≡ self.old) }
     {
@@ -73,7 +85,7 @@ impl Index {
     }
 
     /// Whether the key is there. No memory.
-    fn contains(&self, key: &Key) -> bool
+    pub fn contains(&self, key: &Key) -> bool
         ensures { result ≡ fin.contains_key self.now key.now }
     {
         self.keys.contains_key(key)
@@ -93,7 +105,7 @@ impl Index {
     }
 
     /// Follows one write. A key that is there, and stays, is not copied.
-    fn follow_one(&mut self, alloc: Global, key: &Key, put: bool) -> Result<(), Memory>
+    pub(crate) fn follow_one(&mut self, alloc: Global, key: &Key, put: bool) -> Result<(), Memory>
         ensures { OnOk result (self.new ≡ (if put then fin.insert self.old key.now tt else fin.remove self.old key.now)) }
     {
         if !put {

@@ -1,23 +1,21 @@
 // The window of a routine's run on a snapshot.
-ghost use Rattle.std.specs.Prelude.{◌≡◌, ◌++◌, List, [], ◌∷◌, map, None, IfOk, OnOk};
-ghost use Rattle.std.specs.Option.{option_copied};
+ghost use Rattle.std.specs.Prelude.{◌≡◌, ◌++◌, List, [], ◌∷◌, None, IfOk, OnOk};
 ghost use Rattle.std.specs.FinMap as fin;
-ghost use Rattle.aria_base.specs.Orders.{key_cmp};
-ghost use Rattle.batch_rules.specs.Touches.{is_among};
 ghost use Rattle.range_rules.specs.Courses.{after_action, stop_of};
-ghost use Rattle.range_rules.specs.Scans.{is_under, key_of, scan, with_scan};
+ghost use Rattle.range_rules.specs.Scans.{is_under, scan};
 ghost use Rattle.range_rules.specs.declared.routines.Seen.{Seen as Answer};
 ghost use Rattle.range_runs.specs.Indexes.{IsIndexOf};
-ghost use Rattle.range_runs.specs.Windows.{put_if, write_under, written_under, opened, map_of, with_scanned, course_of};
+ghost use Rattle.range_runs.specs.Windows.{opened, map_of, with_scanned, course_of};
 
 use crate::found::Found;
 use crate::indexes::Index;
-use crate::prefixes::{is_under, same_prefix};
-use aria_base::{Changes, Duplicate, Key, Keys, Memory, Row};
+use crate::overlays::RangeOverlay;
+use crate::scans::Scans;
+use aria_base::{Changes, Keys, Memory};
 use range_rules::{Action, Pairs, Prefix, Prefixes, Seen};
 use std::alloc::Global;
 use std::marker::Model;
-use tbl_snapshot::{Overlay, Snapshot};
+use tbl_snapshot::Snapshot;
 
 /// The rows of the snapshot under a prefix.
 fn rows_under(
@@ -32,58 +30,9 @@ fn rows_under(
     let keys = index.under(alloc, prefix)?;
     let mut found = Found::new(alloc);
     for key in &keys {
-        put_found(alloc, &mut found, key, snapshot.get(key))?;
+        found.set(key, snapshot.get(key))?;
     }
     Ok(found)
-}
-
-/// Puts a copy of the row at the key, if there is one.
-fn put_found(alloc: Global, found: &mut Found, key: &Key, row: Option<&Row>) -> Result<(), Memory>
-    ensures { OnOk result (found.new ≡ put_if found.old key.now (option_copied row.entry)) }
-{
-    match row {
-        Some(row) => found.put(key.duplicate(alloc)?, row.duplicate(alloc)?),
-        None => Ok(()),
-    }
-}
-
-/// Makes those of the writes that are under the prefix.
-fn make_writes(
-    alloc: Global,
-    found: &mut Found,
-    prefix: &Prefix,
-    writes: &[(Key, Option<Row>)],
-) -> Result<(), Memory>
-    ensures { OnOk result (found.new ≡ written_under prefix.now found.old writes.now) }
-{
-    let count = writes.len();
-    for behind in 0..count {
-        let (key, row) = &writes[count - 1 - behind];
-        make_write(alloc, found, prefix, key, row)?;
-    }
-    Ok(())
-}
-
-/// Makes a write, if it is under the prefix.
-fn make_write(
-    alloc: Global,
-    found: &mut Found,
-    prefix: &Prefix,
-    key: &Key,
-    row: &Option<Row>,
-) -> Result<(), Memory>
-    ensures { OnOk result (found.new ≡ write_under prefix.now found.old key.now row.now) }
-{
-    if !is_under(prefix, key) {
-        return Ok(());
-    }
-    match row {
-        Some(row) => found.put(key.duplicate(alloc)?, row.duplicate(alloc)?),
-        None => {
-            found.delete(key);
-            Ok(())
-        }
-    }
 }
 
 /// A window on a snapshot that keeps what is written through it to itself, and notes what is touched. A
@@ -93,8 +42,8 @@ pub(crate) struct Window<'a> {
     alloc: Global,
     snapshot: Snapshot<'a>,
     index: &'a Index,
-    overlay: Overlay<'a>,
-    scans: Vec<Prefix>,
+    overlay: RangeOverlay<'a>,
+    scans: Scans,
 }
 
 impl<'a> Model for Window<'a> {
@@ -106,7 +55,7 @@ impl<'a> Model for Window<'a> {
 
     ghost coded = { glass_code };
 
-    ghost view = { λ a. record { layer = a.overlay; scans = a.scans.items } };
+    ghost view = { λ a. record { layer = a.overlay; scans = a.scans } };
 
     ghost invariant = { λ a. (a.snapshot ≡ a.overlay.base) × IsIndexOf a.index.now a.snapshot };
 }
@@ -121,8 +70,8 @@ impl<'a> Window<'a> {
             alloc,
             snapshot: snapshot.copy(),
             index,
-            overlay: Overlay::over(alloc, snapshot),
-            scans: Vec::new(alloc),
+            overlay: RangeOverlay::over(alloc, snapshot),
+            scans: Scans::new(alloc),
         }
     }
 
@@ -132,8 +81,8 @@ impl<'a> Window<'a> {
         ensures noted { OnOk result (self.new ≡ with_scanned self.old prefix) }
     {
         let mut found = rows_under(self.alloc, &self.snapshot, self.index, &prefix)?;
-        make_writes(self.alloc, &mut found, &prefix, self.overlay.written())?;
-        note_scan(&mut self.scans, prefix)?;
+        self.overlay.make_writes(&mut found, &prefix)?;
+        self.scans.note(self.alloc, prefix)?;
         let rows = found.into_pairs()?;
         Ok(rows)
     }
@@ -163,29 +112,6 @@ impl<'a> Window<'a> {
         ensures scans { result.2 ≡ self.entry.scans }
     {
         let (reads, writes) = self.overlay.parts();
-        (reads, writes, Prefixes::from_vec(self.scans))
+        (reads, writes, Prefixes::from_vec(self.scans.into_list()))
     }
-}
-
-/// Notes a scan, unless it was noted before.
-fn note_scan(scans: &mut Vec<Prefix>, prefix: Prefix) -> Result<(), Memory>
-    ensures { OnOk result (scans.new.items ≡ with_scan scans.old.items prefix) }
-{
-    if is_scanned(scans, &prefix) {
-        return Ok(());
-    }
-    scans.push(prefix)?;
-    Ok(())
-}
-
-/// Whether the prefix is among these.
-fn is_scanned(scans: &[Prefix], prefix: &Prefix) -> bool
-    ensures { result ≡ is_among key_cmp (map key_of scans.now) (key_of prefix.now) }
-{
-    for other in scans {
-        if same_prefix(prefix, other) {
-            return true;
-        }
-    }
-    false
 }

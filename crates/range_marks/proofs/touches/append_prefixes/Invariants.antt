@@ -1,5 +1,5 @@
 use Rattle.std.proofs.Common.{◌≡◌, ◌++◌, drop, map}
-use Rattle.range_marks.specs.Marks.{mark_of}
+use Rattle.range_runs.specs.Marks.{mark_of}
 use Rattle.range_marks.proofs.touches.append_prefixes.Given as goal
 
 abbrev pub invariant-loop-prefix : goal.invariant-loop-prefix

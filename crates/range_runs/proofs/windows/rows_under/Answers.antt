@@ -2,9 +2,9 @@ use Rattle.std.proofs.Common.{◌≡◌, ◌+◌, ◌++◌, [], ◌∷◌, map, 
 use Rattle.std.specs.FinMap as fin
 use Rattle.std.proofs.lemmas.List.{take_more, map-append, take_all}
 use Rattle.aria_base.specs.Orders.{key_cmp}
+use Rattle.batch_rules.specs.Trees.{set_at}
 use Rattle.batch_rules.specs.Touches.{is_among}
-use Rattle.range_runs.specs.Windows.{put_if}
-use Rattle.range_runs.proofs.RowsUnder.{found-is, found-more}
+use Rattle.range_runs.proofs.RowsUnder.{found-is, laid-more}
 use Rattle.range_runs.proofs.windows.rows_under.Goals as goal
 
 pub loop-key-init : goal.loop-key-init
@@ -18,8 +18,8 @@ loop-key-preserved c q =
     let more : map (λ k. k.now) (take (i + 1) xs) ≡ map (λ k. k.now) (take i xs) ++ k ∷ [] =
     ap (map (λ k. k.now)) (take_more xs i c.key-item.result c.loop-key-test.true)
     ∙ map-append (λ k. k.now) (take i xs) _ ∙ ap (λ x. map (λ k. k.now) (take i xs) ++ x.now ∷ []) (sym c.key-item.is) in
-    ap (λ m. fin.get m q) (c.in_ok-put_found.ensures ∙ ap (put_if c.loop-key.found k) c.get.ensures)
-    ∙ found-more c.args.snapshot.now c.loop-key.found (map (λ k. k.now) (take i xs)) k c.loop-key.invariant q
+    ap (λ m. fin.get m q) (c.in_ok-set.ensures ∙ ap (set_at c.loop-key.found k) c.get.ensures)
+    ∙ laid-more c.args.snapshot.now c.loop-key.found (λ _. None) (map (λ k. k.now) (take i xs)) k c.loop-key.invariant q
     ∙ ap (λ ks. cond (is_among key_cmp ks q) (fin.get c.args.snapshot.now q) None) (sym more)
 
 pub returns : goal.returns

@@ -11,4 +11,4 @@ returns-clause-rows c =
     let layer = c.self.inside.overlay in
     let found = c.in_ok-found.ensures ∙ ap (λ db. fin.retain_keys db (is_under p)) c.self.invariant.0 in
     rw (← c.self.view_is) (c.in_ok-rows.ensures ∙ ap fin.entries (c.in_ok-make_writes.ensures
-    ∙ (λ i. written_under p (found i) (c.written.ensures i)) ∙ written-is p layer.base layer.noted.writes))
+    ∙ ap (λ db. written_under p db layer.noted.writes) found ∙ written-is p layer.base layer.noted.writes))
