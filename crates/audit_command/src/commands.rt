@@ -7,9 +7,11 @@ ghost use Rattle.script_course.specs.Served.{Completes};
 ghost use Rattle.audit_command.specs.Audits.{out_of, told_of};
 ghost use Rattle.script_course.specs.declared.statuses.TheConstants as status;
 
-use crate::audits::Auditing;
-use aria_base::{LONGEST_LINE, Sink, Source};
-use script_course::{MOST_BYTES, Stop, read_through};
+use crate::audits::end_of;
+use aria_base::{Sink, Source};
+use script_course::Stop;
+use script_places::Mode;
+use script_rows::read_rows;
 use std::alloc::Global;
 
 /// Reads the head that the source gives to its end, and then prints whether the audit of its rows holds, or
@@ -28,19 +30,8 @@ pub fn audit<S: Source, K: Sink>(alloc: Global, input: &mut S, out: &mut K) -> R
     ensures sink { K.faults out.old ≤ K.faults out.new }
     ensures cause { IfErr result (λ stop. IsReadCause stop (Rose (S.faults input.old) (S.faults input.new)) (Rose (K.faults out.old) (K.faults out.new)) ⊥) }
 {
-    let Ok(start) = Auditing::start(alloc) else {
-        return Err(Stop::NoMemory);
-    };
-    match read_through(
-        alloc,
-        MOST_BYTES,
-        LONGEST_LINE as u32,
-        start,
-        input,
-        out,
-        &mut (),
-    ) {
-        Ok(last) => last.end(alloc, out),
+    match read_rows(alloc, Mode::Audit, input, out) {
+        Ok(last) => end_of(alloc, last, out),
         Err(stop) => Err(stop),
     }
 }

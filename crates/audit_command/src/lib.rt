@@ -4,11 +4,11 @@
 //! holds, or the first place where it does not.
 //!
 //! ```text
-//! Source ──> read_through (script_course) ──line──> ScriptPlace (script_places) ──> rows ──> tpcc_audit ──> Sink
+//! Source ──> read_rows (script_rows) ──rows──> tpcc_audit ──> Sink
 //! ```
 //!
-//! In `specs/`: `Findings` says how a finding is printed, `Audits` what each line and the end print, and with
-//! that the output of a whole input.
+//! In `specs/`: `Findings` says how a finding is printed, `Audits` what the end prints, and with that the output
+//! of a whole input.
 #![tactic(auto)]
 
 mod audits;

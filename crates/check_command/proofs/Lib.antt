@@ -1,4 +1,3 @@
 pub mod Asked
 pub mod Lines
 pub mod Standing
-pub mod Whole

@@ -1,13 +1,9 @@
 -- What is true of a script and its report between two lines.
-use Rattle.std.specs.Prelude.{◌≡◌, ◌≤◌, ◌+◌, ℕ, [], map, length, Result, Ok, Err}
+use Rattle.std.specs.Prelude.{◌≡◌, ◌≤◌, ◌+◌, ℕ, map, length}
 use Rattle.aria_base.specs.declared.limits.TheConstants.{GREATEST_NUMBER}
-use Rattle.answer_text.specs.Refusals.{refusal_text}
-use Rattle.script_course.specs.Courses.{Course, Goes, Stops}
 use Rattle.script_places.specs.declared.deeds.Deed.{Deed}
 use Rattle.script_places.specs.declared.deeds.Deed.TheVariants as deed
 use Rattle.script_places.specs.declared.places.ScriptPlace.{ScriptPlace}
-use Rattle.script_text.specs.declared.refusals.LinesRefused.{LinesRefused}
-use Rattle.script_text.specs.declared.refusals.LinesRefused.TheVariants as refused
 use Rattle.serial_check.specs.Crowds.{run_behind}
 use Rattle.check_command.specs.Checks.{Doing}
 use Rattle.check_command.specs.declared.works.Work.{Work}
@@ -56,11 +52,3 @@ MayDo d (deed.Set rule percent) = Stands d
 MayDo d (deed.Keep number) = MayKeep d number
 MayDo d deed.Run = MayRun d
 MayDo d deed.Tell = Stands d
-
--- ---- a line
-
--- how a line moves the reading: it goes on and prints nothing, or the line is refused
-abbrev pub Moves : Course Doing → Result Doing LinesRefused → Type 0
-Moves course (Ok next) = course ≡ Goes [] next
-Moves course (Err refused.Memory) = Unit {0}
-Moves course (Err (refused.Line refusal)) = course ≡ Stops (refusal_text refusal)

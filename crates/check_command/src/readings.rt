@@ -2,12 +2,14 @@
 ghost use Rattle.std.specs.Prelude.{◌≡◌, [], IfOk};
 ghost use Rattle.script_course.specs.Courses.{Goes};
 ghost use Rattle.check_command.specs.Checks.{done, on_line, start, with_call, with_row, with_kept, with_run, with_told};
-ghost use Rattle.check_command.specs.Standing.{MayCall, MayDo, MayKeep, MayRun, Moves, Stands, doing_of};
+ghost use Rattle.check_command.specs.Standing.{MayCall, MayDo, MayKeep, MayRun, Stands, doing_of};
+ghost use Rattle.script_rows.specs.Moves.{Moves};
 
 use crate::works::Work;
 use aria_base::{Bytes, Call, Key, Memory, Row, Sink};
-use script_course::{Reads, Stop, refuse};
+use script_course::{Reads, Stop};
 use script_places::{Counts, Deed, Mode, ScriptPlace, follows};
+use script_rows::refuse_line;
 use script_text::LinesRefused;
 use std::alloc::Global;
 use std::marker::Model;
@@ -87,8 +89,7 @@ impl Reads<()> for Reading {
     ) -> Result<Self, Stop> {
         match self.next(alloc, line) {
             Ok(next) => return Ok(next),
-            Err(LinesRefused::Memory) => return Err(Stop::NoMemory),
-            Err(LinesRefused::Line(refusal)) => return refuse(alloc, &refusal, out),
+            Err(refused) => return refuse_line(alloc, refused, out),
         }
     }
 }

@@ -16,7 +16,7 @@ use Rattle.script_course.specs.declared.stops.Stop.TheVariants as stop
 use Rattle.store_files.specs.Attachments.{IsTaken}
 use Rattle.aria_store.specs.Causes.{HasGate}
 use Rattle.store_commands.specs.Inits.{Ends, Leaves, closed_by, store_out}
-use Rattle.store_commands.specs.declared.drafts.Draft.{Draft}
+use Rattle.script_rows.specs.declared.drafts.Draft.{Draft}
 use Rattle.script_places.specs.declared.places.ScriptPlace.{ScriptPlace}
 use Rattle.script_text.specs.declared.refusals.RefusalKind.{RefusalKind}
 use Rattle.script_course.specs.declared.statuses.TheConstants.{DONE, STORE_REFUSED}

@@ -1,4 +1,3 @@
-mod Drafted
 mod Ended
 mod Replayed
 mod Whole

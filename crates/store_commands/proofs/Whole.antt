@@ -2,7 +2,6 @@
 use Rattle.std.proofs.Common.{◌≡◌, ◌≢◌, ◌⊎◌, inl, inr, subst, ap, sym, refl, ℕ, zero, suc, Bool, List, [], ◌∷◌, ◌++◌, Option, Some, None}
 use Rattle.std.specs.Prelude.{Result, Ok, Err, IfErr, IfSome}
 use Rattle.std.specs.Io.KnownBytes.{Appends}
-use Rattle.std.proofs.KnownBytes.{Appends-nil}
 use Rattle.std.specs.Option.{IsSomeAnd}
 use Rattle.aria_base.specs.Orders.{Database}
 use Rattle.aria_base.specs.Streams.{AppendsFront}
@@ -11,19 +10,18 @@ use Rattle.disk_model.proofs.Spans.{still_none}
 use Rattle.disk_model.specs.Histories.{History, Still}
 use Rattle.proc_lang.specs.Catalogs.{Plan}
 use Rattle.script_course.proofs.Ends.{completes_on, completes_cut}
-use Rattle.script_course.proofs.Turns.{front_none}
 use Rattle.script_course.specs.Causes.{IsCause}
-use Rattle.script_course.specs.Courses.{Course, Goes, Stops, behind, ended, told, told_whole, with_fault, with_last, with_line, with_lines}
+use Rattle.script_course.specs.Courses.{Course, Goes, Stops, behind, ended, told, with_fault, with_last, with_line, with_lines}
 use Rattle.script_course.specs.Served.{Comes, IsGoing, Reaches, ReachesCut}
 use Rattle.script_course.specs.declared.stops.Stop.{Stop}
 use Rattle.script_course.specs.declared.stops.Stop.TheVariants as stop
 use Rattle.script_places.specs.Places.{Asked, asked, closing}
 use Rattle.script_text.specs.Lines.{last_line, scan}
 use Rattle.script_text.specs.declared.refusals.Refusal.{Refusal}
-use Rattle.run_commands.specs.Outs.{no_line}
-use Rattle.store_commands.specs.Drafts.{done_by, no_counts, on_line, read_of, said_by, start, told_of, values_by, values_of}
+use Rattle.script_rows.specs.Drafts.{done_by, no_counts, no_line, on_line}
+use Rattle.script_rows.specs.declared.drafts.Draft.{Draft}
+use Rattle.store_commands.specs.Drafts.{read_of, said_by, start, told_of, values_by, values_of}
 use Rattle.store_commands.specs.Inits.{Ends, Inits, IsMade, IsMadeOf, IsUngiven, on_end, out_of}
-use Rattle.store_commands.specs.declared.drafts.Draft.{Draft}
 use Rattle.script_course.specs.declared.statuses.TheConstants.{DONE, REFUSED}
 use Rattle.store_commands.proofs.Ended.{looked}
 
@@ -127,22 +125,19 @@ always : {P : List ℕ → Type 0} (left : Option (List ℕ)) → ((text : List 
 always None h = tt
 always (Some text) h = h text
 
-module _ (settings : Init) (was : History) (first : Draft) (is_start : first ≡ start) (left rest old : Option (List ℕ)) where
-  abbrev Read : Draft → Option (List ℕ) → Result Draft Stop → Type 0
-  Read from new result = Comes (told on_line no_line from) (told_whole on_line no_line from) left rest old new result
+module _ (settings : Init) (was : History) (left rest old : Option (List ℕ)) where
+  abbrev Read : Option (List ℕ) → Result Draft Stop → Type 0
+  Read new result = Comes told_of read_of left rest old new result
 
-  from_start : (new : Option (List ℕ)) (result : Result Draft Stop) → Read first new result → Read start new result
-  from_start new result h = subst (λ (d : Draft). Read d new result) is_start h
-
-  pub inits_cut : (new : Option (List ℕ)) (why : Stop) → Read first new (Err why) → Inits settings was was left rest old new (Err why)
+  pub inits_cut : (new : Option (List ℕ)) (why : Stop) → Read new (Err why) → Inits settings was was left rest old new (Err why)
   inits_cut new why h =
       let l = looked was in
       record {
         taken = l.0;
         looked = l.1;
-        completes = completes_cut (on_end settings l.0) told_of read_of left rest old new why (from_start new (Err why) h);
+        completes = completes_cut (on_end settings l.0) told_of read_of left rest old new why h;
         unwritten = always left (λ text other. still_none was);
-        stored = stored_cut settings l.0 (IsMade settings left was) left old new why (from_start new (Err why) h).0;
+        stored = stored_cut settings l.0 (IsMade settings left was) left old new why h.0;
       }
 
   -- what was read is what the text says
@@ -160,38 +155,23 @@ module _ (settings : Init) (was : History) (first : Draft) (is_start : first ≡
   made_by is None said holds = absurd holds
   made_by is (Some values) said holds = record { values = values; said = said; holds = holds }
 
-  pub is_made : (is : History) (mid : Option (List ℕ)) (last : Draft) → Read first mid (Ok last)
+  pub is_made : (is : History) (mid : Option (List ℕ)) (last : Draft) → Read mid (Ok last)
       → IsSomeAnd (values_by last (closing last.place)) (λ values. IsMadeOf settings values is) → IsMade settings left is
   is_made is mid last h holds =
-      made_by is (values_by last (closing last.place)) (said_of left last mid (from_start mid (Ok last) h).0) holds
+      made_by is (values_by last (closing last.place)) (said_of left last mid h.0) holds
 
   abbrev MadeBehind : Draft → History → Type 0
   MadeBehind last is = IsSomeAnd (values_by last (closing last.place)) (λ values. IsMadeOf settings values is)
 
-  pub inits_on : (is : History) (mid new : Option (List ℕ)) (last : Draft) (result : Result ℕ Stop) → Read first mid (Ok last) → result ≢ Err stop.NoRead
+  pub inits_on : (is : History) (mid new : Option (List ℕ)) (last : Draft) (result : Result ℕ Stop) → Read mid (Ok last) → result ≢ Err stop.NoRead
       → Ends (λ taken. on_end settings taken last) (MadeBehind last is) was is mid new result → Inits settings was is left rest old new result
-  inits_on is mid new last result h read ends =
-      let comes = from_start mid (Ok last) h in
-      record {
-        taken = ends.taken;
-        looked = ends.looked;
-        completes = completes_on (on_end settings ends.taken) told_of read_of left rest old mid new last result comes read ends.finishes;
-        unwritten = status_of_text settings ends.taken (λ n. n ≢ DONE → Still was is) left last old mid comes.0 ends.unwritten;
-        stored = stored_of settings ends.taken (IsMade settings left is) (MadeBehind last is) left last old mid new (is_made is mid last h) comes.0
-            ends.stored;
-      }
-
--- nothing was read: there was no memory
-pub inits_none : (settings : Init) (was : History) (left old : Option (List ℕ)) → Inits settings was was left left old old (Err stop.NoMemory)
-inits_none settings was left old =
-    let l = looked was in
-    record {
-      taken = l.0;
-      looked = l.1;
-      completes = (always left (λ text. front_none old (out_of settings l.0 text).bytes), tt);
-      unwritten = always left (λ text other. still_none was);
-      stored = always left (λ text done. inl (Appends-nil old));
-    }
+  inits_on is mid new last result h read ends = record {
+    taken = ends.taken;
+    looked = ends.looked;
+    completes = completes_on (on_end settings ends.taken) told_of read_of left rest old mid new last result h read ends.finishes;
+    unwritten = status_of_text settings ends.taken (λ n. n ≢ DONE → Still was is) left last old mid h.0 ends.unwritten;
+    stored = stored_of settings ends.taken (IsMade settings left is) (MadeBehind last is) left last old mid new (is_made is mid last h) h.0 ends.stored;
+  }
 
 -- where the disk failed behind a head that was read to its end, nothing was given
 pub ungiven_on : (left old mid new : Option (List ℕ)) (last : Draft) (result : Result ℕ Stop) → IfSome left (λ text. Reaches (read_of text) old mid (Ok last))

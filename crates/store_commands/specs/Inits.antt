@@ -7,8 +7,7 @@ use Rattle.answer_text.specs.declared.notices.NotDone.TheVariants.{StoreExists}
 use Rattle.command_words.specs.declared.settings.Init.{Init}
 use Rattle.disk_model.specs.Histories.{History, Still}
 use Rattle.proc_lang.specs.Catalogs.{Plan}
-use Rattle.run_commands.specs.Outs.{no_line}
-use Rattle.script_course.specs.Courses.{Out, refused_after, status_of, whole}
+use Rattle.script_course.specs.Courses.{Out, ended, refused_after, status_of}
 use Rattle.script_course.specs.Served.{Completes, Finishes}
 use Rattle.script_course.specs.declared.stops.Stop.{Stop}
 use Rattle.script_course.specs.declared.stops.Stop.TheVariants as stop
@@ -18,8 +17,8 @@ use Rattle.script_text.specs.declared.refusals.RefusalKind.{RefusalKind}
 use Rattle.slot_images.specs.Images.{Checkpoint}
 use Rattle.store_files.specs.Attachments.{IsTaken}
 use Rattle.aria_store.specs.Stands.{Kept, Stands}
-use Rattle.store_commands.specs.Drafts.{on_line, said_by, start, told_of}
-use Rattle.store_commands.specs.declared.drafts.Draft.{Draft}
+use Rattle.script_rows.specs.declared.drafts.Draft.{Draft}
+use Rattle.store_commands.specs.Drafts.{read_of, said_by, told_of}
 use Rattle.script_course.specs.declared.statuses.TheConstants.{DONE, STORE_REFUSED}
 
 -- ---- what is printed
@@ -40,7 +39,7 @@ on_end settings taken d = closed_by settings taken d (closing d.place)
 
 -- all that is printed of a whole head, by whether a gate is open before
 abbrev pub out_of : Init → Bool → List ℕ → Out
-out_of settings taken text = whole on_line (on_end settings taken) no_line start text
+out_of settings taken text = ended (on_end settings taken) (read_of text)
 
 -- ---- what is left of the disk
 

@@ -9,18 +9,19 @@ ghost use Rattle.script_course.specs.Causes.{IsCause, IsReadCause};
 ghost use Rattle.script_course.specs.declared.stops.Stop.TheVariants as stop;
 ghost use Rattle.slot_images.specs.Said.{checkpoint_in};
 ghost use Rattle.script_places.specs.Places.{closing, plan_in};
-ghost use Rattle.store_commands.specs.Drafts.{IsFitting, values_by};
+ghost use Rattle.script_rows.specs.Drafts.{IsFitting};
+ghost use Rattle.store_commands.specs.Drafts.{values_by};
 ghost use Rattle.store_commands.specs.Inits.{Ends, Inits, IsMade, IsMadeOf, IsUngiven, Leaves, first_checkpoint, on_end, store_out};
 ghost use Rattle.script_course.specs.declared.statuses.TheConstants as status;
 
-use crate::drafts::Draft;
 use answer_text::{NotDone, ready_line, refused_line};
-use aria_base::{LONGEST_LINE, Sink, Source};
+use aria_base::{Sink, Source};
 use aria_store::{Image, Store, StoreRefused};
 use command_words::Init;
 use disk_model::Disk;
-use script_course::{DONE, MOST_BYTES, STORE_REFUSED, Stop, end_with, read_through, refuse};
-use script_places::{ScriptCatalog, catalog_in, closes};
+use script_course::{DONE, STORE_REFUSED, Stop, end_with, refuse};
+use script_places::{Mode, ScriptCatalog, catalog_in, closes};
+use script_rows::{Draft, read_rows};
 use script_text::LinesRefused;
 use std::alloc::Global;
 use tbl_rows::Tables;
@@ -61,18 +62,7 @@ pub fn init<S: Source, K: Sink, D: Disk>(
     ensures cause { IfErr result (λ stop. IsReadCause stop (Rose (S.faults input.old) (S.faults input.new))
         (Rose (K.faults out.old) (K.faults out.new)) (Rose (D.history disk.old).faults (D.history disk.new).faults)) }
 {
-    let Ok(start) = Draft::start(alloc) else {
-        return Err(Stop::NoMemory);
-    };
-    match read_through(
-        alloc,
-        MOST_BYTES,
-        LONGEST_LINE as u32,
-        start,
-        input,
-        out,
-        &mut (),
-    ) {
+    match read_rows(alloc, Mode::Init, input, out) {
         Ok(last) => close(alloc, settings, last, out, disk),
         Err(stop) => Err(stop),
     }

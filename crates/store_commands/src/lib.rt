@@ -6,17 +6,16 @@
 //! its own settings, and prints their answers; it writes nothing.
 //!
 //! ```text
-//! Source ──> read_through (script_course) ──line──> ScriptPlace (script_places) ──> Draft ──> Store (aria_store)
-//!                                                                               └─────> line ──> Sink
+//! Source ──> read_rows (script_rows) ──> Draft ──> Store (aria_store)
+//!                                          └─────> line ──> Sink
 //! Store ──> checkpoint ──> begin (store_openings) ──> Live (serving) ──> answers ──> Sink
 //!   └─────> batches ────────────────────────────────────┘
 //! ```
 //!
-//! In `specs/`: `Drafts` says what the lines of a head come to, `Inits` what `init` prints, and what it
-//! leaves of the disk, and `Replays` what `replay` prints of what four files read as.
+//! In `specs/`: `Drafts` says what a head says, `Inits` what `init` prints, and what it leaves of the disk, and
+//! `Replays` what `replay` prints of what four files read as.
 #![tactic(auto)]
 
-mod drafts;
 mod inits;
 mod replays;
 mod steps;

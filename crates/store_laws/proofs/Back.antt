@@ -18,9 +18,9 @@ use Rattle.run_commands.specs.Outs.{is_each, no_line}
 use Rattle.run_commands.specs.Passes.{Line, last, on_turn, over}
 use Rattle.run_commands.specs.Resumes.{resumed}
 use Rattle.script_course.specs.declared.readings.TheConstants.{MOST_BYTES}
-use Rattle.store_commands.specs.Drafts as drafts
-use Rattle.store_commands.specs.declared.drafts.Draft.{Draft}
-use Rattle.store_commands.specs.Drafts.{said_by, values_of}
+use Rattle.script_rows.specs.Drafts as drafts
+use Rattle.script_rows.specs.declared.drafts.Draft.{Draft}
+use Rattle.store_commands.specs.Drafts.{said_by, start, values_of}
 use Rattle.store_laws.proofs.ScriptRuns.{script_over}
 use Rattle.store_laws.proofs.Behind.{behind_head, Gives, IsNamed}
 use Rattle.store_laws.specs.OneRuns.{AreAlike, AreRight, new_state, IsRun, RunIsRight}
@@ -43,7 +43,7 @@ said_by_right (Stops bytes) (Some refusal) o values e = absurd (draft_stopped by
 
 said_right : (head : List ℕ) (values : Plan × Database) → said_by head ≡ Some values → (scan no_line head).fault ≡ None
 said_right head values is =
-    let s = scan no_line head in said_by_right (with_lines drafts.on_line (Goes [] drafts.start) s.lines) s.fault (last_line s.feed) values is
+    let s = scan no_line head in said_by_right (with_lines drafts.on_line (Goes [] start) s.lines) s.fault (last_line s.feed) values is
 
 -- a head whose catalogue has a table or a procedure names one
 named_by : (h : ScriptCatalog) (plan : Plan) → plan ≢ no_plan → Gives no_plan h plan → IsNamed h

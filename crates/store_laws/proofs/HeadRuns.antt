@@ -25,8 +25,9 @@ use Rattle.run_commands.specs.Onces as onces
 use Rattle.run_commands.specs.Outs.{no_line}
 use Rattle.run_commands.specs.Passes.{Line, Turn, on_turn, onward, over}
 use Rattle.resume_laws.specs.Resumptions.{answers, answers_by}
-use Rattle.store_commands.specs.Drafts.{done, done_by, no_counts, on_line, read_of, said_by, start, values_by, values_of}
-use Rattle.store_commands.specs.declared.drafts.Draft.{Draft}
+use Rattle.script_rows.specs.Drafts.{done, done_by, no_counts, on_line}
+use Rattle.script_rows.specs.declared.drafts.Draft.{Draft}
+use Rattle.store_commands.specs.Drafts.{read_of, said_by, start, values_by, values_of}
 use Rattle.store_laws.proofs.Heads.{IsOfHead, as_once, head_asked, in_head}
 use Rattle.store_laws.proofs.Behind.{Gives}
 

@@ -24,9 +24,8 @@ use Rattle.run_commands.specs.Passes.{Line, Turn, last, on_turn, over, past, tur
 use Rattle.run_commands.specs.Resumes.{resumed}
 use Rattle.script_course.specs.declared.readings.TheConstants.{MOST_BYTES}
 use Rattle.resume_laws.specs.Resumptions.{answers, answers_of, run_from}
-use Rattle.store_commands.specs.Drafts as drafts
-use Rattle.store_commands.specs.declared.drafts.Draft.{Draft}
-use Rattle.store_commands.specs.Drafts.{said_by}
+use Rattle.script_rows.specs.declared.drafts.Draft.{Draft}
+use Rattle.store_commands.specs.Drafts.{said_by, start}
 use Rattle.store_laws.proofs.HeadRuns.{ArePut, Begun, IsRead, head_read, puts}
 use Rattle.store_laws.proofs.Parts.{Parts, parts}
 use Rattle.store_laws.specs.OneRuns.{AreAlike, answers_in, new_state}
@@ -90,8 +89,8 @@ module _ (made : Init) (settings : Run) (mem : Once) (alike : AreAlike made sett
   the_head : IsRead head values
   the_head = head_read head values in_parts.head_right in_parts.head_ends said
 
-  are_put : ArePut mem.rule mem.fallback (is_each mem.listing) (scan no_line head).lines drafts.start the_head.last
-  are_put = puts mem.rule mem.fallback (is_each mem.listing) (scan no_line head).lines [] the_head.printed drafts.start the_head.last refl the_head.goes
+  are_put : ArePut mem.rule mem.fallback (is_each mem.listing) (scan no_line head).lines start the_head.last
+  are_put = puts mem.rule mem.fallback (is_each mem.listing) (scan no_line head).lines [] the_head.printed start the_head.last refl the_head.goes
 
   behind_is : Begun mem.rule mem.fallback (is_each mem.listing) the_head.last ≡ record From { place = behind_head the_head.last.place.head the_head.last.place }
   behind_is =

@@ -3,9 +3,9 @@ ghost use Rattle.std.specs.Prelude.{◌≡◌};
 ghost use Rattle.worked_scripts.specs.Echoes.{echo_line, word_of};
 
 use aria_base::Sink;
-use script_course::{Reads, Stop, give, refuse};
+use script_course::{Reads, Stop, give};
 use script_places::{Counts, Deed, ScriptPlace};
-use script_text::LinesRefused;
+use script_rows::refuse_line;
 use std::alloc::Global;
 
 /// A script of which each line is answered by a word; the counts are the same at each.
@@ -36,8 +36,7 @@ impl Reads<()> for Echo {
         let Echo { place, counts } = self;
         match place.ask(alloc, counts, line) {
             Ok((place, deed)) => give(Echo { place, counts }, word_of(&deed), out),
-            Err(LinesRefused::Memory) => Err(Stop::NoMemory),
-            Err(LinesRefused::Line(refusal)) => refuse(alloc, &refusal, out),
+            Err(refused) => refuse_line(alloc, refused, out),
         }
     }
 }

@@ -7,7 +7,7 @@ use Rattle.store_commands.specs.Drafts.{values_by}
 use Rattle.script_course.proofs.Turns.{front_none}
 use Rattle.script_course.specs.Served.{Finishes}
 use Rattle.store_commands.specs.Inits.{IsMadeOf, on_end}
-use Rattle.store_commands.proofs.Drafted.{closed_under}
+use Rattle.script_rows.proofs.Drafted.{closed_under}
 use Rattle.store_commands.proofs.Ended.{ends_untouched, refused_apart}
 use Rattle.store_commands.proofs.Whole.{ungiven_never}
 use Rattle.store_commands.proofs.inits.close.Goals as goal

@@ -1,16 +1,18 @@
-// A new database between two lines of its head.
+// A database between two lines of a script of rows.
 ghost use Rattle.std.specs.Prelude.{◌≡◌, IfOk};
-ghost use Rattle.store_commands.specs.Drafts as drafts;
-ghost use Rattle.store_commands.specs.Drafts.{IsFitting, MayDo, Moves};
+ghost use Rattle.script_rows.specs.Drafts as drafts;
+ghost use Rattle.script_rows.specs.Drafts.{IsFitting};
+ghost use Rattle.script_rows.specs.Moves.{Moves};
 
+use crate::refusals::refuse_line;
 use aria_base::{Memory, Sink};
-use script_course::{Reads, Stop, refuse};
+use script_course::{Reads, Stop};
 use script_places::{Counts, Deed, Mode, ScriptPlace, follows};
 use script_text::LinesRefused;
 use std::alloc::Global;
 use tbl_rows::Tables;
 
-/// A new database between two lines of its head.
+/// A database between two lines of a script of rows.
 #[derive(Drop)]
 pub struct Draft {
     /// Where the reading stands.
@@ -28,19 +30,17 @@ const NO_COUNTS: Counts = Counts {
 
 impl Draft {
     /// Before the first line.
-    pub(crate) fn start(alloc: Global) -> Result<Draft, Memory>
-        ensures { IfOk result (λ draft. draft ≡ drafts.start) }
+    pub(crate) fn start(alloc: Global, mode: Mode) -> Result<Draft, Memory>
+        ensures { IfOk result (λ draft. draft ≡ drafts.start mode) }
     {
         let tables = Tables::new(alloc)?;
-        let place = ScriptPlace::start(Mode::Init);
+        let place = ScriptPlace::start(mode);
         Ok(Draft { place, tables })
     }
 
-    /// With what a line asks for. A head has no batches, so that all that is not refused and is no row is
-    /// nothing, or the catalogue's.
+    /// With what a line asks for: a row is put, and all else is nothing, or the catalogue's.
     fn with(self, deed: Deed) -> Result<Draft, Memory>
-        requires { MayDo self deed }
-        ensures done { IfOk result (λ next. next ≡ drafts.done self deed) }
+        ensures { IfOk result (λ next. next ≡ drafts.done self deed) }
     {
         let Draft { place, mut tables } = self;
         match deed {
@@ -93,8 +93,7 @@ impl Reads<()> for Draft {
     ) -> Result<Self, Stop> {
         match self.next(alloc, line) {
             Ok(next) => Ok(next),
-            Err(LinesRefused::Memory) => Err(Stop::NoMemory),
-            Err(LinesRefused::Line(refusal)) => refuse(alloc, &refusal, out),
+            Err(refused) => refuse_line(alloc, refused, out),
         }
     }
 }
