@@ -49,12 +49,7 @@ pub(crate) fn marks_on(
 }
 
 /// Adds the marks of those that the key is under.
-fn add_marks(
-    alloc: Global,
-    scanned: &Index,
-    key: &Key,
-    marks: &mut Vec<Key>,
-) -> Result<(), Memory>
+fn add_marks(alloc: Global, scanned: &Index, key: &Key, marks: &mut Vec<Key>) -> Result<(), Memory>
     ensures { OnOk result (marks.new.items ≡ marks.old.items ++ fronts_below scanned.now key.now (front_count key.now)) }
 {
     let fronts = (key.parts.as_slice().len() + 1).min(MOST_PARTS);
