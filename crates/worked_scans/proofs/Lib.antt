@@ -1,0 +1,2 @@
+mod Readiness
+mod Suiting
