@@ -71,20 +71,15 @@ fn ran(alloc: Global, window: Window, end: End) -> Ran
     } }
 {
     let (reads, writes, scans) = window.parts();
-    Ran {
-        reads,
-        writes: kept(alloc, &end, writes),
-        scans,
-        end,
-    }
-}
-
-/// The writes that count: those of a run that is not done do not.
-fn kept(alloc: Global, end: &End, writes: Changes) -> Changes
-    ensures { result ≡ (if is_done end.now then writes else []) }
-{
-    match end {
+    // Only the writes of a run that is done count.
+    let writes = match end {
         End::Done(_) => writes,
         End::Back(_) | End::Trap(_) => Changes::from_vec(Vec::new(alloc)),
+    };
+    Ran {
+        reads,
+        writes,
+        scans,
+        end,
     }
 }
