@@ -1,6 +1,7 @@
 -- What the maps of the libraries say of their entries, as finite maps say it, whatever stands at the keys.
-use Rattle.std.proofs.Common.{◌≡◌, List, [], ◌∷◌, Option, Some, None, Bool, cond, true, false, ◌&&◌, refl, sym, ap, subst, ◌∙◌}
+use Rattle.std.proofs.Common.{◌≡◌, List, [], ◌∷◌, ◌++◌, Option, Some, None, Bool, cond, true, false, ◌&&◌, refl, sym, ap, subst, ◌∙◌}
 use Rattle.std.specs.Prelude.{T}
+use Rattle.std.specs.Option.{option_or}
 use Rattle.std.specs.Cmp.{eq_by_cmp_equiv}
 use Rattle.std.specs.Ordering.{eq_by_cmp, is_eq, is_lt}
 use Rattle.std.specs.declared.cmp.Ordering.TheVariants.{Less}
@@ -53,6 +54,16 @@ same_tied : (x y : Key) → tied x y ≡ eq_by_cmp key_cmp x y
 same_tied x y = ap is_eq (derived-is x y)
 
 module _ {X : Type 0} where
+  -- a look-up in two lists is one in the first, and where nothing is there, in the second
+  pub find-append : (q : Key) (xs ys : List (Key × X)) → fin.find key_cmp q (xs ++ ys) ≡ option_or (fin.find key_cmp q xs) (fin.find key_cmp q ys)
+  find-append q [] ys = refl
+  find-append q (x ∷ xs) ys =
+      elim (eq_by_cmp key_cmp q x.0) as (λ b. cond b (Some x.1) (fin.find key_cmp q (xs ++ ys)) ≡ option_or (cond b (Some x.1) (fin.find key_cmp q xs))
+      (fin.find key_cmp q ys)) [
+        | true ↦ refl
+        | false ↦ find-append q xs ys
+      ]
+
   pub get-lookup : (es : List (Key × X)) (q : Key) → fin.get (fin.from_entries {R = key_cmp} es) q ≡ lookup (is_at (derived_cmp q)) es
   get-lookup = get-by tied same_tied
 

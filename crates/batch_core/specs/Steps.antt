@@ -1,6 +1,6 @@
 -- Batches one after the other: the list of a batch, its answer by request numbers, and the state that it leaves. The section's
 -- argument says what a request does.
-use Rattle.std.specs.Prelude.{ℕ, ◌+◌, ◌-◌, List, [], ◌∷◌, ◌++◌, map, length, Option, Some, None}
+use Rattle.std.specs.Prelude.{ℕ, ◌+◌, ◌-◌, List, [], ◌∷◌, ◌++◌, map, length, slice_index_or, Option, Some, None}
 use Rattle.std.specs.List.{slice_get}
 use Rattle.aria_base.specs.Orders.{key_cmp, Cells, Database}
 use Rattle.aria_base.specs.declared.keys.Key.{Key}
@@ -52,6 +52,10 @@ number_or (Some request) = request.q
 
 abbrev pub number_at : List Request → ℕ → ℕ
 number_at list tid = number_or (slice_get list (tid - 1))
+
+-- and where these are the numbers of a list
+abbrev pub number_in : List ℕ → ℕ → ℕ
+number_in numbers tid = slice_index_or numbers (tid - 1) 0
 
 -- a cause by request numbers, where `number` tells that of each TID
 abbrev pub wait_by : (ℕ → ℕ) → Cause → Wait

@@ -13,12 +13,15 @@
 //!     Codes       a state as a value of a model
 //! ```
 //!
-//! The definitions stand in specs/, and the code is the types of `answers` and the list of a batch in `lists`.
+//! The definitions stand in specs/, and the code is the types of `answers`, the list of a batch in `lists`, and causes by request
+//! numbers in `causes`.
 #![tactic(auto)]
 
 pub mod answers;
+mod causes;
 pub mod laws;
 mod lists;
 
 pub use answers::{Answer, Line, Order, Replies, Reply, Wait};
+pub use causes::{number_in, numbers_in, wait_in};
 pub use lists::number_calls;

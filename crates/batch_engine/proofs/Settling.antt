@@ -8,7 +8,7 @@ use Rattle.std.proofs.lemmas.Simd.{map-map}
 use Rattle.aria_base.specs.Orders.{key_cmp, Cells, Database}
 use Rattle.aria_base.specs.declared.calls.Request.{Request}
 use Rattle.aria_base.specs.declared.keys.Key.{Key}
-use Rattle.batch_core.specs.Steps.{number_or, number_at, reply_by, reply_of, line_of}
+use Rattle.batch_core.specs.Steps.{number_in, number_or, number_at, reply_by, reply_of, line_of}
 use Rattle.batch_rules.specs.Batches.{Carrier, Judged, Entry, Fate, Ended, Waits, Moved, Batch, judge, judged, decided, waiting, late_runs, has_ended, is_carried, ordered, carried, declared, touching, fate_after, lates_behind, settled, after_commit, late_fates, late_left, late_results, late_rest, on_start, batch, read_through, judged_through, entry_through}
 use Rattle.batch_rules.specs.Trees.{Tree, end_of}
 use Rattle.batch_rules.specs.Verdicts.{Dependencies, waits}
@@ -27,7 +27,7 @@ use Rattle.proc_lang.specs.declared.ends.End.{End}
 use Rattle.reorder.specs.Orders.{ordered_tids}
 use Rattle.reorder.proofs.Places.{ordered_names}
 use Rattle.dep_rules.specs.declared.sets.Sets.{Sets}
-use Rattle.batch_engine.specs.Answers.{number_in, by_end, line_in, lines_in, is_final, first_ended, still_waiting}
+use Rattle.batch_engine.specs.Answers.{by_end, line_in, lines_in, is_final, first_ended, still_waiting}
 use Rattle.batch_engine.specs.Lates.{is_due, LateRun}
 use Rattle.batch_engine.specs.Lists.{sets_in, waiting_with, waiting_among}
 

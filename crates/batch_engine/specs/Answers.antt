@@ -1,6 +1,6 @@
 -- The answer of a batch from what its phases hand on: request numbers by TID, ends of the runs on the batch's start, verdicts, and
 -- the fates of a late run.
-use Rattle.std.specs.Prelude.{ℕ, ◌-◌, List, [], ◌∷◌, map, slice_index_or, length, drop, Bool, true, false, if◌then◌else◌}
+use Rattle.std.specs.Prelude.{ℕ, ◌-◌, List, [], ◌∷◌, map, length, drop, Bool, true, false, if◌then◌else◌}
 use Rattle.std.specs.List.{range_with_len}
 use Rattle.std.specs.Ordering.{nat_cmp}
 use Rattle.aria_base.specs.Orders.{Cells}
@@ -15,7 +15,7 @@ use Rattle.batch_rules.specs.Verdicts.{verdict}
 use Rattle.batch_core.specs.declared.answers.Line.{Line}
 use Rattle.batch_core.specs.declared.answers.Reply.{Reply}
 use Rattle.batch_core.specs.declared.answers.Reply.TheVariants.{Ended, Waits}
-use Rattle.batch_core.specs.Steps.{reply_by}
+use Rattle.batch_core.specs.Steps.{number_in, reply_by}
 use Rattle.dep_rules.specs.Sheets.{Sheet, reads_at, writes_at}
 use Rattle.dep_rules.specs.Words.{tids_before}
 
@@ -26,10 +26,6 @@ verdict_of rule sheet tid = verdict nat_cmp (reads_at sheet) (writes_at sheet) r
 -- the verdicts of all requests
 abbrev pub verdicts_on : Rule → Sheet → List Verdict
 verdicts_on rule sheet = map (verdict_of rule sheet) (range_with_len 1 (length sheet.reads))
-
--- the request number of a TID
-abbrev pub number_in : List ℕ → ℕ → ℕ
-number_in numbers tid = slice_index_or numbers (tid - 1) 0
 
 -- a request is carried by the end of its run on the start
 abbrev pub by_end : Carrier Key Cells End End

@@ -2,15 +2,15 @@
 ghost use Rattle.std.specs.Prelude.{◌≡◌, ◌≤◌, ◌<◌, ◌^◌, ◌++◌, length, map, take, IfOk, None, Some, drop};
 ghost use Rattle.std.specs.Vec.Iter.{into_iter_items};
 ghost use Rattle.aria_base.specs.declared.limits.TheConstants.{MOST_REQUESTS};
-ghost use Rattle.batch_core.specs.Steps.{wait_by, reply_by};
+ghost use Rattle.batch_core.specs.Steps.{number_in, reply_by};
 ghost use Rattle.batch_rules.specs.Batches.{fate_after, lates_behind};
 ghost use Rattle.proc_exec.specs.Lates.{fate_of};
 ghost use Rattle.reorder.specs.Orders.{ordered_tids};
-ghost use Rattle.batch_engine.specs.Answers.{number_in, by_end, lines_in, is_final};
+ghost use Rattle.batch_engine.specs.Answers.{by_end, lines_in, is_final};
 
 use aria_base::Memory;
-use batch_core::{Line, Reply, Wait};
-use batch_rules::verdicts::{Cause, Verdict};
+use batch_core::{Line, Reply, Wait, number_in, numbers_in, wait_in};
+use batch_rules::verdicts::Verdict;
 use proc_exec::Late;
 use proc_lang::End;
 use reorder::order;
@@ -40,7 +40,7 @@ pub(crate) fn lines_of(
         rest = later;
         tid += 1;
         lines.push(Line {
-            q: number(numbers, tid),
+            q: number_in(numbers, tid),
             reply: reply(numbers, end, *verdict, &mut lates),
         })?;
     }
@@ -57,29 +57,8 @@ fn reply(numbers: &[u64], end: End, verdict: Verdict, lates: &mut IntoIter<Late>
         Verdict::Wait(cause) => match lates.next() {
             Some(Late::Finished(end)) => Reply::Ended(end),
             Some(Late::Moved(key)) => Reply::Waits(Wait::Moved(key)),
-            None => Reply::Waits(wait(numbers, cause)),
+            None => Reply::Waits(wait_in(numbers, cause)),
         },
-    }
-}
-
-/// A cause by request numbers.
-fn wait(numbers: &[u64], cause: Cause) -> Wait
-    ensures { result ≡ wait_by (number_in numbers.now) cause }
-{
-    match cause {
-        Cause::Waw(waw) => Wait::Waw(number(numbers, waw)),
-        Cause::Raw(raw) => Wait::Raw(number(numbers, raw)),
-        Cause::Both(raw, war) => Wait::Both(number(numbers, raw), number(numbers, war)),
-    }
-}
-
-/// The number of the request with this TID.
-fn number(numbers: &[u64], tid: u32) -> u64
-    ensures { result ≡ number_in numbers.now tid }
-{
-    match numbers.get((tid as usize).saturating_sub(1)) {
-        Some(&q) => q,
-        None => 0,
     }
 }
 
@@ -96,7 +75,7 @@ pub(crate) fn order_of(
 {
     let finals = finals_of(alloc, lines)?;
     let tids = order(alloc, verdicts, &finals)?;
-    numbers_at(alloc, numbers, &tids)
+    numbers_in(alloc, numbers, &tids)
 }
 
 /// Which replies are final.
@@ -117,15 +96,4 @@ fn is_final(reply: &Reply) -> bool
         Reply::Ended(_) => true,
         Reply::Waits(_) => false,
     }
-}
-
-/// The numbers of the requests with these TIDs.
-fn numbers_at(alloc: Global, numbers: &[u64], tids: &[u32]) -> Result<Vec<u64>, Memory>
-    ensures { IfOk result (λ order. order.items ≡ map (number_in numbers.now) tids.now) }
-{
-    let mut order = Vec::with_capacity(alloc, tids.len())?;
-    for tid in tids {
-        order.push(number(numbers, *tid))?;
-    }
-    Ok(order)
 }

@@ -1,12 +1,12 @@
 -- Bytes that are a text, and bytes that are none.
-use Rattle.std.proofs.Common.{◌≡◌, ℕ, ◌<◌, ◌≤◌, List, [], ◌∷◌, refl, length, Some, None, true, false, not, get_or, arith}
+use Rattle.std.proofs.Common.{◌≡◌, ℕ, ◌<◌, List, length, Some, None, false, not, get_or, arith}
 use Rattle.std.specs.Prelude.{position}
 use Rattle.std.specs.List.{list_all}
 use Rattle.std.proofs.lemmas.List.Folds.{list_all_at}
 use Rattle.std.proofs.lemmas.List.Quantifiers.{position-Some}
 use Rattle.std.proofs.lemmas.Grind.{common_steps}
-use Rattle.aria_base.specs.Texts.{IsText, may_hold, is_word, is_in_word}
-use Rattle.aria_base.specs.declared.limits.TheConstants.{LONGEST_TEXT, LONGEST_WORD}
+use Rattle.aria_base.specs.Texts.{IsText, may_hold}
+use Rattle.aria_base.specs.declared.limits.TheConstants.{LONGEST_TEXT}
 use Rattle.cat_forms.specs.Shapes.{text_of}
 use Rattle.cat_forms.proofs.Texts.{text_passes}
 
@@ -22,31 +22,3 @@ text_with_bad_byte bytes at h =
     let bad : may_hold (get_or bytes at 0) ≡ false = grind (arith, common_steps, p.1) in
     let none : list_all may_hold bytes ≡ false = list_all_at may_hold bytes at 0 p.0 bad in
     grind (arith, common_steps, none)
-
--- ---- words
-
-word_byte : (b : ℕ) → is_in_word b ≡ true → may_hold b ≡ true
-word_byte b h = grind (arith, common_steps, h)
-
-word_bytes : (bytes : List ℕ) → list_all is_in_word bytes ≡ true → list_all may_hold bytes ≡ true
-word_bytes [] h = refl
-word_bytes (b ∷ bs) h =
-    let first : is_in_word b ≡ true = grind (arith, common_steps, h) in
-    let rest : list_all is_in_word bs ≡ true = grind (arith, common_steps, h) in
-    rw (word_byte b first, word_bytes bs rest)
-
-pub word_holds : (bytes : List ℕ) → is_word bytes ≡ true → list_all may_hold bytes ≡ true
-word_holds bytes h =
-    let all : list_all is_in_word bytes ≡ true = grind (arith, common_steps, h) in
-    word_bytes bytes all
-
-pub word_is_short : (bytes : List ℕ) → is_word bytes ≡ true → length bytes ≤ LONGEST_WORD
-word_is_short bytes h = grind (arith, common_steps, h)
-
-pub word_has_no_bad_byte : (bytes : List ℕ) (at : ℕ) → is_word bytes ≡ true → position (λ b. not (may_hold b)) bytes ≡ Some at → ⊥
-word_has_no_bad_byte bytes at h p =
-    let q = position-Some (λ b. not (may_hold b)) bytes at 0 p in
-    let bad : may_hold (get_or bytes at 0) ≡ false = grind (arith, common_steps, q.1) in
-    let none : list_all may_hold bytes ≡ false = list_all_at may_hold bytes at 0 q.0 bad in
-    let all = word_holds bytes h in
-    absurd (grind (arith, common_steps, none, all))

@@ -135,7 +135,7 @@ fn is_taken<T: Named>(earlier: &[T], name: &[u8]) -> bool
 }
 
 /// The word that the value says, where none of the earlier ones has it for a name.
-#[tactic(auto, using(crate::proofs::Texts::word_is_short, crate::proofs::Texts::word_has_no_bad_byte))]
+#[tactic(auto, using(aria_base::proofs::TextWords::word_is_short, aria_base::proofs::TextWords::word_has_no_bad_byte))]
 pub fn read_name<T: Named>(
     alloc: Global,
     place: &JsonPlace<'_>,

@@ -6,6 +6,7 @@ use Rattle.std.specs.List.{list_all, list_any}
 use Rattle.std.proofs.lemmas.Slice.Eq.{bytes_eq-Decides}
 use Rattle.std.proofs.lemmas.List.{map-append}
 use Rattle.std.proofs.lemmas.List.Folds.{find-append}
+use Rattle.std.proofs.lemmas.Option.{none-some}
 use Rattle.clap.specs.Lexer.{long_of, long_of_rest, short_of, strip_byte}
 use Rattle.clap.specs.Walk.{Held, Names, Row, Rule, Text, Waiting, Walk, idle, option, arg_by_id, arg_by_long, at_row, has_row, settled, nothing_held, walk, stop_after, walked, word_met, answers_to, subcommand_met, without, used, with_values, more_values, finished, with_default, first_of, reading_by, rows_after}
 use Rattle.clap.specs.Simple.{App, Shape, subcommand_of, built, built_leaf, with_leaf_noted, marked_built, filled, filled_from, inherited, is_simple, is_simple_leaf, is_ready_leaf, label_of, names_of, entered, rows_at}
@@ -144,9 +145,6 @@ pub has_name : (os : List Opt) (name : Text) (o : Opt) → opt_named os name ≡
 has_name os name o e = let same : o.name ≡ name = (bytes_eq-Decides o.name name).0 (find_passes (λ x. bytes_eq x.name name) os o e) in ap (opt_named os) same
     ∙ e
 
-pub none_some : {X : Type 0} (x : X) → None ≡ Some x → ⊥
-none_some x e = true≢false (sym (ap is_some e))
-
 abbrev with_part_by : List Given → Bool → Opt → Option Text → Option Read
 with_part_by given f o None = Some (if f then add given o (codes "true") else record { given = given; pending = Some o })
 with_part_by given f o (Some v) = if f then None else Some (add given o v)
@@ -268,27 +266,27 @@ module _ (s : Shape) (os : List Opt) (plain : s.args_override_self ≡ false) (r
           (flag_step given h word name o rel parts found flag new)
       by_part name None o false parts found new flag e = subst (Steps None h word) (ap (λ x. unwrap_or x r) e)
           (name_step given h word name o rel parts found flag new)
-      by_part name (Some v) o true parts found new flag e = absurd (none_some r e)
+      by_part name (Some v) o true parts found new flag e = absurd (none-some r e)
       by_part name (Some v) o false parts found new flag e =
           subst (Steps None h word) (ap (λ x. unwrap_or x r) e) (both_step given h word name v o rel parts found flag new)
 
       by_new : (name : Text) (v : Option Text) (o : Opt) (b : Bool) → split word ≡ Some (name, v) → opt_named os name ≡ Some o → is_given given o.name ≡ b
           → cond b None (with_part given o v) ≡ Some r → Steps None h word r
-      by_new name v o true parts found new e = absurd (none_some r e)
+      by_new name v o true parts found new e = absurd (none-some r e)
       by_new name v o false parts found new e = by_part name v o o.is_flag parts found new refl (by_flag given o v ∙ e)
 
       by_opt : (name : Text) (v : Option Text) (o : Option Opt) → split word ≡ Some (name, v) → opt_named os name ≡ o → with_opt given o v ≡ Some r
           → Steps None h word r
-      by_opt name v None parts found e = absurd (none_some r e)
+      by_opt name v None parts found e = absurd (none-some r e)
       by_opt name v (Some o) parts found e = by_new name v o (is_given given o.name) parts found refl e
 
       by_split : (p : Option (Text × Option Text)) → split word ≡ p → with_split os given p ≡ Some r → Steps None h word r
-      by_split None parts e = absurd (none_some r e)
+      by_split None parts e = absurd (none-some r e)
       by_split (Some p) parts e = by_opt p.0 p.1 (opt_named os p.0) parts refl e
   one_step given (Some o) h word r rel e = by_dash (has_dash word) refl e
     where
       by_dash : (b : Bool) → has_dash word ≡ b → cond b None (Some (add given o word)) ≡ Some r → Steps (Some o) h word r
-      by_dash true dash e = absurd (none_some r e)
+      by_dash true dash e = absurd (none-some r e)
       by_dash false dash e = subst (Steps (Some o) h word) (ap (λ x. unwrap_or x r) e) (value_step given h word o rel dash)
 
   -- what the walk comes to
@@ -301,7 +299,7 @@ module _ (s : Shape) (os : List Opt) (plain : s.args_override_self ≡ false) (r
       → Ends (at h (waiting_for pending)) words final
   unfolding walk_passes
   passes given None h [] final rel e = (refl, rel.0, rel.1 ∙ ap (λ x. map row_for (unwrap_or x final)) e)
-  passes given (Some o) h [] final rel e = absurd (none_some final e)
+  passes given (Some o) h [] final rel e = absurd (none-some final e)
   passes given pending h (word ∷ words) final rel e = go (with_word os given pending word) refl e
       (λ r after rel2 e2. passes r.given r.pending after words final rel2 e2)
     where
@@ -309,7 +307,7 @@ module _ (s : Shape) (os : List Opt) (plain : s.args_override_self ≡ false) (r
           → ((r : Read) (after : Held) → Related r.given r.pending after → options_of os r.given r.pending words ≡ Some final
           → Ends (at after (waiting_for r.pending)) words final)
           → Ends (at h (waiting_for pending)) (word ∷ words) final
-      go None is e more = absurd (none_some final e)
+      go None is e more = absurd (none-some final e)
       go (Some r) is e more =
           let st = one_step given pending h word r rel is in
           let rest = more r st.1.0 st.1.1 e in
@@ -386,7 +384,7 @@ no_row_named name (r ∷ rows) e = go (bytes_eq r.id name) e (no_row_named name 
   where
     go : (b : Bool) → cond b (Some r) (find (λ x. bytes_eq x.id name) rows) ≡ None → (find (λ x. bytes_eq x.id name) rows ≡ None → has_row name rows ≡ false)
         → (b || has_row name rows) ≡ false
-    go true e more = absurd (none_some r (sym e))
+    go true e more = absurd (none-some r (sym e))
     go false e more = more e
 
 abbrev off : Bool → Option Text
@@ -554,14 +552,14 @@ module _ (name : Text) where
       × (subcommand_of (app_for name cmds) words ≡ Some (l.cmd.name, fold with_default (map row_for l.given) (map built_rule l.cmd.options)))
 
   pub line_is_taken : (cmds : List Cmd) (words : List Text) (l : Line) → line_of cmds words ≡ Some l → Taken cmds words l
-  line_is_taken cmds [] l e = absurd (none_some l e)
+  line_is_taken cmds [] l e = absurd (none-some l e)
   line_is_taken cmds (word ∷ rest) l e = by_cmd (find (λ c. bytes_eq c.name word) cmds) refl e
     where
       by_given : (cmd : Cmd) (o : Option (List Given)) → find (λ c. bytes_eq c.name word) cmds ≡ Some cmd → options_of cmd.options [] None rest ≡ o
           → with_options cmd o ≡ Some l → Taken cmds (word ∷ rest) l
-      by_given cmd None found is e = absurd (none_some l e)
+      by_given cmd None found is e = absurd (none-some l e)
       by_given cmd (Some given) found is e = subst (Taken cmds (word ∷ rest)) (ap (λ x. unwrap_or x l) e) (taken_as cmds cmd word rest found given is)
 
       by_cmd : (o : Option Cmd) → find (λ c. bytes_eq c.name word) cmds ≡ o → with_cmd o rest ≡ Some l → Taken cmds (word ∷ rest) l
-      by_cmd None found e = absurd (none_some l e)
+      by_cmd None found e = absurd (none-some l e)
       by_cmd (Some cmd) found e = by_given cmd (options_of cmd.options [] None rest) found refl e

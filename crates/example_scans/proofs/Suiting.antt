@@ -1,12 +1,8 @@
 -- The routine suits a catalogue with open orders; and an engine that has none yet.
-use Rattle.std.proofs.Common.{◌≡◌, ◌∙◌, ℤ, ◌<◌, List, [], ◌∷◌, length, take, slice_get, true, Some, None, Option, subst, sym, ap, refl, arith}
-use Rattle.std.specs.Prelude.{⊤, IsSomeAnd}
-use Rattle.std.specs.FinMap as fin
+use Rattle.std.proofs.Common.{◌≡◌, ℤ, ◌<◌, List, [], ◌∷◌, length, take, slice_get, true, Some, None, Option, subst, sym, refl, arith}
+use Rattle.std.specs.Prelude.{IsSomeAnd}
 use Rattle.std.specs.List.{All}
 use Rattle.std.proofs.lemmas.List.Elements.{All-nil}
-use Rattle.aria_base.specs.Orders.{Cells, Database, key_cmp}
-use Rattle.aria_base.specs.Schemas.{Fits, IsConsistent}
-use Rattle.aria_base.specs.declared.keys.Key.{Key}
 use Rattle.aria_base.specs.declared.keys.Part.TheVariants as part
 use Rattle.aria_base.specs.declared.schemas.Table.{Table}
 use Rattle.aria_base.specs.declared.values.Kind.{Kind}
@@ -38,15 +34,6 @@ module _ (schema : List Table) (has : HasOrders schema) where
 
   pub orders_suit : Suits schema has_customer (λ q call. follow (open_orders call.nums))
   orders_suit call q seen taken first last = asks call.nums seen
-
--- the row, if there is one, fits at the key
-abbrev MayStand : List Table → Key → Option Cells → Type 0
-MayStand tables key None = ⊤
-MayStand tables key (Some row) = Fits tables key row
-
-pub fit_nowhere : (tables : List Table) (db : Database) → db ≡ fin.empty → IsConsistent tables db
-fit_nowhere tables db e key row found =
-    subst (MayStand tables key) (sym (fin.get-empty key_cmp key) ∙ sym (ap (λ (m : Database). fin.get m key) e) ∙ found) tt
 
 pub none_waits : (plan : Plan) (waiting : List NumberedWork) → waiting ≡ [] → All (λ w. is_taken plan has_customer w.work ≡ true) waiting
 none_waits plan waiting e = subst (All (λ w. is_taken plan has_customer w.work ≡ true)) (sym e) (All-nil (λ w. is_taken plan has_customer w.work ≡ true))

@@ -94,7 +94,7 @@ fn main(rt: HostRuntime) -> Result<()> {
     run(&rt)
 }
 
-#[tactic(auto, using(crate::proofs::Suiting::fit_nowhere, crate::proofs::Suiting::none_waits, crate::proofs::Suiting::taken_on))]
+#[tactic(auto, using(aria_base::proofs::Fitting::none_fit, crate::proofs::Suiting::none_waits, crate::proofs::Suiting::taken_on))]
 fn run<R: AllocGlobal + Print + Threads + Sync>(rt: &R) -> Result<()> {
     let alloc = rt.alloc();
     let mut out = FileSink::new(writer(rt));

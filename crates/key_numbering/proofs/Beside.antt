@@ -1,5 +1,5 @@
 -- Numbers in two places, of which the second has none of a key that has one in the first.
-use Rattle.std.proofs.Common.{◌≡◌, ℕ, Bool, List, [], ◌∷◌, ◌++◌, Option, Some, None, cond, true, false, refl, sym, ap, subst, ◌∙◌}
+use Rattle.std.proofs.Common.{◌≡◌, ℕ, Bool, Option, Some, None, cond, true, false, refl, sym, ap, subst, ◌∙◌}
 use Rattle.std.specs.Option.{IsSome, option_or}
 use Rattle.std.specs.Ordering.{eq_by_cmp, is_eq}
 use Rattle.std.specs.declared.cmp.Ordering.{Ordering}
@@ -8,17 +8,9 @@ use Rattle.std.specs.FinMap as fin
 use Rattle.aria_base.specs.Orders.{key_cmp}
 use Rattle.aria_base.specs.declared.keys.Key.{Key}
 use Rattle.aria_base.proofs.Orders.{key_cmp_total, key_cmp-IsAntisymmetric, same_key}
+use Rattle.aria_base.proofs.Trees.{find-append}
 use Rattle.key_numbering.specs.Beside.{beside, IsApart}
 use Rattle.key_numbering.specs.Numbers.{Numbers}
-
-find-append : (q : Key) (xs ys : List (Key × ℕ)) → fin.find key_cmp q (xs ++ ys) ≡ option_or (fin.find key_cmp q xs) (fin.find key_cmp q ys)
-find-append q [] ys = refl
-find-append q (x ∷ xs) ys =
-    elim (eq_by_cmp key_cmp q x.0) as (λ b. cond b (Some x.1) (fin.find key_cmp q (xs ++ ys)) ≡ option_or (cond b (Some x.1) (fin.find key_cmp q xs))
-    (fin.find key_cmp q ys)) [
-      | true ↦ refl
-      | false ↦ find-append q xs ys
-    ]
 
 pub get-beside : (near far : Numbers) (q : Key) → fin.get (beside near far) q ≡ option_or (fin.get near q) (fin.get far q)
 get-beside near far q =

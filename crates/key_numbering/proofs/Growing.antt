@@ -9,6 +9,7 @@ use Rattle.std.proofs.lemmas.Bool.{cases_lt, false≢true, false_from_ne_true, e
 use Rattle.std.proofs.lemmas.List.{drop_all}
 use Rattle.std.proofs.lemmas.List.Elements.{All-nil, All-cons, All-head, All-tail, All-map}
 use Rattle.std.proofs.lemmas.List.Sums.{sum_by-cons}
+use Rattle.std.proofs.lemmas.Option.{none-some}
 use Rattle.aria_base.specs.Orders.{key_cmp}
 use Rattle.aria_base.specs.declared.keys.Key.{Key}
 use Rattle.aria_base.proofs.Orders.{key_cmp_total, same_key}
@@ -41,14 +42,11 @@ own m k n = fin.get-insert key_cmp_total m k n k ∙ ap (λ b. cond b (Some n) (
 pub number-new : (m : Numbers) (k : Key) → number_in (fin.insert m k (fin.len m)) k ≡ fin.len m
 number-new m k = number-is (fin.insert m k (fin.len m)) k (fin.len m) (own m k (fin.len m))
 
-none_some : {P : Type 0} (n : ℕ) → None ≡ Some n → P
-none_some n e = cc
-
 keeps_new : (m : Numbers) (k : Key) → fin.get m k ≡ None → Keeps m (fin.insert m k (fin.len m))
 keeps_new m k none q n at =
     fin.get-insert key_cmp_total m k (fin.len m) q
     ∙ elim (eq_by_cmp key_cmp q k) as (λ b. eq_by_cmp key_cmp q k ≡ b → cond b (Some (fin.len m)) (fin.get m q) ≡ Some n) [
-      | true ↦ λ tied. none_some n (sym none ∙ ap (fin.get m) (sym (same_key q k tied)) ∙ at)
+      | true ↦ λ tied. absurd (none-some n (sym none ∙ ap (fin.get m) (sym (same_key q k tied)) ∙ at))
       | false ↦ λ _. at
     ] refl
 
@@ -77,8 +75,8 @@ long_key m k = either (λ o. fin.len o ≤ fin.len m + 1) m k (λ none. let e = 
 
 pub AreNumbers-empty : AreNumbers fin.empty
 AreNumbers-empty = record {
-  below = λ k n at. none_some n (sym (fin.get-empty key_cmp k) ∙ at);
-  once = λ x y n at_x at_y. none_some n (sym (fin.get-empty key_cmp x) ∙ at_x);
+  below = λ k n at. absurd (none-some n (sym (fin.get-empty key_cmp k) ∙ at));
+  once = λ x y n at_x at_y. absurd (none-some n (sym (fin.get-empty key_cmp x) ∙ at_x));
   each = λ n lt. let e = fin.len-empty key_cmp ℕ in absurd (omega arith);
 }
 
@@ -225,7 +223,7 @@ fewer_sets few many (s ∷ ss) among =
 -- no more keys come than are touched
 pub at_most : (m : Numbers) (sets : List Sets) → fin.len (with_sets m sets) ≤ fin.len m + fin.len (with_sets fin.empty sets)
 at_most m sets =
-    let fewer = (fewer_sets fin.empty m sets (λ k has. none_some has.0 (sym (fin.get-empty key_cmp k) ∙ has.1))).1 in
+    let fewer = (fewer_sets fin.empty m sets (λ k has. absurd (none-some has.0 (sym (fin.get-empty key_cmp k) ∙ has.1)))).1 in
     let bare = fin.len-empty key_cmp ℕ in
     omega arith
 

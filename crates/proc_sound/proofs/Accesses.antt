@@ -27,7 +27,8 @@ use Rattle.proc_sound.specs.Laws.{shape_fits}
 use Rattle.proc_sound.proofs.Lists.{same_kinds-decides, parts_kinds, fronts_same, all_at}
 use Rattle.proc_sound.proofs.Results.{got_ok, wanted_ok, wanted_is, found_is, IsSure, then_sure, pair_sure}
 use Rattle.proc_sound.proofs.Expressions.{Values, Context, Registers, Found, found_all}
-use Rattle.proc_sound.proofs.Trees.{MayStand, Like}
+use Rattle.aria_base.proofs.Fitting.{MayStand}
+use Rattle.proc_sound.proofs.Trees.{Like}
 use Rattle.proc_sound.proofs.Registers.{States, Follows, with_like, checked_like, counted_like}
 
 -- ---- the table

@@ -10,6 +10,7 @@ use Rattle.std.proofs.lemmas.List.{length-map}
 use Rattle.aria_base.specs.Schemas.{IsConsistent}
 use Rattle.aria_base.specs.declared.limits.TheConstants.{GREATEST_NUMBER}
 use Rattle.batch_core.specs.Serial.{RiseWithin}
+use Rattle.batch_core.specs.Steps.{number_in}
 use Rattle.batch_core.specs.declared.answers.Answer.{Answer}
 use Rattle.batch_core.proofs.Numbers.{rise-above, rise-below, rise-append, rise-filter}
 use Rattle.batch_rules.specs.declared.verdicts.Rule.{Rule}
@@ -34,7 +35,7 @@ use Rattle.range_rules.proofs.Moving.{few_kept, progress}
 use Rattle.range_rules.proofs.Printed.{is_serial, stays_consistent}
 use Rattle.range_suits.specs.Laws.{Behaves, IsWell}
 use Rattle.range_suits.specs.Suits.{Suits, is_taken}
-use Rattle.range_resv.specs.Answers.{number_in, lines_in}
+use Rattle.range_resv.specs.Answers.{lines_in}
 use Rattle.range_resv.specs.Commits.{IsCommitted, IsSettled}
 use Rattle.range_resv.specs.Engines.{Between, IsReady, list_from, batch_from}
 use Rattle.range_resv.specs.Lists.{waiting_among}

@@ -6,7 +6,7 @@ use Rattle.std.proofs.lemmas.Simd.{map-map}
 use Rattle.aria_base.specs.Orders.{Cells, Database}
 use Rattle.aria_base.specs.declared.calls.Request.{Request}
 use Rattle.aria_base.specs.declared.keys.Key.{Key}
-use Rattle.batch_core.specs.Steps.{reply_by}
+use Rattle.batch_core.specs.Steps.{number_in, reply_by}
 use Rattle.batch_rules.specs.Batches.{Judged, decided, finishing, waiting, placed, judged_through}
 use Rattle.batch_rules.specs.Touches.{installed}
 use Rattle.batch_rules.specs.Trees.{Tree}
@@ -31,7 +31,7 @@ use Rattle.range_rules.specs.Courses.{ran_on}
 use Rattle.range_rules.proofs.Printed.{same_list}
 use Rattle.range_runs.specs.Indexes.{Listed, IsIndexOf, followed_all}
 use Rattle.range_runs.proofs.Following.{follows_all}
-use Rattle.range_resv.specs.Answers.{number_in, fate_by, lines_in}
+use Rattle.range_resv.specs.Answers.{fate_by, lines_in}
 use Rattle.range_resv.specs.Commits.{IsSettled}
 use Rattle.range_resv.specs.declared.settlements.Settled.{Settled}
 use Rattle.range_resv.specs.Lists.{waiting_among, finishing_among}

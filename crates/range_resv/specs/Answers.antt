@@ -1,5 +1,5 @@
 -- The answer of a batch from what its phases hand on: request numbers by TID, ends of the runs on the batch's start, and verdicts.
-use Rattle.std.specs.Prelude.{ℕ, ◌-◌, List, [], ◌∷◌, slice_index_or}
+use Rattle.std.specs.Prelude.{ℕ, ◌-◌, List, [], ◌∷◌}
 use Rattle.aria_base.specs.declared.keys.Key.{Key}
 use Rattle.batch_core.specs.declared.answers.Line.{Line}
 use Rattle.batch_core.specs.Steps.{reply_by}
@@ -7,10 +7,6 @@ use Rattle.batch_rules.specs.Batches.{Fate, Ended, Waits}
 use Rattle.batch_rules.specs.declared.verdicts.Verdict.{Verdict}
 use Rattle.batch_rules.specs.declared.verdicts.Verdict.TheVariants.{Finish, Wait}
 use Rattle.proc_lang.specs.declared.ends.End.{End}
-
--- the request number of a TID
-abbrev pub number_in : List ℕ → ℕ → ℕ
-number_in numbers tid = slice_index_or numbers (tid - 1) 0
 
 -- a work that finishes has this end, and one that waits its cause
 abbrev pub fate_by : End → Verdict → Fate Key End

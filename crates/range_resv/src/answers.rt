@@ -1,11 +1,11 @@
 // The lines and the order of an answer.
-ghost use Rattle.std.specs.Prelude.{◌≡◌, ◌++◌, map, IfOk};
-ghost use Rattle.batch_core.specs.Steps.{wait_by, reply_by};
-ghost use Rattle.range_resv.specs.Answers.{number_in, fate_by, lines_in};
+ghost use Rattle.std.specs.Prelude.{◌≡◌, ◌++◌, IfOk};
+ghost use Rattle.batch_core.specs.Steps.{number_in, reply_by};
+ghost use Rattle.range_resv.specs.Answers.{fate_by, lines_in};
 
 use aria_base::Memory;
-use batch_core::{Line, Reply, Wait};
-use batch_rules::verdicts::{Cause, Verdict};
+use batch_core::{Line, Reply, wait_in};
+use batch_rules::verdicts::Verdict;
 use proc_lang::End;
 use std::alloc::Global;
 
@@ -44,38 +44,6 @@ fn reply(numbers: &[u64], end: End, verdict: Verdict) -> Reply
 {
     match verdict {
         Verdict::Finish { raw: _ } => Reply::Ended(end),
-        Verdict::Wait(cause) => Reply::Waits(wait(numbers, cause)),
+        Verdict::Wait(cause) => Reply::Waits(wait_in(numbers, cause)),
     }
-}
-
-/// A cause by request numbers.
-fn wait(numbers: &[u64], cause: Cause) -> Wait
-    ensures { result ≡ wait_by (number_in numbers.now) cause }
-{
-    match cause {
-        Cause::Waw(waw) => Wait::Waw(number(numbers, waw)),
-        Cause::Raw(raw) => Wait::Raw(number(numbers, raw)),
-        Cause::Both(raw, war) => Wait::Both(number(numbers, raw), number(numbers, war)),
-    }
-}
-
-/// The number of the work with this TID.
-fn number(numbers: &[u64], tid: u32) -> u64
-    ensures { result ≡ number_in numbers.now tid }
-{
-    match numbers.get((tid as usize).saturating_sub(1)) {
-        Some(&q) => q,
-        None => 0,
-    }
-}
-
-/// The numbers of the works with these TIDs.
-pub(crate) fn numbers_at(alloc: Global, numbers: &[u64], tids: &[u32]) -> Result<Vec<u64>, Memory>
-    ensures { IfOk result (λ order. order.items ≡ map (number_in numbers.now) tids.now) }
-{
-    let mut order = Vec::with_capacity(alloc, tids.len())?;
-    for tid in tids {
-        order.push(number(numbers, *tid))?;
-    }
-    Ok(order)
 }

@@ -4,14 +4,15 @@ ghost use Rattle.aria_base.specs.Orders.{Cells, Database};
 ghost use Rattle.aria_base.specs.declared.calls.Request.{Request};
 ghost use Rattle.aria_base.specs.declared.keys.Key.{Key as Named};
 ghost use Rattle.aria_base.specs.declared.limits.TheConstants.{MOST_REQUESTS};
+ghost use Rattle.batch_core.specs.Steps.{number_in};
 ghost use Rattle.reorder.specs.Orders.{placed_tids};
-ghost use Rattle.range_resv.specs.Answers.{number_in, lines_in};
+ghost use Rattle.range_resv.specs.Answers.{lines_in};
 ghost use Rattle.range_resv.specs.Lists.{waiting_among};
 
-use crate::answers::{lines_of, numbers_at};
+use crate::answers::lines_of;
 use crate::lists::{numbers_of, waiting_of};
 use aria_base::{Items, Memory};
-use batch_core::{Order, Replies};
+use batch_core::{Order, Replies, numbers_in};
 use batch_rules::verdicts::Verdict;
 use proc_lang::End;
 use range_rules::NumberedWork;
@@ -44,7 +45,7 @@ pub(crate) fn settle(
     let numbers = numbers_of(alloc, &list)?;
     let lines = lines_of(alloc, &numbers, ends, verdicts)?;
     let tids = place(alloc, verdicts)?;
-    let order = numbers_at(alloc, &numbers, &tids)?;
+    let order = numbers_in(alloc, &numbers, &tids)?;
     let carried = waiting_of(alloc, list, verdicts)?;
     Ok(Settled {
         carried,

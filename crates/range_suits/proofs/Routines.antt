@@ -1,22 +1,21 @@
 -- A routine whose actions fit a schema touches whole keys, and keeps rows consistent.
-use Rattle.std.proofs.Common.{◌≡◌, List, map, length, slice_get, true, false, cond, Some, None, Option, refl, sym, ap}
-use Rattle.std.proofs.Common.{subst, ◌∙◌}
+use Rattle.std.proofs.Common.{◌≡◌, List, map, length, slice_get, true, Some, None, Option, sym, ap}
+use Rattle.std.proofs.Common.{◌∙◌}
 use Rattle.std.specs.Prelude.{IsSomeAnd}
 use Rattle.std.specs.List.{All}
-use Rattle.std.specs.Ordering.{eq_by_cmp}
-use Rattle.std.specs.FinMap as fin
 use Rattle.std.proofs.lemmas.Bool.{eq-eqb}
 use Rattle.std.proofs.lemmas.List.{length-map}
 use Rattle.std.proofs.lemmas.List.Elements.{All-nil}
 use Rattle.aria_base.specs.Kinds.{value_kind, part_kind}
 use Rattle.aria_base.specs.Orders.{key_cmp, Cells, Database}
-use Rattle.aria_base.specs.Schemas.{Fits, IsConsistent}
+use Rattle.aria_base.specs.Schemas.{IsConsistent}
 use Rattle.aria_base.specs.declared.keys.Key.{Key}
 use Rattle.aria_base.specs.declared.schemas.Table.{Table}
-use Rattle.aria_base.proofs.Orders.{key_cmp_total, key_cmp-IsAntisymmetric}
+use Rattle.aria_base.proofs.Fitting.{MayStand, fit_changed}
+use Rattle.aria_base.proofs.Orders.{key_cmp_total}
 use Rattle.batch_rules.specs.Trees.{Read as visit_read, Write as visit_write, set_at}
 use Rattle.batch_rules.specs.Touches.{is_among}
-use Rattle.batch_rules.proofs.Maps.{get-set_at, same_key}
+use Rattle.batch_rules.proofs.Maps.{get-set_at}
 use Rattle.range_rules.specs.declared.routines.Action.{Action}
 use Rattle.range_rules.specs.declared.routines.Action.TheVariants.{Read, Write, Scan, Stop}
 use Rattle.range_rules.specs.declared.routines.Seen.{Seen}
@@ -43,12 +42,9 @@ module _ (schema : List Table) where
       at None fits = fits
       at (Some table) fits = fits.0
 
-  set_fits : (db : Database) (k : Key) (row : Option Cells) → IsConsistent schema db → FitsWrite schema k row → IsConsistent schema (set_at db k row)
-  set_fits db k row c fits q cells e = elim (eq_by_cmp key_cmp q k) as (λ b. eq_by_cmp key_cmp q k ≡ b → cond b row (fin.get db q) ≡ Some cells
-      → Fits schema q cells) [
-        | true ↦ λ same e. subst (λ k. Fits schema k cells) (sym (same_key key_cmp-IsAntisymmetric q k same)) (subst (FitsWrite schema k) e fits)
-        | false ↦ λ other e. c q cells e
-      ] refl (sym (get-set_at key_cmp_total db k row q) ∙ e)
+  may_stand : (k : Key) (row : Option Cells) → FitsWrite schema k row → MayStand schema k row
+  may_stand k None fits = tt
+  may_stand k (Some row) fits = fits
 
   abbrev IsWhole : Key → Type 0
   IsWhole k = is_whole schema k ≡ true
@@ -61,7 +57,7 @@ module _ (schema : List Table) where
   kept_by : (c : Course) (a : Action) → FitsAction schema a → FitsCourse c → FitsCourse (after_action c a)
   kept_by c (Read k) fits h = record { rows = h.rows; noted = note_one IsWhole c.noted (visit_read k) h.noted (whole_from k fits); scans = h.scans }
   kept_by c (Write k row) fits h = record {
-    rows = set_fits c.map k row h.rows fits;
+    rows = fit_changed schema c.map (set_at c.map k row) k row h.rows (may_stand k row fits) (get-set_at key_cmp_total c.map k row);
     noted = note_one IsWhole c.noted (visit_write k row) h.noted (whole_from k (key_fits k row fits));
     scans = h.scans;
   }

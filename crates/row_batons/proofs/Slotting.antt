@@ -17,10 +17,8 @@ use Rattle.batch_rules.proofs.Maps.{same_key}
 use Rattle.dep_rules.specs.Sheets.{AllBelow}
 use Rattle.proc_exec.specs.declared.outcomes.Waiting.{Waiting}
 use Rattle.std.proofs.lemmas.List.{get_or_default}
+use Rattle.std.proofs.lemmas.Option.{none-some}
 use Rattle.row_batons.specs.Layouts.{AreAsMany, Slotted, slot_in, with_slot, with_slot_by, with_slots, all_with_slots}
-
-none_some : {P : Type 0} (n : ℕ) → None ≡ Some n → P
-none_some n e = cc
 
 some_same : (m n : ℕ) → Some m ≡ Some n → m ≡ n
 some_same m n e = ap (λ o. unwrap_or o 0) e
@@ -79,7 +77,7 @@ module _ (keys : List Key) (number : Key → ℕ) (one : IsOneToOneOn key_cmp ke
     else n ne = get_or-set_other s.table (number key) n (Some (length s.keys)) None ne
 
     kept : Stays s more
-    kept n k at = else n (λ same. none_some k (sym none ∙ ap (slot_in s.table) (sym same) ∙ at)) ∙ at
+    kept n k at = else n (λ same. none-some k (sym none ∙ ap (slot_in s.table) (sym same) ∙ at)) ∙ at
 
     one_more : IsStep s more (number key ∷ [])
     one_more = record {
@@ -159,7 +157,7 @@ module _ (keys : List Key) (number : Key → ℕ) (one : IsOneToOneOn key_cmp ke
   none_tells count = record {
     among = λ k q at. absurd (some-ne-none q (sym at));
     at = λ k q at. absurd (some-ne-none q (sym at));
-    there = λ n k at. none_some k (sym (all_none count n) ∙ at);
+    there = λ n k at. absurd (none-some k (sym (all_none count n) ∙ at));
   }
     where
       all_none : (count n : ℕ) → slot_in (replicate count None) n ≡ None

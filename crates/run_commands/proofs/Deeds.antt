@@ -3,6 +3,7 @@ use Rattle.std.proofs.Common.{◌≡◌, ◌∙◌, sym, ap, subst, refl, ℕ, �
 use Rattle.std.specs.List.{All}
 use Rattle.std.specs.FinMap as fin
 use Rattle.std.proofs.lemmas.List.Elements.{All-nil, All-append, All-cons}
+use Rattle.aria_base.proofs.Fitting.{fit_with}
 use Rattle.aria_base.specs.Orders.{Cells}
 use Rattle.aria_base.specs.Schemas.{Fits}
 use Rattle.aria_base.specs.declared.calls.Call.{Call}
@@ -29,7 +30,6 @@ use Rattle.run_commands.specs.declared.bases.Base.{Base}
 use Rattle.run_commands.specs.declared.bases.Base.TheVariants as base
 use Rattle.run_commands.specs.declared.works.Work.{Work}
 use Rattle.serving.proofs.Nexts.{handed_is}
-use Rattle.run_commands.proofs.Standing.{consistent_with}
 
 -- ---- a row
 
@@ -42,7 +42,8 @@ put_of : (h : ScriptCatalog) (calls : List Call) (b : Base) (key : Key) (row : C
     → IsOf h calls (put_in b key row)
 put_of head.Unnamed calls b key row before fits of = absurd fits
 put_of (head.Text text) calls b key row before fits of = absurd fits
-put_of (head.Ready plan) calls (base.Rows tables config) key row before fits of = (of.0, consistent_with plan.tables tables key row of.1 fits)
+put_of (head.Ready plan) calls (base.Rows tables config) key row before fits of =
+    (of.0, fit_with plan.tables tables (fin.insert tables key row) key row of.1 fits refl)
 put_of (head.Ready plan) calls (base.Runs live) key row before fits of = absurd before
 
 put_ended : (rows : Bool) (b : Base) (key : Key) (row : Cells) → HasEnded rows b → HasEnded rows (put_in b key row)

@@ -1,18 +1,10 @@
 -- A script keeps what is true of it from line to line.
-use Rattle.std.proofs.Common.{◌≡◌, ◌∙◌, sym, ap, subst, refl, ◌+◌, ◌<◌, ◌≤◌, Bool, true, false, cond, List, [], length, Some}
+use Rattle.std.proofs.Common.{◌≡◌, ◌∙◌, sym, ap, subst, ◌+◌, ◌<◌, ◌≤◌, Bool, true, false, List, [], length}
 use Rattle.std.specs.List.{All}
-use Rattle.std.specs.FinMap as fin
-use Rattle.std.specs.FinMap.{get-empty, get-insert}
-use Rattle.std.specs.Ordering.{eq_by_cmp}
 use Rattle.std.proofs.lemmas.List.Elements.{All-nil}
-use Rattle.aria_base.proofs.Orders.{key_cmp_total, key_cmp-IsAntisymmetric}
-use Rattle.aria_base.specs.Orders.{key_cmp, Cells, Database}
-use Rattle.aria_base.specs.Schemas.{Fits, IsConsistent}
+use Rattle.aria_base.proofs.Fitting.{none_fit}
 use Rattle.aria_base.specs.declared.calls.Call.{Call}
-use Rattle.aria_base.specs.declared.keys.Key.{Key}
 use Rattle.aria_base.specs.declared.limits.TheConstants.{GREATEST_NUMBER, MOST_REQUESTS}
-use Rattle.aria_base.specs.declared.schemas.Table.{Table}
-use Rattle.batch_rules.proofs.Maps.{same_key}
 use Rattle.proc_lang.specs.Catalogs.{Plan, takes}
 use Rattle.script_places.specs.Follows.{Follows, HeadStays}
 use Rattle.script_places.specs.Places.{is_check}
@@ -30,24 +22,8 @@ use Rattle.run_commands.specs.declared.works.Work.{Work}
 -- ---- rows of a catalogue
 
 blank_under : (plan : Plan) (b : Base) → IsBlank b → IsUnder plan b
-blank_under plan (base.Rows tables config) e =
-    subst (λ (db : Database). IsConsistent plan.tables db) (sym e) (λ key row found. absurd (let none = get-empty {X = Cells} key_cmp key in cc))
+blank_under plan (base.Rows tables config) e = none_fit plan.tables tables e
 blank_under plan (base.Runs live) e = absurd e
-
-by_test : (schema : List Table) (db : Database) (key q : Key) (row cells : Cells) (same : Bool) → (same ≡ true → q ≡ key) → IsConsistent schema db
-    → Fits schema key row
-    → cond same (Some row) (fin.get db q) ≡ Some cells → Fits schema q cells
-by_test schema db key q row cells true is whole fits e =
-    let here : Fits schema q row = subst (λ (k : Key). Fits schema k row) (sym (is refl)) fits in
-    let same_row : row ≡ cells = (let a : Some row ≡ Some cells = e in cc) in
-    subst (λ (r : Cells). Fits schema q r) same_row here
-by_test schema db key q row cells false is whole fits e = whole q cells e
-
-pub consistent_with : (schema : List Table) (db : Database) (key : Key) (row : Cells) → IsConsistent schema db → Fits schema key row
-    → IsConsistent schema (fin.insert db key row)
-consistent_with schema db key row whole fits = λ q cells found.
-    by_test schema db key q row cells (eq_by_cmp key_cmp q key) (λ e. same_key key_cmp-IsAntisymmetric q key e) whole fits
-    (sym (get-insert key_cmp_total db key row q) ∙ found)
 
 -- ---- the head goes on
 

@@ -1,19 +1,17 @@
 -- How far a text is taken by a piece.
-use Rattle.std.proofs.Common.{◌≡◌, ℕ, ◌+◌, ◌≤◌, List, [], ◌∷◌, ◌++◌, length, Bool, true, false, cond, ◌==◌, Some, None, refl, sym, ap, ◌∙◌, arith}
+use Rattle.std.proofs.Common.{◌≡◌, ℕ, ◌+◌, ◌≤◌, List, [], ◌∷◌, ◌++◌, length, Bool, true, false, cond, ◌==◌, None, refl, sym, ap, ◌∙◌, arith}
 use Rattle.std.proofs.lemmas.Bool.{leb-false}
+use Rattle.std.proofs.lemmas.Option.{none-some}
 use Rattle.script_text.specs.Lines.{Feed, Scan, scan, scan_after, stopped, is_past_line, is_past_limit, with_feed, with_byte, unreturned}
 use Rattle.script_text.specs.declared.refusals.RefusalKind.TheVariants.{Long, Size}
-
-none_some : {A : Type 0} {X : Type 0} (a : A) → Some a ≡ None → X
-none_some a e = absurd cc
 
 -- each byte that is not past a bound was taken
 counts : (done : List (List ℕ)) (feed : Feed) (n : ℕ) (long size feeds : Bool) (next other : Scan)
     → (next.fault ≡ None → next.feed.taken ≡ feed.taken + 1 + n) → (other.fault ≡ None → other.feed.taken ≡ feed.taken + 1 + n)
     → (cond long (stopped done feed Long) (cond size (stopped done feed Size) (cond feeds next other))).fault ≡ None
     → (cond long (stopped done feed Long) (cond size (stopped done feed Size) (cond feeds next other))).feed.taken ≡ feed.taken + 1 + n
-counts done feed n true size feeds next other h k e = none_some _ e
-counts done feed n false true feeds next other h k e = none_some _ e
+counts done feed n true size feeds next other h k e = absurd (none-some _ (sym e))
+counts done feed n false true feeds next other h k e = absurd (none-some _ (sym e))
 counts done feed n false false true next other h k e = h e
 counts done feed n false false false next other h k e = k e
 
@@ -46,8 +44,8 @@ fits : (done : List (List ℕ)) (feed : Feed) (long size feeds : Bool) (next oth
     → (size ≡ false → other.fault ≡ None → other.feed.taken ≤ feed.limit)
     → (cond long (stopped done feed Long) (cond size (stopped done feed Size) (cond feeds next other))).fault ≡ None
     → (cond long (stopped done feed Long) (cond size (stopped done feed Size) (cond feeds next other))).feed.taken ≤ feed.limit
-fits done feed true size feeds next other h k e = none_some _ e
-fits done feed false true feeds next other h k e = none_some _ e
+fits done feed true size feeds next other h k e = absurd (none-some _ (sym e))
+fits done feed false true feeds next other h k e = absurd (none-some _ (sym e))
 fits done feed false false true next other h k e = h refl e
 fits done feed false false false next other h k e = k refl e
 

@@ -10,5 +10,4 @@ pub mod TextsRead
 pub mod TokensAgain
 pub mod TokensCut
 pub mod TokensRead
-pub mod WordsRead
 pub mod WrittenAgain

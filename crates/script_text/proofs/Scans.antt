@@ -1,19 +1,17 @@
 -- Lines do not depend on how their text was cut, and are what stands between its line feeds.
-use Rattle.std.proofs.Common.{◌≡◌, ℕ, ◌+◌, ◌<◌, List, [], ◌∷◌, ◌++◌, Bool, true, false, cond, ◌==◌, Some, None, refl, sym, ap, ◌∙◌, append_assoc, length, map, not, arith}
+use Rattle.std.proofs.Common.{◌≡◌, ℕ, ◌+◌, ◌<◌, List, [], ◌∷◌, ◌++◌, Bool, true, false, cond, ◌==◌, None, refl, sym, ap, ◌∙◌, append_assoc, length, map, not, arith}
 use Rattle.script_text.specs.Lines.{Feed, Scan, blank, last_line, scan, scan_after, stopped, is_past_line, is_past_limit, with_feed, with_byte, unreturned}
 use Rattle.std.specs.Prelude.{option_to_list}
 use Rattle.std.specs.List.{slice_split}
 use Rattle.std.proofs.lemmas.Bool.{and_from}
 use Rattle.std.proofs.lemmas.List.{append-nil}
 use Rattle.std.proofs.lemmas.List.Splits.{slice_split_none, slice_split_at, length-slice_split}
+use Rattle.std.proofs.lemmas.Option.{none-some}
 use Rattle.script_text.proofs.Places.{all_joined}
 use Rattle.script_text.proofs.Splits.{lacks_all}
 use Rattle.script_text.specs.Cuts.{Lacks}
 use Rattle.script_text.specs.Laws.{filled, lines_of, all_lines, lead}
 use Rattle.script_text.specs.declared.refusals.RefusalKind.TheVariants.{Long, Size}
-
-none_some : {A : Type 0} {X : Type 0} (a : A) → Some a ≡ None → X
-none_some a e = absurd cc
 
 -- one byte, where those behind it were looked at already
 step : (done : List (List ℕ)) (feed : Feed) (long size feeds : Bool) (next other next' other' : Scan) (b : List ℕ)
@@ -22,8 +20,8 @@ step : (done : List (List ℕ)) (feed : Feed) (long size feeds : Bool) (next oth
     → cond long (stopped done feed Long) (cond size (stopped done feed Size) (cond feeds next' other'))
     ≡ scan_after (cond long (stopped done feed Long) (cond size (stopped done feed Size) (cond feeds next other))).lines
     (cond long (stopped done feed Long) (cond size (stopped done feed Size) (cond feeds next other))).feed b
-step done feed true size feeds next other next' other' b h k e = none_some _ e
-step done feed false true feeds next other next' other' b h k e = none_some _ e
+step done feed true size feeds next other next' other' b h k e = absurd (none-some _ (sym e))
+step done feed false true feeds next other next' other' b h k e = absurd (none-some _ (sym e))
 step done feed false false true next other next' other' b h k e = h e
 step done feed false false false next other next' other' b h k e = k e
 
@@ -104,8 +102,8 @@ line : (done : List (List ℕ)) (feed : Feed) (long size feeds : Bool) (next oth
     → (next.fault ≡ None → feeds ≡ true → all_lines next ≡ lines) → (other.fault ≡ None → feeds ≡ false → all_lines other ≡ lines)
     → (cond long (stopped done feed Long) (cond size (stopped done feed Size) (cond feeds next other))).fault ≡ None
     → all_lines (cond long (stopped done feed Long) (cond size (stopped done feed Size) (cond feeds next other))) ≡ lines
-line done feed true size feeds next other lines h k e = none_some _ e
-line done feed false true feeds next other lines h k e = none_some _ e
+line done feed true size feeds next other lines h k e = absurd (none-some _ (sym e))
+line done feed false true feeds next other lines h k e = absurd (none-some _ (sym e))
 line done feed false false true next other lines h k e = h e refl
 line done feed false false false next other lines h k e = k e refl
 

@@ -123,7 +123,7 @@ fn only_token(line: &[u8]) -> Option<&[u8]>
 }
 
 /// A word as a text.
-#[tactic(auto, using(crate::proofs::WordsRead::word_is_short, crate::proofs::WordsRead::word_has_no_bad_byte))]
+#[tactic(auto, using(aria_base::proofs::TextWords::word_is_short, aria_base::proofs::TextWords::word_has_no_bad_byte))]
 fn word(alloc: Global, bytes: &[u8]) -> Result<Txt, Memory>
     requires { is_word bytes.now ≡ true }
     ensures { IfOk result (λ text. text ≡ bytes.now) }

@@ -17,7 +17,7 @@ use script_course::{Stop, give};
 use serving::Live;
 use std::alloc::Global;
 use std::thread::Threads;
-use store_openings::{is_crowded, with_settings};
+use store_openings::{is_crowded, with_settings_of};
 
 /// Why batches were not all answered.
 #[derive(Clone, Copy, Debug, PartialEq, Eq)]
@@ -51,13 +51,8 @@ pub(crate) fn answer<K: Sink, P: Pace + Sync, R: Threads + Sync>(
     ensures sink { K.faults out.old ≤ K.faults out.new }
     ensures cause { IfErr result (λ stop. IsCause stop (Rose (K.faults out.old) (K.faults out.new)) ⊥) }
 {
-    let Logged {
-        rule,
-        fallback,
-        calls,
-    } = logged;
-    let settled = with_settings(live, rule, fallback);
-    match settled.next(rt, alloc, calls, pace) {
+    let settled = with_settings_of(live, &logged);
+    match settled.next(rt, alloc, logged.calls, pace) {
         Ok((next, text)) => give(next, &text, out),
         Err(Memory) => Err(Stop::NoMemory),
     }

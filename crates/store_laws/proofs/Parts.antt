@@ -1,6 +1,7 @@
 -- A text whose last line is complete, and one behind it, in lines: those of the first one and then those of the second one.
 use Rattle.std.proofs.Common.{◌≡◌, ◌⊎◌, inl, inr, ◌∙◌, sym, ap, subst, refl, ℕ, ◌+◌, ◌≤◌, ◌==◌, nat_le, Bool, true, false, cond, not, ◌&&◌, List, [], ◌∷◌, ◌++◌, length, Option, Some, None, append_assoc, length-append, suc, arith}
 use Rattle.std.specs.Prelude.{if◌then◌else◌, option_to_list}
+use Rattle.std.proofs.lemmas.Option.{none-some}
 use Rattle.script_course.proofs.Measures.{scan-taken}
 use Rattle.script_text.proofs.Scans.{cut, scan-faulted}
 use Rattle.script_text.specs.Laws.{all_lines}
@@ -8,9 +9,6 @@ use Rattle.script_text.specs.Lines.{Feed, Scan, blank, is_past_limit, is_past_li
 use Rattle.script_text.specs.declared.refusals.RefusalKind.TheVariants.{Long, Size}
 use Rattle.script_text.specs.declared.refusals.Refusal.{Refusal}
 use Rattle.store_laws.specs.Texts.{EndsLine}
-
-none_some : {A : Type 0} {X : Type 0} (a : A) → Some a ≡ None → X
-none_some a e = absurd cc
 
 -- one byte, where those behind it were looked at already
 abbrev next_by : List (List ℕ) → Feed → Bool → Bool → Bool → Scan → Scan → Scan
@@ -21,8 +19,8 @@ next_by done feed long size feeds next other = cond long (stopped done feed Long
 module _ (P : Scan → Type 0) (done : List (List ℕ)) (feed : Feed) where
   kept_by : (long size feeds : Bool) (next other : Scan) → (next.fault ≡ None → P next) → (other.fault ≡ None → P other)
       → (next_by done feed long size feeds next other).fault ≡ None → P (next_by done feed long size feeds next other)
-  kept_by true size feeds next other h k e = none_some _ e
-  kept_by false true feeds next other h k e = none_some _ e
+  kept_by true size feeds next other h k e = absurd (none-some _ (sym e))
+  kept_by false true feeds next other h k e = absurd (none-some _ (sym e))
   kept_by false false true next other h k e = h e
   kept_by false false false next other h k e = k e
 
@@ -77,9 +75,9 @@ module _ (done : List (List ℕ)) (f g : Feed) where
       → (next.fault ≡ None → Alike next next') → (other.fault ≡ None → Alike other other')
       → (next_by done f long size feeds next other).fault ≡ None
       → Alike (next_by done f long size feeds next other) (next_by done g past full feeds next' other')
-  alike_by true past size full feeds next other next' other' same room h k e = none_some _ e
+  alike_by true past size full feeds next other next' other' same room h k e = absurd (none-some _ (sym e))
   alike_by false true size full feeds next other next' other' same room h k e = absurd cc
-  alike_by false false true full feeds next other next' other' same room h k e = none_some _ e
+  alike_by false false true full feeds next other next' other' same room h k e = absurd (none-some _ (sym e))
   alike_by false false false true feeds next other next' other' same room h k e = absurd (let no : true ≡ false = room refl in cc)
   alike_by false false false false true next other next' other' same room h k e = h e
   alike_by false false false false false next other next' other' same room h k e = k e

@@ -24,4 +24,4 @@ pub use damages::damage_at;
 pub use engines::{RunSettings, begin, log_of};
 pub use openings::open;
 pub use refusals::NotOpened;
-pub use steps::{is_crowded, rerun, settings_with, with_settings};
+pub use steps::{is_crowded, rerun, settings_with, with_settings, with_settings_of};

@@ -43,6 +43,13 @@ pub fn with_settings(live: Live, rule: Rule, fallback: u32) -> Live
     Live { config, ..live }
 }
 
+/// The database with the settings of a logged batch. No memory.
+pub fn with_settings_of(live: Live, logged: &Logged) -> Live
+    ensures { result ≡ record live { config = settings_with live.config logged.now.rule logged.now.fallback } }
+{
+    with_settings(live, logged.rule, logged.fallback)
+}
+
 /// Whether a batch has no room beside what waits. No memory.
 pub fn is_crowded(live: &Live, logged: &Logged) -> bool
     requires { IsRunnable live.now }
@@ -64,13 +71,8 @@ pub fn rerun<P: Pace + Sync, R: Threads + Sync>(
     requires room { is_crowded (state_of live) (batch_in logged) ≡ false }
     ensures { IfOk result (IsStepped live (batch_in logged)) }
 {
-    let Logged {
-        rule,
-        fallback,
-        calls,
-    } = logged;
-    let settled = with_settings(live, rule, fallback);
-    let (next, _answer) = settled.run(rt, alloc, calls, pace)?;
+    let settled = with_settings_of(live, &logged);
+    let (next, _answer) = settled.run(rt, alloc, logged.calls, pace)?;
     Ok(next)
 }
 

@@ -13,7 +13,7 @@ use Rattle.aria_base.specs.Orders.{key_cmp, Cells, Database}
 use Rattle.aria_base.specs.declared.keys.Key.{Key}
 use Rattle.aria_base.proofs.Orders.{key_cmp_total, key_cmp-IsAntisymmetric, same_key}
 use Rattle.tbl_rows.specs.Pools.{Entries, Adds, beside, IsApart, AllApart}
-use Rattle.tbl_rows.proofs.Searched.{find-append}
+use Rattle.aria_base.proofs.Trees.{find-append}
 use Rattle.tbl_rows.proofs.Listed.{apart-append, apart-entries, entries-permuted}
 
 listed-two : (near far : Database) → flat_map fin.entries (near ∷ far ∷ []) ≡ fin.entries near ++ fin.entries far

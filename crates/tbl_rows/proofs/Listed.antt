@@ -22,8 +22,7 @@ use Rattle.aria_base.specs.Orders.{key_cmp, Cells, Database}
 use Rattle.aria_base.specs.declared.keys.Key.{Key}
 use Rattle.aria_base.proofs.Orders.{key_cmp_total, derived_cmp, derived-is, same_key}
 use Rattle.tbl_rows.specs.Pools.{Entries, AllApart, Adds}
-use Rattle.aria_base.proofs.Trees.{entries-is}
-use Rattle.tbl_rows.proofs.Searched.{find-append}
+use Rattle.aria_base.proofs.Trees.{entries-is, find-append}
 
 pub nil_apart : AllApart []
 unfolding IsDistinct

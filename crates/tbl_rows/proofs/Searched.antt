@@ -1,5 +1,5 @@
 -- A list of keys with values, searched from its front.
-use Rattle.std.proofs.Common.{◌≡◌, ℕ, zero, suc, ◌+◌, ◌<◌, List, [], ◌∷◌, ◌++◌, length, Option, Some, None, Bool, cond, true, false, refl, sym, ap, ◌∙◌, arith}
+use Rattle.std.proofs.Common.{◌≡◌, ℕ, zero, suc, ◌+◌, ◌<◌, List, [], ◌∷◌, length, Option, Some, None, Bool, cond, true, false, refl, sym, ap, ◌∙◌, arith}
 use Rattle.std.specs.Prelude.{slice_index_or, slice_set}
 use Rattle.std.specs.Option.{option_or}
 use Rattle.std.specs.List.{position, position_from}
@@ -21,15 +21,6 @@ apart_stays q k w x apart =
     ] refl
 
 module _ {X : Type 0} where
-  pub find-append : (q : Key) (xs ys : List (Key × X)) → fin.find key_cmp q (xs ++ ys) ≡ option_or (fin.find key_cmp q xs) (fin.find key_cmp q ys)
-  find-append q [] ys = refl
-  find-append q (x ∷ xs) ys =
-      elim (eq_by_cmp key_cmp q x.0) as (λ b. cond b (Some x.1) (fin.find key_cmp q (xs ++ ys)) ≡ option_or (cond b (Some x.1) (fin.find key_cmp q xs))
-      (fin.find key_cmp q ys)) [
-        | true ↦ refl
-        | false ↦ find-append q xs ys
-      ]
-
   pub or_none : (v : Option X) → option_or v None ≡ v
   or_none None = refl
   or_none (Some v) = refl

@@ -13,7 +13,8 @@ use Rattle.aria_base.specs.Orders.{key_cmp, Cells, Database}
 use Rattle.aria_base.specs.declared.keys.Key.{Key}
 use Rattle.aria_base.proofs.Orders.{key_cmp_total, key_cmp-IsAntisymmetric, same_key}
 use Rattle.tbl_rows.specs.Pools.{Entries, AllApart, Adds, pooled, IsSpread}
-use Rattle.tbl_rows.proofs.Searched.{apart_stays, find-append, or_none}
+use Rattle.aria_base.proofs.Trees.{find-append}
+use Rattle.tbl_rows.proofs.Searched.{apart_stays, or_none}
 use Rattle.tbl_rows.proofs.Listed.{nil_apart, apart-append, apart-entries, entries-permuted}
 
 abbrev pub listed : List Database → Entries

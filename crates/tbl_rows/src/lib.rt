@@ -10,8 +10,8 @@
 //! Tables         | Shard | Shard |  .. | Shard |
 //!                +-------+-------+-    +-------+
 //!                   /          \
-//! Rows   Pool                    Overflow
-//!        Bucket | Bucket | ..    an ordered map
+//! Rows   Pool                    SortedRows
+//!        Bucket | Bucket | ..    an ordered map: the overflow
 //! ```
 //!
 //! A key's hash tells its shard, and its bucket there: a short list of rows, and beside it the list of their
@@ -25,11 +25,11 @@ mod buckets;
 mod entries;
 mod hashes;
 mod homes;
-mod overflows;
 mod pools;
 mod refusals;
 mod rows;
 mod shards;
+mod sorted_rows;
 mod spents;
 mod tables;
 
@@ -37,5 +37,6 @@ pub use hashes::hash_of;
 pub use homes::{SHARDS, shard_of};
 pub use refusals::Refused;
 pub use shards::Shard;
+pub use sorted_rows::SortedRows;
 pub use spents::Spent;
 pub use tables::Tables;

@@ -7,9 +7,9 @@ ghost use Rattle.std.specs.FinMap as fin;
 ghost use Rattle.tbl_rows.specs.Hashes.{hash_of};
 ghost use Rattle.tbl_rows.specs.Pools.{IsApart};
 
-use crate::overflows::Overflow;
 use crate::pools::Pool;
 use crate::refusals::Refused;
+use crate::sorted_rows::SortedRows;
 use crate::spents::Spent;
 use aria_base::{Duplicate, Key, Memory, Row};
 use std::alloc::Global;
@@ -21,7 +21,7 @@ use std::marker::Model;
 #[derive(Drop)]
 pub(crate) struct Rows {
     pool: Pool,
-    overflow: Overflow,
+    overflow: SortedRows,
 }
 
 impl Model for Rows {
@@ -44,7 +44,7 @@ impl Rows {
         ensures { IfOk result (λ rows. rows ≡ fin.empty) }
     {
         let pool = Pool::new(alloc)?;
-        let overflow = Overflow::new(alloc);
+        let overflow = SortedRows::new(alloc);
         Ok(Rows { pool, overflow })
     }
 
@@ -101,7 +101,7 @@ impl Rows {
 
 /// Whether the row of this key belongs to the overflow: it stands there, or its bucket is crowded by
 /// others.
-fn overflows(pool: &Pool, overflow: &Overflow, hash: u64, key: &Key) -> bool
+fn overflows(pool: &Pool, overflow: &SortedRows, hash: u64, key: &Key) -> bool
     requires hash { hash ≡ hash_of key.now }
     requires apart { IsApart pool.now overflow.now }
     ensures { MatchBool result (fin.get pool.now key.now ≡ None) (fin.get overflow.now key.now ≡ None) }

@@ -49,7 +49,7 @@ pub fn calls(rt: &impl Abort, alloc: Global, asks: &[Ask]) -> Vec<Call> {
 }
 
 /// Puts an account.
-#[tactic(auto, using(crate::proofs::Readiness::fit_with))]
+#[tactic(auto, using(aria_base::proofs::Fitting::fit_with))]
 fn put(rt: &impl Abort, alloc: Global, catalog: &Catalog, tables: &mut Tables, account: Account)
     requires { IsConsistent catalog.now.tables tables.old }
     ensures { IsConsistent catalog.now.tables tables.new }
@@ -60,7 +60,7 @@ fn put(rt: &impl Abort, alloc: Global, catalog: &Catalog, tables: &mut Tables, a
 }
 
 /// The tables of these accounts.
-#[tactic(auto, using(crate::proofs::Readiness::fit_nowhere))]
+#[tactic(auto, using(aria_base::proofs::Fitting::none_fit))]
 fn tables(rt: &impl Abort, alloc: Global, catalog: &Catalog, accounts: &[Account]) -> Tables
     ensures { IsConsistent catalog.now.tables result }
 {

@@ -54,7 +54,7 @@ pub fn holds(rt: &impl Abort, what: &str, at: u64, found: bool) {
 }
 
 /// An engine without rows, before its first batch.
-#[tactic(auto, using(crate::proofs::Readiness::fit_nowhere))]
+#[tactic(auto, using(aria_base::proofs::Fitting::none_fit))]
 pub fn engine(rt: &impl Abort, alloc: Global) -> ScanEngine {
     let catalog = read_catalog(alloc, TEXT.as_bytes()).expect(rt, "a catalogue");
     let tables = Tables::new(alloc).expect(rt, MEMORY);

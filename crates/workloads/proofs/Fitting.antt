@@ -1,5 +1,5 @@
 -- The rows that a workload begins with fit its catalogue.
-use Rattle.std.proofs.Common.{◌≡◌, true, false, cond, ℕ, zero, suc, ◌+◌, ◌-◌, nat_le, slice_index_or, Bool, Option, Some, None, List, [], ◌∷◌, ◌++◌, map, refl, sym, ap, ◌∙◌, subst}
+use Rattle.std.proofs.Common.{◌≡◌, true, false, cond, ℕ, zero, suc, ◌+◌, ◌-◌, nat_le, slice_index_or, Bool, Option, Some, List, [], ◌∷◌, ◌++◌, map, refl, sym, ap, ◌∙◌, subst}
 use Rattle.std.specs.Prelude.{⊤, Result, Ok, Err, IfOk}
 use Rattle.std.specs.List.{range_with_len}
 use Rattle.std.specs.Ordering.{eq_by_cmp}
@@ -12,6 +12,7 @@ use Rattle.aria_base.specs.Orders.{Cells, Database, key_cmp}
 use Rattle.aria_base.specs.Schemas.{Fits, IsConsistent}
 use Rattle.aria_base.specs.declared.keys.Key.{Key}
 use Rattle.aria_base.specs.declared.schemas.Table.{Table}
+use Rattle.aria_base.proofs.Fitting.{fit_with, none_fit}
 use Rattle.aria_base.proofs.Orders.{key_cmp_total, key_cmp-IsAntisymmetric}
 use Rattle.batch_rules.proofs.Maps.{same_key}
 use Rattle.cat_builtin.specs.Ycsb.{ycsb}
@@ -60,12 +61,7 @@ entries_fit tables es h q row e = found_fit tables es h q row (sym (fin.get-from
 laid_fit : (tables : List Table) (rows : Database) (rs : List (Key × Cells)) → IsConsistent tables rows → AreFit tables rs → IsConsistent tables (laid rows rs)
 laid_fit tables rows [] h k = h
 laid_fit tables rows (r ∷ rs) h k =
-    let first : IsConsistent tables (fin.insert rows r.0 r.1) = λ q row e.
-    at_key tables r.0 q r.1 row (fin.get rows q) (eq_by_cmp key_cmp q r.0) refl k.0 (h q row) (sym (fin.get-insert key_cmp_total rows r.0 r.1 q) ∙ e) in
-    laid_fit tables (fin.insert rows r.0 r.1) rs first k.1
-
-none_fits : IsConsistent tpcc.tables fin.empty
-none_fits q row e = let none : None ≡ Some row = sym (fin.get-empty key_cmp q) ∙ e in cc
+    laid_fit tables (fin.insert rows r.0 r.1) rs (fit_with tables rows (fin.insert rows r.0 r.1) r.0 r.1 h k.0 refl) k.1
 
 -- ---- accesses to single rows
 
@@ -151,7 +147,8 @@ head_fits s g =
 
 generator_fits : (g : Generator) → IsConsistent (plan_of g).tables (rows_of g)
 generator_fits (load.Ycsb s) = ycsb_fit s.keys
-generator_fits (load.Tpcc s) = laid_fit tpcc.tables fin.empty (heads.head s (standing s.number 1 0)).0 none_fits (head_fits s (standing s.number 1 0))
+generator_fits (load.Tpcc s) =
+    laid_fit tpcc.tables fin.empty (heads.head s (standing s.number 1 0)).0 (none_fit tpcc.tables fin.empty refl) (head_fits s (standing s.number 1 0))
 
 -- a catalogue and rows that were made, if there was memory
 pub head_fits_by : {E : Type 0} (g : Generator) (result : Result (Plan × Database) E) → IfOk result (λ head. head.0 ≡ plan_of g)

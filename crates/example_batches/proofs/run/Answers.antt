@@ -1,23 +1,17 @@
 use Rattle.std.proofs.Common.{◌≡◌, sym, subst, true, List, [], arith}
 use Rattle.std.specs.FinMap as fin
-use Rattle.std.specs.FinMap.{get-empty}
 use Rattle.std.proofs.lemmas.List.Elements.{All-nil}
-use Rattle.aria_base.specs.Orders.{key_cmp, Cells, Database}
-use Rattle.aria_base.specs.Schemas.{IsConsistent}
+use Rattle.aria_base.proofs.Fitting.{none_fit}
+use Rattle.aria_base.specs.Orders.{Database}
 use Rattle.aria_base.specs.declared.calls.Request.{Request}
 use Rattle.batch_engine.specs.Engines.{IsReady}
 use Rattle.proc_lang.specs.Catalogs.{Plan, takes}
 use Rattle.example_batches.proofs.run.Goals as goal
 
--- no rows fit every catalogue
-none_fit : (plan : Plan) (rows : Database) → rows ≡ fin.empty → IsConsistent plan.tables rows
-none_fit plan rows e = subst (λ (db : Database). IsConsistent plan.tables db) (sym e)
-    (λ key row found. absurd (let none = get-empty {X = Cells} key_cmp key in cc))
-
 -- an engine without rows and requests is ready for its first batch
 ready_at_first : (plan : Plan) (rows : Database) (carried : List Request) → rows ≡ fin.empty → carried ≡ [] → IsReady plan rows carried 0 0
 ready_at_first plan rows carried empty none = subst (λ (l : List Request). IsReady plan rows l 0 0) (sym none) (record {
-  consistent = none_fit plan rows empty;
+  consistent = none_fit plan.tables rows empty;
   fit = All-nil (λ request. takes plan request.call ≡ true);
   numbered = omega arith;
   few = omega arith;

@@ -4,7 +4,8 @@ use Rattle.batch_core.specs.declared.answers.Line.{Line}
 use Rattle.proc_exec.specs.Lates.{fate_of}
 use Rattle.proc_lang.specs.Catalogs.{run_of}
 use Rattle.reorder.specs.Orders.{ordered_tids}
-use Rattle.batch_engine.specs.Answers.{number_in, lines_in, is_final, still_waiting}
+use Rattle.batch_core.specs.Steps.{number_in}
+use Rattle.batch_engine.specs.Answers.{lines_in, is_final, still_waiting}
 use Rattle.batch_engine.proofs.Settling.{few_among, length-lines}
 use Rattle.batch_engine.proofs.Settling as settling
 use Rattle.std.specs.List.{All}

@@ -1,6 +1,7 @@
 use Rattle.std.proofs.Common.{◌≡◌, ◌++◌}
 use Rattle.std.specs.Vec.Iter.{into_iter_items}
-use Rattle.range_resv.specs.Answers.{number_in, lines_in}
+use Rattle.batch_core.specs.Steps.{number_in}
+use Rattle.range_resv.specs.Answers.{lines_in}
 use Rattle.range_resv.proofs.answers.lines_of.Given as goal
 
 abbrev pub invariant-loop-end : goal.invariant-loop-end

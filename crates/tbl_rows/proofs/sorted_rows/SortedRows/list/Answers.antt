@@ -1,7 +1,7 @@
 use Rattle.std.proofs.Common.{◌++◌, ap, sym, ◌∙◌, map}
 use Rattle.std.specs.Map.Iter.{deref_pair}
 use Rattle.aria_base.proofs.Trees.{entries-from_entries}
-use Rattle.tbl_rows.proofs.overflows.Overflow.list.Goals as goal
+use Rattle.tbl_rows.proofs.sorted_rows.SortedRows.list.Goals as goal
 
 pub loop-key-init : goal.loop-key-init
 loop-key-init c =

@@ -1,6 +1,6 @@
 use Rattle.std.proofs.Common.{refl}
 use Rattle.tbl_rows.proofs.Trees.{copied-more, from_entries-copied}
-use Rattle.tbl_rows.proofs.overflows.OverflowDuplicate.duplicate.Goals as goal
+use Rattle.tbl_rows.proofs.sorted_rows.SortedRowsDuplicate.duplicate.Goals as goal
 
 pub loop-key-preserved-in_ok-insert : goal.loop-key-preserved-in_ok-insert
 loop-key-preserved-in_ok-insert c = copied-more _ _ _ _ _ _ _ _ c.loop-key.invariant c.in-Some.ensures.steps c.in_ok-duplicate.ensures

@@ -1,7 +1,7 @@
 use Rattle.std.proofs.Common.{refl, rules}
 use Rattle.aria_base.proofs.Trees.{from_entries-insert}
-use Rattle.tbl_rows.proofs.overflows.Overflow.put.Goals as goal
-use Rattle.tbl_rows.proofs.overflows.Overflow.put.Goals.{in-Ok, in-Err}
+use Rattle.tbl_rows.proofs.sorted_rows.SortedRows.put.Goals as goal
+use Rattle.tbl_rows.proofs.sorted_rows.SortedRows.put.Goals.{in-Ok, in-Err}
 
 pub returns-clause-put : goal.returns-clause-put
 returns-clause-put c = elim c.match-insert.branch [

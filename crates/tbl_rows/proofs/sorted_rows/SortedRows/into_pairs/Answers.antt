@@ -1,6 +1,6 @@
 use Rattle.std.proofs.Common.{sym, ◌∙◌}
 use Rattle.aria_base.proofs.Trees.{entries-from_entries}
-use Rattle.range_runs.proofs.found.Found.into_pairs.Goals as goal
+use Rattle.tbl_rows.proofs.sorted_rows.SortedRows.into_pairs.Goals as goal
 
 pub loop-key-init : goal.loop-key-init
 loop-key-init c =
