@@ -1,5 +1,6 @@
 pub mod LastWaves
 pub mod Filling
+pub mod Fitted
 mod KeyTables
 mod NumberTables
 mod Numbers

@@ -2,11 +2,10 @@ use Rattle.std.proofs.Common.{◌≡◌, suc, length, ap, sym, ◌∙◌, ◌+�
 use Rattle.std.specs.List.{All}
 use Rattle.std.proofs.lemmas.List.{length-map}
 use Rattle.proc_lang.specs.Catalogs.{run_of}
-use Rattle.aria_base.specs.Schemas.{IsConsistent}
-use Rattle.proc_sound.proofs.Runs.{catalog_stays_consistent_is}
 use Rattle.fallback_locks.specs.Reruns.{in_waves, wave_finds, so_far, places, AreDone}
 use Rattle.fallback_locks.proofs.Filling.{none_filled, wave_step, all_waves, all_some, waves_length}
-use Rattle.fallback_locks.proofs.Filling.{group_below, group_is, last_is, group_few, dones_within, late_keeps}
+use Rattle.fallback_locks.proofs.Filling.{group_below, group_is, last_is, group_few, dones_within}
+use Rattle.fallback_locks.proofs.Fitted.{rows_still_fit}
 use Rattle.fallback_locks.proofs.reruns.rerun_in_waves.Goals as goal
 
 pub loop-group-init : goal.loop-group-init
@@ -96,8 +95,4 @@ returns-clause-fold g c =
     (c.tables-2.view_is ∙ c.loop-group.invariant.0) (c.in_ok-all_of.ensures ∙ c.loop-group.invariant.1)
 
 pub returns-clause-fit : goal.returns-clause-fit
-returns-clause-fit g c = λ fits.
-    let plan = c.args.catalog.now in
-    subst (IsConsistent plan.tables) (sym (returns-clause-fold g c).rows)
-    (late_keeps (run_of plan) (IsConsistent plan.tables) c.args.waiting.now c.args.tables
-    (λ k d below rows before. (catalog_stays_consistent_is plan _ rows fits.catalog (fits.calls k d below) before).after) fits.rows_fit)
+returns-clause-fit g c = rows_still_fit c.args.catalog.now c.args.waiting.now c.args.tables _ _ (returns-clause-fold g c)

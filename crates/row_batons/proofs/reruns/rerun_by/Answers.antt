@@ -5,9 +5,7 @@ use Rattle.row_batons.specs.Fallbacks.{IsLaidOut, touches_in}
 use Rattle.dep_rules.specs.Sheets.{AllBelow}
 use Rattle.row_batons.specs.Layouts.{AreTouches, AreSlotsOf}
 use Rattle.aria_base.specs.Schemas.{IsConsistent}
-use Rattle.proc_lang.specs.Catalogs.{run_of}
-use Rattle.proc_sound.proofs.Runs.{catalog_stays_consistent_is}
-use Rattle.fallback_locks.proofs.Filling.{late_keeps}
+use Rattle.fallback_locks.proofs.Fitted.{rows_still_fit}
 use Rattle.batch_rules.specs.Touches.{overwritten}
 use Rattle.row_batons.specs.Windows.{paired}
 use Rattle.row_batons.proofs.Layings.{laid_out, as_many, table_length, are_slots}
@@ -52,7 +50,6 @@ relayed-requires-clause-laid g c κs within =
 
 pub returns-clause-fit : goal.returns-clause-fit
 returns-clause-fit g c = λ fits.
-    subst (IsConsistent c.args.catalog.now.tables) (sym (c.in_ok-install.ensures
-    ∙ ap (λ ks. overwritten c.args.tables (paired ks c.in_ok-rows.rows.items)) (sym c.deref.ensures.value) ∙ c.in_ok-rows.ensures.fold.rows))
-    (late_keeps (run_of c.args.catalog.now) (IsConsistent c.args.catalog.now.tables) c.args.waiting.now c.args.tables
-    (λ k d below rows before. (catalog_stays_consistent_is c.args.catalog.now _ rows fits.catalog (fits.calls k d below) before).after) fits.rows_fit)
+    subst (IsConsistent c.args.catalog.now.tables)
+    (sym (c.in_ok-install.ensures ∙ ap (λ ks. overwritten c.args.tables (paired ks c.in_ok-rows.rows.items)) (sym c.deref.ensures.value)))
+    (rows_still_fit c.args.catalog.now c.args.waiting.now c.args.tables _ _ c.in_ok-rows.ensures.fold fits)
