@@ -24,3 +24,5 @@ mod turns;
 
 pub use commands::{give_summary, measure};
 pub use laws::each_request_once;
+pub use summaries::{Counts, append_counts};
+pub use tallies::{BLANK, Tally};

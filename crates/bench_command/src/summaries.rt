@@ -1,7 +1,7 @@
 // The text of a summary.
 ghost use Rattle.std.specs.Prelude.{◌≡◌, ◌++◌, IfOk, OnOk};
 ghost use Rattle.serving.specs.Lives.{state_of};
-ghost use Rattle.bench_command.specs.Summaries.{name_text, numbers_text, rest_text, rows_text, summary_text, tally_text, totals_text};
+ghost use Rattle.bench_command.specs.Summaries.{counts_of, counts_text, name_text, numbers_text, rest_text, rows_text, summary_text, tally_text, totals_text};
 
 use crate::sums::sum_rows;
 use crate::tallies::Tally;
@@ -12,15 +12,22 @@ use serving::Live;
 use std::alloc::Global;
 use tbl_rows::Tables;
 
+/// How many batches were run, how many requests were numbered, and how many of these wait.
+#[derive(Clone, Copy, Debug, PartialEq, Eq)]
+pub struct Counts {
+    pub batches: u64,
+    pub requests: u64,
+    pub left: u64,
+}
+
 /// What is printed of a workload of this name behind its last batch.
 pub(crate) fn print_summary(alloc: Global, name: &[u8], turn: &Turn) -> Result<Vec<u8>, Memory>
     ensures { IfOk result (λ text. text.items ≡ summary_text name.now (state_of turn.now.live) turn.now.tally) }
 {
     let mut out = Vec::new(alloc);
     append_name(&mut out, name)?;
-    append_numbers(&mut out, &turn.live)?;
-    append_tally(&mut out, turn.tally)?;
-    append_rest(&mut out, &turn.live)?;
+    let tables = turn.live.replicas.first().tables();
+    append_counts(&mut out, counts_of(&turn.live), turn.tally, tables)?;
     Ok(out)
 }
 
@@ -34,12 +41,39 @@ fn append_name(out: &mut Vec<u8>, name: &[u8]) -> Result<(), Memory>
     Ok(())
 }
 
-/// Appends how many batches were run and how many requests numbered.
-fn append_numbers(out: &mut Vec<u8>, live: &Live) -> Result<(), Memory>
-    ensures { OnOk result (out.new.items ≡ out.old.items ++ numbers_text (state_of live.now)) }
+/// The numbers of a database.
+fn counts_of(live: &Live) -> Counts
+    ensures { result ≡ counts_of (state_of live.now) }
 {
-    append_counted(out, b"batches ", live.batches())?;
-    append_counted(out, b"requests ", live.requests())
+    Counts {
+        batches: live.batches(),
+        requests: live.requests(),
+        left: live.waiting() as u64,
+    }
+}
+
+/// Appends the lines of a summary that follow its name: the numbers of batches and requests, the lines of each kind,
+/// how many requests wait, how many rows there are, and the sum of their numbers. Where there was no memory, part of
+/// them may stand there.
+pub fn append_counts(
+    out: &mut Vec<u8>,
+    counts: Counts,
+    tally: Tally,
+    tables: &Tables,
+) -> Result<(), Memory>
+    ensures { OnOk result (out.new.items ≡ out.old.items ++ counts_text counts tally tables.now) }
+{
+    append_numbers(out, counts)?;
+    append_tally(out, tally)?;
+    append_rest(out, counts, tables)
+}
+
+/// Appends how many batches were run and how many requests numbered.
+fn append_numbers(out: &mut Vec<u8>, counts: Counts) -> Result<(), Memory>
+    ensures { OnOk result (out.new.items ≡ out.old.items ++ numbers_text counts) }
+{
+    append_counted(out, b"batches ", counts.batches)?;
+    append_counted(out, b"requests ", counts.requests)
 }
 
 /// Appends how many reply lines there were of each kind.
@@ -53,11 +87,11 @@ fn append_tally(out: &mut Vec<u8>, tally: Tally) -> Result<(), Memory>
 }
 
 /// Appends how many requests wait and what the rows come to.
-fn append_rest(out: &mut Vec<u8>, live: &Live) -> Result<(), Memory>
-    ensures { OnOk result (out.new.items ≡ out.old.items ++ rest_text (state_of live.now)) }
+fn append_rest(out: &mut Vec<u8>, counts: Counts, tables: &Tables) -> Result<(), Memory>
+    ensures { OnOk result (out.new.items ≡ out.old.items ++ rest_text counts tables.now) }
 {
-    append_counted(out, b"left ", live.waiting() as u64)?;
-    append_rows(out, live.replicas.first().tables())
+    append_counted(out, b"left ", counts.left)?;
+    append_rows(out, tables)
 }
 
 /// Appends how many rows there are, and the sum of their numbers.

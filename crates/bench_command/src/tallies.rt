@@ -7,7 +7,7 @@ use proc_lang::End;
 
 /// How many reply lines there are of each kind.
 #[derive(Clone, Copy, Debug, PartialEq, Eq)]
-pub(crate) struct Tally {
+pub struct Tally {
     /// Requests that ended well.
     pub ok: u64,
     /// Requests that ended by their own failure.
@@ -19,7 +19,7 @@ pub(crate) struct Tally {
 }
 
 /// Before the first line.
-pub(crate) const BLANK: Tally = Tally {
+pub const BLANK: Tally = Tally {
     ok: 0,
     back: 0,
     trap: 0,
@@ -27,7 +27,7 @@ pub(crate) const BLANK: Tally = Tally {
 };
 
 impl Tally {
-    /// With these lines.
+    /// With these lines. No memory.
     pub fn with(self, lines: &[Line]) -> Tally
         requires { HasRoom self (length lines.now) }
         ensures { result ≡ with_lines self lines.now }

@@ -14,11 +14,12 @@ use Rattle.command_words.specs.declared.settings.Bench.{Bench}
 use Rattle.command_words.specs.declared.settings.Command.{Command}
 use Rattle.command_words.specs.declared.settings.Command.TheVariants as command
 use Rattle.command_words.specs.declared.settings.Load.{Load}
+use Rattle.command_words.specs.declared.settings.Mix.{Mix}
 use Rattle.command_words.specs.declared.settings.Load.TheVariants as kind
 use Rattle.command_words.specs.declared.settings.Stock.{Stock}
 use Rattle.command_words.specs.declared.settings.Workload.{Workload}
 use Rattle.workloads.specs.Generators.{IsWithin, of_kind, generator_of}
-use Rattle.workloads.specs.Laws.{IsAmount, IsAsked}
+use Rattle.workloads.specs.Laws.{IsAmount, IsAsked, IsMixAsked}
 
 -- ---- options of values
 
@@ -142,11 +143,26 @@ bench_within l b e =
     workload_in w None = w
     workload_in w (Some b) = b.workload
 
+mix_within : (l : Line) (m : Mix) → mix_of l ≡ Some m → IsMixAsked m
+mix_within l m e =
+    let a = came {o = amount_of l} e in
+    let s = came {o = stock_of l} a.gives in
+    let w = came {o = number_in l option.workers} s.gives in
+    let u = came {o = choice_in l option.rule} w.gives in
+    let stock = stock_within l s.from s.is in
+    let it : ◌≡◌ {A = Mix} (record { amount = a.from; stock = s.from; workers = w.from; rule = u.from }) m = cc in
+    subst IsMixAsked it (record {
+      amount = amount_within l a.from a.is;
+      orders = record { warehouses = stock.warehouses; customers = stock.customers; items = stock.items };
+      workers = number_within l option.workers w.from (omega arith, omega arith) w.is;
+    })
+
 -- ---- commands
 
 abbrev IsWithinCommand : Command → Type 0
 IsWithinCommand (command.Gen w) = IsAsked w
 IsWithinCommand (command.Bench b) = IsAsked b.workload
+IsWithinCommand (command.Mix m) = IsMixAsked m
 IsWithinCommand c = ⊤
 
 abbrev Reader : Type 0
@@ -179,7 +195,7 @@ readers_within = (
               (
                 λ l c e. let it : command.Audit ≡ c = cc in subst IsWithinCommand it tt,
                 (
-                  λ l c. mapped command.Mix (mix_of l) c (λ x is. tt),
+                  λ l c. mapped command.Mix (mix_of l) c (mix_within l),
                   (λ l c. mapped command.Nodes (nodes_of l) c (λ x is. tt), tt),
                 ),
               ),
@@ -209,3 +225,6 @@ gen_asked l w e = command_within l (command.Gen w) e
 
 pub bench_asked : (l : Line) (b : Bench) → command_of l ≡ Some (command.Bench b) → IsAsked b.workload
 bench_asked l b e = command_within l (command.Bench b) e
+
+pub mix_asked : (l : Line) (m : Mix) → command_of l ≡ Some (command.Mix m) → IsMixAsked m
+mix_asked l m e = command_within l (command.Mix m) e

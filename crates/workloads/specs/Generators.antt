@@ -5,19 +5,26 @@ use Rattle.rand_pcg.specs.Lcg.{Lcg}
 use Rattle.aria_base.specs.Draws.{standing}
 use Rattle.aria_base.specs.Orders.{Database, key_cmp}
 use Rattle.aria_base.specs.declared.calls.Call.{Call}
+use Rattle.command_words.specs.declared.settings.Amount.{Amount}
 use Rattle.command_words.specs.declared.settings.Load.{Load}
 use Rattle.command_words.specs.declared.settings.Load.TheVariants as kind
+use Rattle.command_words.specs.declared.settings.Stock.{Stock}
 use Rattle.command_words.specs.declared.settings.Workload.{Workload}
 use Rattle.proc_lang.specs.Catalogs.{Plan}
 use Rattle.cat_builtin.specs.Ycsb.{ycsb}
 use Rattle.cat_builtin.specs.Tpcc.{tpcc}
 use Rattle.load_gen.specs.Draws.{Drawn}
 use Rattle.load_gen.specs.Ycsb as accesses
+use Rattle.tpcc_load.specs.declared.settings.Tpcc.{Tpcc}
 use Rattle.tpcc_load.specs.Heads as orders
 use Rattle.tpcc_load.specs.Requests.{request}
 use Rattle.tpcc_load.specs.Rows.{laid}
 use Rattle.workloads.specs.declared.generators.Generator.{Generator}
 use Rattle.workloads.specs.declared.generators.Generator.TheVariants as load
+
+-- the settings of order entry
+abbrev pub orders_of : Amount → Stock → Tpcc
+orders_of a s = record { number = a.number; warehouses = s.warehouses; customers = s.customers; items = s.items }
 
 -- what the settings of a line ask for; what belongs to the other kind has no part in it
 abbrev pub of_kind : Workload → Load → Generator
@@ -29,12 +36,7 @@ of_kind w kind.Ycsb = load.Ycsb (record {
   updates = w.accesses.updates;
   hot = w.accesses.hot;
 })
-of_kind w kind.Tpcc = load.Tpcc (record {
-  number = w.amount.number;
-  warehouses = w.stock.warehouses;
-  customers = w.stock.customers;
-  items = w.stock.items;
-})
+of_kind w kind.Tpcc = load.Tpcc (orders_of w.amount w.stock)
 
 abbrev pub generator_of : Workload → Generator
 generator_of w = of_kind w w.kind

@@ -4,10 +4,10 @@ ghost use Rattle.aria_base.specs.Schemas.{IsConsistent};
 ghost use Rattle.aria_base.specs.declared.limits.TheConstants.{GREATEST_NUMBER};
 ghost use Rattle.proc_lang.specs.Catalogs.{takes};
 ghost use Rattle.load_gen.specs.Draws.{times, IsPast};
-ghost use Rattle.workloads.specs.Generators.{generator_of, IsWithin, name_of, plan_of, rows_of, first_draws, request_of};
+ghost use Rattle.workloads.specs.Generators.{generator_of, orders_of, IsWithin, name_of, plan_of, rows_of, first_draws, request_of};
 
 use aria_base::{Call, Draws, Memory};
-use command_words::{Load, Workload};
+use command_words::{Amount, Load, Stock, Workload};
 use load_gen::Ycsb;
 use proc_lang::Catalog;
 use std::alloc::Global;
@@ -26,6 +26,18 @@ pub enum Generator {
     Tpcc(Tpcc),
 }
 
+/// The settings of order entry, by what a line asks for. No memory.
+pub fn orders_of(amount: Amount, stock: Stock) -> Tpcc
+    ensures { result ≡ orders_of amount stock }
+{
+    Tpcc {
+        number: amount.number,
+        warehouses: stock.warehouses,
+        customers: stock.customers,
+        items: stock.items,
+    }
+}
+
 impl Generator {
     /// The generator that the settings of a line ask for.
     pub fn of(workload: &Workload) -> Generator
@@ -33,7 +45,6 @@ impl Generator {
     {
         let number = workload.amount.number;
         let accesses = workload.accesses;
-        let stock = workload.stock;
         match workload.kind {
             Load::Ycsb => Generator::Ycsb(Ycsb {
                 number,
@@ -43,12 +54,7 @@ impl Generator {
                 updates: accesses.updates,
                 hot: accesses.hot,
             }),
-            Load::Tpcc => Generator::Tpcc(Tpcc {
-                number,
-                warehouses: stock.warehouses,
-                customers: stock.customers,
-                items: stock.items,
-            }),
+            Load::Tpcc => Generator::Tpcc(orders_of(workload.amount, workload.stock)),
         }
     }
 

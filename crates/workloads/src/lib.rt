@@ -15,5 +15,5 @@
 mod generators;
 mod laws;
 
-pub use generators::Generator;
+pub use generators::{Generator, orders_of};
 pub use laws::words_are_within;
