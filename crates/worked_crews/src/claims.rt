@@ -2,6 +2,7 @@
 ghost use Rattle.std.specs.Prelude.{◌≡◌, ◌<◌, All, IfOk};
 ghost use Rattle.std.specs.Thread.{IsSync};
 
+use crate::checks::{are_in_turn, holds};
 use aria_base::Memory;
 use std::alloc::Global;
 use std::test::Fail;
@@ -68,36 +69,39 @@ fn four_threads_draw_each_number_once(rt: HostRuntime) -> Result<(), Fail> {
     let (claims, seat) = Claims::make(rt.alloc(), COUNT)?;
     let (seat, mut numbers) = draw_by(&rt, &claims, seat, 3, rt.alloc())?;
     numbers.sort_unstable();
-    assert_eq!(rt; numbers.len(), COUNT as usize);
-    assert!(rt;
-        numbers
-            .iter()
-            .enumerate()
-            .all(|(place, &number)| place == number as usize)
-    );
-    assert_eq!(rt;
-        claims.close(seat),
-        10_004,
-        "each thread was once answered None"
-    );
+    let each_once = are_in_turn(&numbers, COUNT as usize);
+    holds(&rt, "each number is drawn once", 4, each_once);
+    // Each thread was once answered None.
+    holds(&rt, "the draws", 4, claims.close(seat) == 10_004);
     Ok(())
 }
 
 #[test]
 fn of_no_numbers_none_is_drawn(rt: HostRuntime) -> Result<(), Fail> {
     let (claims, mut seat) = Claims::make(rt.alloc(), 0)?;
-    assert_eq!(rt; claims.draw(&mut seat), None);
-    assert_eq!(rt; claims.close(seat), 1);
+    holds(&rt, "nothing is drawn", 0, claims.draw(&mut seat).is_none());
+    holds(&rt, "the draws", 0, claims.close(seat) == 1);
     Ok(())
+}
+
+/// Whether this number was drawn.
+fn is_number(drawn: Option<u32>, wanted: u32) -> bool {
+    match drawn {
+        Some(number) => number == wanted,
+        None => false,
+    }
 }
 
 #[test]
 fn a_seat_draws_upwards_beside_another(rt: HostRuntime) -> Result<(), Fail> {
     let (claims, mut first) = Claims::make(rt.alloc(), u32::MAX)?;
     let mut second = claims.split(&mut first)?;
-    assert_eq!(rt; claims.draw(&mut first), Some(0));
-    assert_eq!(rt; claims.draw(&mut second), Some(1));
+    let one = claims.draw(&mut first);
+    let two = claims.draw(&mut second);
     claims.join(&mut first, second);
-    assert_eq!(rt; claims.close(first), 2);
+    let draws = claims.close(first);
+    holds(&rt, "the first draws", 0, is_number(one, 0));
+    holds(&rt, "the second draws", 1, is_number(two, 1));
+    holds(&rt, "the draws", 2, draws == 2);
     Ok(())
 }

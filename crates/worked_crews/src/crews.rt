@@ -2,6 +2,7 @@
 // at work at once, and counts the steps that they tell of.
 ghost use Rattle.std.specs.Prelude.{◌≡◌, ◌/◌, ◌<◌, ◌≤◌};
 
+use crate::checks::{are_in_turn, holds};
 use aria_base::{Free, Memory, Place};
 use std::alloc::Global;
 use std::test::Fail;
@@ -95,17 +96,22 @@ impl Work for Lists {
     }
 }
 
+/// Whether these are half of 0, 1, 2 and so on, and so many.
+fn are_halves(halves: &[u32], count: usize) -> bool {
+    halves.len() == count
+        && halves
+            .iter()
+            .enumerate()
+            .all(|(place, half)| place / 2 == *half as usize)
+}
+
 #[test]
 fn outputs_come_to_their_places(rt: HostRuntime) -> Result<(), Fail> {
     for count in [0, 3, 1_000_u32] {
         for workers in [1, 2, 7, 64_u32] {
             let halves = gather(&rt, rt.alloc(), &Halves { count }, workers, &Free)?;
-            assert_eq!(rt; halves.len(), count as usize, "{workers}");
-            let are_halves = halves
-                .iter()
-                .enumerate()
-                .all(|(place, half)| place / 2 == *half as usize);
-            assert!(rt; are_halves, "{count} by {workers}");
+            let right = are_halves(&halves, count as usize);
+            holds(&rt, "the halves", workers, right);
         }
     }
     Ok(())
@@ -115,7 +121,7 @@ fn outputs_come_to_their_places(rt: HostRuntime) -> Result<(), Fail> {
 fn want_of_memory_at_one_place_is_told(rt: HostRuntime) {
     for workers in [1, 4_u32] {
         let found = gather(&rt, rt.alloc(), &Starved { count: 9 }, workers, &Free);
-        assert!(rt; found.is_err(), "{workers}");
+        holds(&rt, "want of memory", workers, found.is_err());
     }
 }
 
@@ -125,12 +131,6 @@ fn hands_run_each_place_once(rt: HostRuntime) -> Result<(), Fail> {
     let lists = Lists { alloc, count: 500 };
     let mut places = carry_out(&rt, alloc, &lists, Vec::new(alloc), 4, &Free)?;
     places.sort_unstable();
-    assert_eq!(rt; places.len(), 500);
-    assert!(rt;
-        places
-            .iter()
-            .enumerate()
-            .all(|(at, place)| at == *place as usize)
-    );
+    holds(&rt, "each place once", 4, are_in_turn(&places, 500));
     Ok(())
 }

@@ -3,14 +3,13 @@
 ghost use Rattle.std.specs.Prelude.{◌≤◌};
 ghost use Rattle.aria_base.specs.declared.limits.TheConstants.{MOST_WORKERS};
 
+use crate::checks::holds;
 use aria_base::{Changes, Free, Key, Keys, Memory, Part, Parts, Row, Value};
 use batch_rules::verdicts::{Cause, Verdict};
 use install_phase::{install, install_changes};
 use proc_exec::Outcome;
 use proc_lang::{End, Gives};
 use std::alloc::Global;
-use std::fmt::Debug;
-use std::process::Abort;
 use std::test::Fail;
 use std::thread::Threads;
 use tbl_rows::Tables;
@@ -20,11 +19,6 @@ const COUNT: i64 = 400;
 
 /// How many requests there are in a crowd, in which five write each account.
 const CROWD: i64 = 2_000;
-
-/// Asserts that what was found in this case is what is wanted.
-fn same<T: PartialEq + Debug>(rt: &impl Abort, case: &impl Debug, found: &T, wanted: &T) {
-    assert_eq!(rt; found, wanted, "at {case:?}");
-}
 
 fn key(alloc: Global, number: i64) -> Result<Key, Memory> {
     let parts = Parts::from_vec(vec![in alloc; Part::Int(number)]?);
@@ -113,8 +107,8 @@ fn any_number_of_workers_gives_the_same_rows(rt: HostRuntime) -> Result<(), Fail
     let alloc = rt.alloc();
     let wanted = expected(alloc)?;
     for workers in [1, 2, 7, 64_u32] {
-        let after = installed(&rt, alloc, workers)?;
-        same(&rt, &workers, &listed(alloc, &after)?, &wanted);
+        let after = listed(alloc, &installed(&rt, alloc, workers)?)?;
+        holds(&rt, "the rows", workers, after == wanted);
     }
     Ok(())
 }
@@ -164,8 +158,8 @@ fn the_last_request_of_a_crowd_counts_whoever_deals_it(rt: HostRuntime) -> Resul
     let alloc = rt.alloc();
     let wanted = expected_of_crowd(alloc)?;
     for workers in [1, 2, 7, 64_u32] {
-        let after = crowded(&rt, alloc, workers)?;
-        same(&rt, &workers, &listed(alloc, &after)?, &wanted);
+        let after = listed(alloc, &crowded(&rt, alloc, workers)?)?;
+        holds(&rt, "the rows", workers, after == wanted);
     }
     Ok(())
 }

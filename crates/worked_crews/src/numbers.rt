@@ -2,6 +2,7 @@
 ghost use Rattle.std.specs.Prelude.{◌≤◌};
 ghost use Rattle.aria_base.specs.declared.limits.TheConstants.{MOST_WORKERS};
 
+use crate::checks::holds;
 use aria_base::{Key, Keys, Memory, Part, Parts};
 use dep_rules::{Numbered, Sets};
 use key_numbering::{may_be_numbered, number};
@@ -38,15 +39,24 @@ fn a_key_has_its_place_in_order_of_first_touch(rt: HostRuntime) -> Result<(), Fa
     let mut sets = Vec::new(alloc);
     sets.push(request(alloc, &[7, 3], &[3])?)?;
     sets.push(request(alloc, &[3, 9], &[7, 8])?)?;
-    let fits = may_be_numbered(&sets);
-    assert!(&rt; fits);
+    if !may_be_numbered(&sets) {
+        panic!(&rt; "too many sets");
+    }
     let numbered = number_by(&rt, alloc, &sets, 1)?;
-    assert_eq!(&rt; numbered.reads_of(1), &[0_u32, 1][..]);
-    assert_eq!(&rt; numbered.writes_of(1), &[1_u32][..]);
-    assert_eq!(&rt; numbered.reads_of(2), &[1_u32, 2][..]);
-    assert_eq!(&rt; numbered.writes_of(2), &[0_u32, 3][..]);
-    assert_eq!(&rt; numbered.keys(), 4);
+    let lists = lists_of(alloc, &numbered)?;
+    let right = are_lists(&lists, &[&[0, 1], &[1], &[1, 2], &[0, 3]]);
+    holds(&rt, "the lists", 1, right);
+    holds(&rt, "the keys", 1, numbered.keys() == 4);
     Ok(())
+}
+
+/// Whether these are the lists.
+fn are_lists(found: &[Vec<u32>], wanted: &[&[u32]]) -> bool {
+    found.len() == wanted.len()
+        && found
+            .iter()
+            .zip(wanted.iter())
+            .all(|(list, other)| list.as_slice() == *other)
 }
 
 /// The number that stands for the key, where it begins its search among the first slots.
@@ -98,7 +108,7 @@ fn keys_of_both<R: Abort + Threads + Sync>(
     let numbered = number_by(rt, alloc, sets, workers)?;
     let wanted = lists_of(alloc, &alone)?;
     let found = lists_of(alloc, &numbered)?;
-    assert_eq!(rt; found, wanted);
+    holds(rt, "the lists", workers, found == wanted);
     Ok(numbered.keys())
 }
 
@@ -110,7 +120,8 @@ fn a_crowd_is_numbered(rt: HostRuntime) -> Result<(), Fail> {
     let mut sets = Vec::new(alloc);
     sets.push(request(alloc, &crowd, &[])?)?;
     sets.push(request(alloc, &[], &crowd)?)?;
-    assert_eq!(&rt; keys_of_both(&rt, alloc, &sets, 2)?, 200);
+    let keys = keys_of_both(&rt, alloc, &sets, 2)?;
+    holds(&rt, "two hundred keys", 2, keys == 200);
     Ok(())
 }
 
@@ -129,6 +140,7 @@ fn hot(alloc: Global) -> Result<Vec<Sets>, Memory> {
 fn hot_keys_have_the_numbers_of_one_caller(rt: HostRuntime) -> Result<(), Fail> {
     let alloc = rt.alloc();
     let sets = hot(alloc)?;
-    assert_eq!(&rt; keys_of_both(&rt, alloc, &sets, 4)?, 10);
+    let keys = keys_of_both(&rt, alloc, &sets, 4)?;
+    holds(&rt, "ten keys", 4, keys == 10);
     Ok(())
 }

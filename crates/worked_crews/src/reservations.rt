@@ -4,12 +4,11 @@ ghost use Rattle.std.specs.Prelude.{◌≡◌, ◌≤◌, ◌<◌, length, map, 
 ghost use Rattle.aria_base.specs.declared.limits.TheConstants.{MOST_WORKERS};
 ghost use Rattle.dep_rules.specs.Sheets.{AllBelow};
 
+use crate::checks::holds;
 use aria_base::{Free, Memory};
 use dep_rules::Numbered;
 use resv_phase::reserve;
 use std::alloc::Global;
-use std::fmt::Debug;
-use std::process::Abort;
 use std::test::Fail;
 use std::thread::Threads;
 
@@ -24,11 +23,6 @@ const NOTHING: Touches = Touches {
     from: 10_001,
     factor: 0,
 };
-
-/// Asserts that what was found in this case is what is wanted.
-fn same<T: PartialEq + Debug>(rt: &impl Abort, case: &impl Debug, found: &T, wanted: &T) {
-    assert_eq!(rt; found, wanted, "at {case:?}");
-}
 
 /// The key that the request with this TID touches.
 fn keys_of(alloc: Global, touches: Touches, tid: u32, keys: u32) -> Result<Vec<u32>, Memory>
@@ -105,12 +99,8 @@ fn expected_words(alloc: Global) -> Result<Vec<u64>, Memory> {
 fn any_number_of_workers_gives_the_same_words(rt: HostRuntime) -> Result<(), Fail> {
     let expected = expected_words(rt.alloc())?;
     for workers in [1, 2, 7, 64_u32] {
-        same(
-            &rt,
-            &workers,
-            &words_by(&rt, rt.alloc(), workers)?,
-            &expected,
-        );
+        let words = words_by(&rt, rt.alloc(), workers)?;
+        holds(&rt, "the words", workers, words == expected);
     }
     Ok(())
 }
@@ -123,7 +113,8 @@ fn a_mark_stands_before_older_numbers(rt: HostRuntime) -> Result<(), Fail> {
     let old = vec![in alloc; 20_000, 40_000]?;
     let closed = reserve(&rt, alloc, &batch, old, 0, 2, &Free)?;
     let wanted = vec![in alloc; 2, 40_000_u64]?;
-    same(&rt, &"words", &closed.into_words(), &wanted);
+    let right = closed.words() == wanted.as_slice();
+    holds(&rt, "the words", 0, right);
     Ok(())
 }
 
@@ -134,7 +125,8 @@ fn without_requests_the_old_numbers_stay(rt: HostRuntime) -> Result<(), Fail> {
     let old = vec![in alloc; 20_000]?;
     let closed = reserve(&rt, alloc, &batch, old, 0, 7, &Free)?;
     let wanted = vec![in alloc; 20_000, u64::MAX]?;
-    same(&rt, &"words", &closed.into_words(), &wanted);
+    let right = closed.words() == wanted.as_slice();
+    holds(&rt, "the words", 0, right);
     Ok(())
 }
 
@@ -149,7 +141,8 @@ fn the_most_requests_of_one_key(rt: HostRuntime) -> Result<(), Fail> {
     let batch = batch(alloc, all, late, 10_000, 1)?;
     let closed = reserve(&rt, alloc, &batch, Vec::new(alloc), 1, 4, &Free)?;
     let wanted = vec![in alloc; 16_384 + 10_000, 16_384 + 1_u64]?;
-    same(&rt, &"words", &closed.into_words(), &wanted);
+    let right = closed.words() == wanted.as_slice();
+    holds(&rt, "the words", 0, right);
     Ok(())
 }
 
@@ -160,6 +153,7 @@ fn more_workers_than_requests(rt: HostRuntime) -> Result<(), Fail> {
     let batch = batch(alloc, each, NOTHING, 3, 3)?;
     let closed = reserve(&rt, alloc, &batch, Vec::new(alloc), 0, 64, &Free)?;
     let wanted = vec![in alloc; u64::MAX, 3, u64::MAX, 1, u64::MAX, 2]?;
-    same(&rt, &"words", &closed.into_words(), &wanted);
+    let right = closed.words() == wanted.as_slice();
+    holds(&rt, "the words", 0, right);
     Ok(())
 }

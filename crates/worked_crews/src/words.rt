@@ -3,6 +3,7 @@ ghost use Rattle.std.specs.Prelude.{◌≡◌, ◌+◌, ◌<◌, ◌≤◌, leng
 ghost use Rattle.std.specs.Thread.{IsSync};
 ghost use Rattle.aria_base.specs.declared.limits.TheConstants.{MOST_WORKERS};
 
+use crate::checks::holds;
 use aria_base::Memory;
 use resv_words::{Closed, WordSeat, Words};
 use std::alloc::Global;
@@ -103,11 +104,9 @@ fn any_number_of_seats_gives_the_words_of_a_fold(rt: HostRuntime) -> Result<(), 
     for workers in [1, 2, 7, 64] {
         let closed = close_after(&rt, rt.alloc(), workers)?;
         let expected = folded(rt.alloc(), workers)?;
-        assert!(rt;
-            closed.words() == expected.as_slice(),
-            "with {workers} seats"
-        );
-        assert_eq!(rt; closed.tag(), MARKED_TAG);
+        let right = closed.words() == expected.as_slice();
+        holds(&rt, "the words", workers, right);
+        holds(&rt, "the tag", workers, closed.tag() == MARKED_TAG);
     }
     Ok(())
 }
@@ -118,7 +117,8 @@ fn a_mark_stands_before_older_numbers(rt: HostRuntime) -> Result<(), Fail> {
     let (words, mut seat) = Words::over(rt.alloc(), old, 1, 0)?;
     words.mark_write(&mut seat, 2, 0);
     let closed = words.close(seat)?;
-    assert!(rt; closed.words() == [2, 40_000].as_slice());
+    let right = closed.words() == [2, 40_000].as_slice();
+    holds(&rt, "the words", 1, right);
     Ok(())
 }
 
@@ -127,7 +127,8 @@ fn without_marks_the_old_numbers_stay(rt: HostRuntime) -> Result<(), Fail> {
     let old = vec![in rt.alloc(); 20_000]?;
     let (words, seat) = Words::over(rt.alloc(), old, 2, 0)?;
     let closed = words.close(seat)?;
-    assert!(rt; closed.words() == [20_000, u64::MAX, u64::MAX, u64::MAX].as_slice());
+    let right = closed.words() == [20_000, u64::MAX, u64::MAX, u64::MAX].as_slice();
+    holds(&rt, "the words", 0, right);
     Ok(())
 }
 
@@ -136,7 +137,8 @@ fn without_keys_there_are_no_words(rt: HostRuntime) -> Result<(), Fail> {
     let (words, mut seat) = Words::over(rt.alloc(), Vec::new(rt.alloc()), 0, 5)?;
     let other = words.split(&mut seat)?;
     words.join(&mut seat, other);
-    assert!(rt; words.close(seat)?.words().is_empty());
+    let closed = words.close(seat)?;
+    holds(&rt, "no words", 0, closed.words().is_empty());
     Ok(())
 }
 
@@ -151,8 +153,20 @@ fn words_of_one_batch_are_old_in_the_next(rt: HostRuntime) -> Result<(), Fail> {
     words.mark_read(&mut seat, 4, 1);
     let closed = words.close(seat)?;
     let read = 8 * 16_384 + 4;
-    assert!(rt; closed.words() == [9 * 16_384 + 3, read, u64::MAX, read].as_slice());
+    let right = closed.words() == [9 * 16_384 + 3, read, u64::MAX, read].as_slice();
+    holds(&rt, "the words", 2, right);
     Ok(())
+}
+
+/// Whether the first word and the last one of two for each of the most keys are these, and no other is marked.
+fn are_marked(words: &[u64], first: u64, last: u64) -> bool {
+    let [begin, between @ .., end] = words else {
+        return false;
+    };
+    *begin == first
+        && *end == last
+        && between.len() == 7_119_998
+        && between.iter().all(|&word| word == u64::MAX)
 }
 
 #[test]
@@ -162,9 +176,7 @@ fn the_most_keys_and_the_greatest_tag(rt: HostRuntime) -> Result<(), Fail> {
     words.mark_write(&mut seat, 10_000, 0);
     words.mark_read(&mut seat, 1, 3_559_999);
     let words = words.close(seat)?.into_words();
-    assert_eq!(rt; words.len(), 7_120_000);
-    assert_eq!(rt; words.first(), Some(&(tag * 16_384 + 10_000)));
-    assert_eq!(rt; words.last(), Some(&(tag * 16_384 + 1)));
-    assert!(rt; words[1..7_119_999].iter().all(|&word| word == u64::MAX));
+    let right = are_marked(&words, tag * 16_384 + 10_000, tag * 16_384 + 1);
+    holds(&rt, "the first and the last word", 0, right);
     Ok(())
 }
