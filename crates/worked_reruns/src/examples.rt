@@ -3,7 +3,7 @@ ghost use Rattle.std.specs.Prelude.{◌≤◌, length};
 ghost use Rattle.aria_base.specs.declared.limits.TheConstants.{MOST_REQUESTS, MOST_WORKERS};
 
 use crate::makings::{ADD, Again, COPY, HOP, SET, catalog, tables, waiting};
-use crate::words::{lates_words, numbers_words, rows_words};
+use crate::words::{lates_words, numbers_words, rows_words, same};
 use aria_base::{Free, Memory};
 use fallback_locks::{rerun, waves};
 use proc_exec::{Late, Waiting};
@@ -201,7 +201,7 @@ fn comes_to<R: Abort + Threads + Sync>(
     for workers in [1, 2, 7, 64_u32] {
         for batons in [false, true] {
             let found = found(rt, alloc, catalog, example, workers, batons)?;
-            assert_eq!(rt; found, wanted, "by {workers}, batons: {batons}");
+            same(rt, workers, batons, &found, &wanted);
         }
     }
     Ok(())

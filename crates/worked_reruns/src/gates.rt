@@ -3,11 +3,12 @@ ghost use Rattle.std.specs.Prelude.{◌≤◌, length};
 ghost use Rattle.aria_base.specs.declared.limits.TheConstants.{MOST_REQUESTS};
 
 use crate::makings::{ADD, Again, catalog, crowd, tables, waiting};
-use crate::words::{late_words, rows_words};
+use crate::words::{late_words, rows_words, same};
 use aria_base::{Free, Memory, Pace, Place};
 use fallback_locks::{rerun, waves};
 use proc_exec::{Late, Waiting};
 use std::alloc::Global;
+use std::process::Abort;
 use std::sync::atomic::{AtomicU64, Ordering};
 use std::test::Fail;
 use std::thread::yield_now;
@@ -71,6 +72,13 @@ impl Pace for Gate {
     }
 }
 
+/// Asserts that both workers were there, and that eight runs were told.
+fn met(rt: &impl Abort, gate: &Gate) {
+    let missed = gate.missed.load(Ordering::SeqCst);
+    let runs = gate.runs.load(Ordering::SeqCst);
+    assert!(rt; missed == 0 && runs == 8, "missed {missed}, runs {runs}");
+}
+
 #[test]
 fn two_requests_of_one_wave_meet(rt: HostRuntime) -> Result<(), Fail> {
     let alloc = rt.alloc();
@@ -89,12 +97,8 @@ fn two_requests_of_one_wave_meet(rt: HostRuntime) -> Result<(), Fail> {
     let (tables, _lates) = rerun(&rt, alloc, &catalog, tables, &waiting, 2, &gate)?;
     let left = rows_words(alloc, &tables.rows()?)?;
     let wanted = "1 = 11; 2 = 21; 3 = 31; 4 = 41; 5 = 51; 6 = 61; 7 = 71; 8 = 81; ";
-    assert_eq!(rt; left.as_str(), wanted);
-    let told = (
-        gate.missed.load(Ordering::SeqCst),
-        gate.runs.load(Ordering::SeqCst),
-    );
-    assert_eq!(rt; told, (0, 8), "missed, and runs");
+    same(&rt, 2, false, &left, wanted);
+    met(&rt, &gate);
     Ok(())
 }
 
@@ -132,6 +136,6 @@ fn ten_thousand_on_one_account_run_one_by_one(rt: HostRuntime) -> Result<(), Fai
     let tables = tables(alloc, &[(1, 10)])?;
     let (tables, lates) = rerun(&rt, alloc, &catalog, tables, &waiting, 4, &Free)?;
     let left = left_and_last(alloc, &tables, &lates)?;
-    assert_eq!(rt; left.as_str(), "1 = 10010; done 10010");
+    same(&rt, 4, false, &left, "1 = 10010; done 10010");
     Ok(())
 }

@@ -3,6 +3,17 @@ use aria_base::{Key, Part, Row, Value};
 use proc_exec::Late;
 use proc_lang::End;
 use std::alloc::{AllocError, Global};
+use std::process::Abort;
+
+/// Asserts that these words were found by so many workers, in waves or by handed rows. An assertion in place costs its
+/// function several seconds of proof, and a call of this one next to none.
+pub fn same(rt: &impl Abort, workers: u32, batons: bool, found: &str, wanted: &str) {
+    let alike = found == wanted;
+    assert!(rt;
+        alike,
+        "{found}, and not {wanted}, by {workers}, batons: {batons}"
+    );
+}
 
 fn number_of(value: Option<&Value>) -> i64 {
     match value {
