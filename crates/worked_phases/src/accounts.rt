@@ -6,14 +6,14 @@ use cat_builtin::builtin;
 use dep_rules::Sets;
 use proc_lang::Catalog;
 use std::alloc::Global;
-use std::fmt::Debug;
 use std::process::Abort;
 use std::test::Fail;
 use tbl_rows::Tables;
 
-/// Asserts that what was found in this case is what is wanted.
-pub fn same<T: PartialEq + Debug>(rt: &impl Abort, case: &impl Debug, found: &T, wanted: &T) {
-    assert_eq!(rt; found, wanted, "at {case:?}");
+/// Asserts that this holds at this TID, place or number of workers. An assertion in place costs its function several
+/// seconds of proof, a generic one more, and a call of this one next to none.
+pub fn holds(rt: &impl Abort, what: &str, at: u32, found: bool) {
+    assert!(rt; found, "{what} at {at}");
 }
 
 /// The key of an account.

@@ -1,6 +1,6 @@
 // What no clause shows: that the definitions say what the rules mean, by verdicts and orders worked out by hand; and
 // that both forms of a decision give them.
-use crate::accounts::{same, sets};
+use crate::accounts::{holds, sets};
 use crate::decisions::alike;
 use aria_base::{Duplicate, Memory};
 use dep_rules::{Cause, Rule, Sets, Verdict, decide_listed};
@@ -29,14 +29,17 @@ fn decides(rt: &impl Abort, sets: &[Sets], tid: u32, plain: Verdict, reorder: Ve
     if tid == 0 || tid as usize > sets.len() {
         panic!(rt; "no request {tid}");
     }
-    same(rt, &tid, &decide_listed(sets, tid, Rule::Plain), &plain);
-    same(rt, &tid, &decide_listed(sets, tid, Rule::Reorder), &reorder);
+    let found = decide_listed(sets, tid, Rule::Plain);
+    holds(rt, "the rule plain", tid, found == plain);
+    let found = decide_listed(sets, tid, Rule::Reorder);
+    holds(rt, "the rule reorder", tid, found == reorder);
 }
 
 /// Asserts that a copy of each request's sets is equal to them.
 fn copies(rt: &impl Abort, alloc: Global, sets: &[Sets]) -> Result<(), Memory> {
     for one in sets {
-        same(rt, &"a copy", &one.duplicate(alloc)?, one);
+        let copy = one.duplicate(alloc)?;
+        holds(rt, "a copy is equal", 0, copy == *one);
     }
     Ok(())
 }
@@ -77,12 +80,9 @@ fn orders(
         panic!(rt; "a verdict and an end for each request");
     }
     let found = place(alloc, verdicts)?;
-    assert!(rt; found.as_slice() == placed, "{found:?} and not {placed:?}");
+    holds(rt, "the places", 0, found.as_slice() == placed);
     let found = order(alloc, verdicts, ended)?;
-    assert!(rt;
-        found.as_slice() == ordered,
-        "{found:?} and not {ordered:?}"
-    );
+    holds(rt, "the order", 0, found.as_slice() == ordered);
     Ok(())
 }
 

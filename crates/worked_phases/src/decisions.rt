@@ -4,7 +4,7 @@ ghost use Rattle.aria_base.specs.Reserved.{AreAbove};
 ghost use Rattle.aria_base.specs.declared.limits.TheConstants.{MOST_WORKERS};
 ghost use Rattle.worked_phases.specs.declared.decisions.TheConstants.{TAG};
 
-use crate::accounts::{same, sets};
+use crate::accounts::{holds, sets};
 use aria_base::{Draws, Free, Memory, TAG_SPAN};
 use dep_rules::{Rule, Sets, decide, decide_listed};
 use key_numbering::{may_be_numbered, number};
@@ -72,7 +72,7 @@ pub fn alike<R: Abort + Threads + Sync>(
         for rule in [Rule::Plain, Rule::Reorder] {
             let found = decide(&numbered, words, TAG, tid, rule);
             let wanted = decide_listed(sets, tid, rule);
-            same(rt, &(tid, rule), &found, &wanted);
+            holds(rt, "both forms decide alike", tid, found == wanted);
         }
     }
     Ok(())

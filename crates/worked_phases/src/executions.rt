@@ -2,7 +2,7 @@
 ghost use Rattle.std.specs.Prelude.{◌≤◌, length};
 ghost use Rattle.aria_base.specs.declared.limits.TheConstants.{MOST_REQUESTS, MOST_WORKERS};
 
-use crate::accounts::{accounts, bank, change, copies, same, source, tables};
+use crate::accounts::{accounts, bank, change, copies, holds, source, tables};
 use aria_base::{Free, Memory, Request, Value};
 use exec_phase::execute_all;
 use proc_exec::Outcome;
@@ -40,10 +40,11 @@ fn executed_by<R: Abort + Threads + Sync>(
 {
     let snapshot = Snapshot::of(tables);
     let outcomes = execute_all(rt, alloc, catalog, snapshot, list, workers, &Free)?;
-    same(rt, &workers, &outcomes.len(), &200);
+    holds(rt, "two hundred outcomes", workers, outcomes.len() == 200);
     let mut place = 0_u32;
     for outcome in &outcomes {
-        same(rt, &(workers, place), outcome, &copied(alloc, place)?);
+        let wanted = copied(alloc, place)?;
+        holds(rt, "the outcome", place, *outcome == wanted);
         place = place.saturating_add(1);
     }
     Ok(())

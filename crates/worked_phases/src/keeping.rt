@@ -1,7 +1,7 @@
 // More keys are kept than a batch may find.
 ghost use Rattle.std.specs.Prelude.{◌≤◌};
 
-use crate::accounts::{same, sets};
+use crate::accounts::{holds, sets};
 use dep_rules::Sets;
 use key_numbering::{Kept, may_be_numbered};
 use std::alloc::Global;
@@ -45,16 +45,11 @@ fn past_a_million_keys_it_is_full(rt: HostRuntime) -> Result<(), Fail> {
     let alloc = rt.alloc();
     let million = apart(alloc, 0, 4_000)?;
     let (kept, count) = kept_after(&rt, Kept::new(alloc), &million)?;
-    same(
-        &rt,
-        &"a million",
-        &(kept.full(), count),
-        &(false, 1_000_000),
-    );
+    holds(&rt, "the keys", 1, count == 1_000_000 && !kept.full());
     let (kept, count) = kept_after(&rt, kept, &apart(alloc, 0, 1)?)?;
-    same(&rt, &"again", &(kept.full(), count), &(false, 1_000_000));
+    holds(&rt, "the keys", 2, count == 1_000_000 && !kept.full());
     let one = vec![in alloc; sets(alloc, &[1_000_000], &[])?]?;
     let (kept, count) = kept_after(&rt, kept, &one)?;
-    same(&rt, &"and one", &(kept.full(), count), &(true, 1_000_001));
+    holds(&rt, "the keys", 3, count == 1_000_001 && kept.full());
     Ok(())
 }

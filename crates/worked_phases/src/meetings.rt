@@ -2,7 +2,7 @@
 ghost use Rattle.std.specs.Prelude.{◌≤◌};
 ghost use Rattle.aria_base.specs.declared.limits.TheConstants.{MOST_WORKERS};
 
-use crate::accounts::{bank, change, copies, same, sets, tables};
+use crate::accounts::{bank, change, copies, holds, sets, tables};
 use aria_base::{Pace, Place};
 use batch_rules::verdicts::{Cause, Verdict};
 use dep_rules::Sets;
@@ -17,21 +17,22 @@ use std::thread::Threads;
 use tbl_snapshot::Snapshot;
 use test_paces::{Gate, Steps};
 
-/// How many of each kind were told: draws, executions, marks, installs, runs again.
-fn told(steps: &Steps) -> [u64; 5] {
-    [
+/// Asserts how many of each kind were told: draws, executions, marks, installs, runs again.
+fn told(rt: &impl Abort, what: &str, steps: &Steps, wanted: [u64; 5]) {
+    let found = [
         steps.told(Place::Draw),
         steps.told(Place::Execute),
         steps.told(Place::Mark),
         steps.told(Place::Install),
         steps.told(Place::Rerun),
-    ]
+    ];
+    holds(rt, what, 3, found == wanted);
 }
 
 /// Asserts that two workers met at the gate, and how many steps there were.
 fn met(rt: &impl Abort, gate: &Gate, steps: u64) {
-    let found = (gate.was_missed(), gate.steps());
-    same(rt, &"one alone, and steps", &found, &(false, steps));
+    holds(rt, "both are there", 0, !gate.was_missed());
+    holds(rt, "the steps are told", 0, gate.steps() == steps);
 }
 
 /// A hundred calls are run at this pace.
@@ -143,12 +144,12 @@ fn each_step_is_told(rt: HostRuntime) -> Result<(), Fail> {
     let alloc = rt.alloc();
     let steps = Steps::new();
     execute_hundred(&rt, alloc, 3, &steps)?;
-    same(&rt, &"runs", &told(&steps), &[103, 100, 0, 0, 0]);
+    told(&rt, "runs", &steps, [103, 100, 0, 0, 0]);
     let steps = Steps::new();
     mark_many(&rt, alloc, 3, &steps)?;
-    same(&rt, &"marks", &told(&steps), &[603, 0, 900, 0, 0]);
+    told(&rt, "marks", &steps, [603, 0, 900, 0, 0]);
     let steps = Steps::new();
     install_hundred(&rt, alloc, 3, &steps)?;
-    same(&rt, &"writes", &told(&steps), &[0, 0, 0, 75, 0]);
+    told(&rt, "writes", &steps, [0, 0, 0, 75, 0]);
     Ok(())
 }
