@@ -26,6 +26,17 @@ pub const MEMORY: &str = "memory";
 /// More batches, and more requests, than any test here has.
 const MANY: u64 = 1_000_000;
 
+/// Asserts that this holds. An assertion in place costs its function several seconds of proof, a generic one more, and
+/// a call of this one next to none.
+pub fn holds(rt: &impl Abort, what: &str, found: bool) {
+    assert!(rt; found, "{what}");
+}
+
+/// Asserts that there are so many of what this names.
+pub fn is_count(rt: &impl Abort, what: &str, found: u64, wanted: u64) {
+    assert_eq!(rt; found, wanted, "{what}");
+}
+
 /// Asserts that what was found in this case is what was worked out for it.
 pub fn same<T: PartialEq + Debug>(rt: &impl Abort, case: &impl Debug, found: &T, wanted: &T) {
     assert_eq!(rt; found, wanted, "at {case:?}");

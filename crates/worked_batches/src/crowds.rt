@@ -1,5 +1,5 @@
 // Batches that are filled to the last place.
-use crate::banks::{MEMORY, calls, engine, in_turn, replicas, run, run_replicas};
+use crate::banks::{MEMORY, calls, engine, holds, in_turn, is_count, replicas, run, run_replicas};
 use answer_text::{print_answer, print_state};
 use aria_base::{Call, Free};
 use batch_core::{Answer, Reply, Wait};
@@ -26,13 +26,13 @@ fn crowd(rt: &impl Abort, alloc: Global, ask: Ask, count: usize) -> Vec<Call> {
 
 /// Asserts that the next batch has so much room, and how many requests have a number.
 fn leaves(rt: &impl Abort, bank: &Engine, room: u32, requests: u64) {
-    assert_eq!(rt; bank.room(), room);
-    assert_eq!(rt; bank.requests(), requests);
+    is_count(rt, "room", u64::from(bank.room()), u64::from(room));
+    is_count(rt, "requests", bank.requests(), requests);
 }
 
 /// Asserts that these requests finish, in this order.
 fn finish(rt: &impl Abort, answer: &Answer, order: &[u64]) {
-    assert_eq!(rt; answer.order.as_slice(), order);
+    holds(rt, "these finish", answer.order.as_slice() == order);
 }
 
 #[test]
@@ -51,7 +51,7 @@ fn what_waits_takes_places_of_the_next_batch(rt: HostRuntime) {
 /// Asserts that there are three replicas, that the next batch of each has so much room, and how many
 /// requests have a number in each.
 fn each_leaves(rt: &impl Abort, three: Replicas, room: u32, requests: u64) {
-    assert_eq!(rt; three.count(), 3);
+    is_count(rt, "replicas", u64::from(three.count()), 3);
     for bank in three.parts().as_slice() {
         leaves(rt, bank, room, requests);
     }
@@ -71,8 +71,8 @@ fn what_waits_takes_places_in_each_replica(rt: HostRuntime) {
 }
 
 /// How many lines say that their request waits since request 1 writes what it writes.
-fn behind_the_first(answer: &Answer) -> usize {
-    let mut count = 0_usize;
+fn behind_the_first(answer: &Answer) -> u64 {
+    let mut count = 0_u64;
     for line in answer.lines.as_slice() {
         if matches!(line.reply, Reply::Waits(Wait::Waw(1))) {
             count = count.wrapping_add(1);
@@ -82,15 +82,16 @@ fn behind_the_first(answer: &Answer) -> usize {
 }
 
 /// Asserts that all other requests of so many wait since request 1 writes what they write.
-fn others_wait(rt: &impl Abort, answer: &Answer, requests: usize) {
-    assert_eq!(rt; answer.lines.as_slice().len(), requests);
-    assert_eq!(rt; behind_the_first(answer).wrapping_add(1), requests);
+fn others_wait(rt: &impl Abort, answer: &Answer, requests: u64) {
+    is_count(rt, "lines", answer.lines.as_slice().len() as u64, requests);
+    let waiting = behind_the_first(answer);
+    is_count(rt, "that wait", waiting.wrapping_add(1), requests);
 }
 
 /// Asserts that an answer of the bank is printed with this beginning.
 fn begins(rt: &impl Abort, alloc: Global, bank: &Engine, answer: &Answer, wanted: &[u8]) {
     let text = print_answer(alloc, bank.catalog(), answer).expect(rt, MEMORY);
-    assert!(rt; text.starts_with(wanted), "what is printed first");
+    holds(rt, "this is printed first", text.starts_with(wanted));
 }
 
 #[test]
@@ -112,18 +113,19 @@ fn of_ten_thousand_that_put_one_account_one_finishes(rt: HostRuntime) {
 
 /// Asserts that so many requests finish, in the order of their numbers from 1.
 fn all_finish(rt: &impl Abort, answer: &Answer, requests: u64) {
-    assert_eq!(rt; in_turn(answer.order.as_slice()), Some(requests));
+    let finished = in_turn(answer.order.as_slice()).unwrap_or(0);
+    is_count(rt, "that finish in turn", finished, requests);
 }
 
 /// Asserts that the rows behind the first batch are printed so.
 fn same_state(rt: &impl Abort, alloc: Global, bank: &Engine, wanted: &[u8]) {
     let text = print_state(alloc, bank.catalog(), bank.tables(), 1).expect(rt, MEMORY);
-    assert_eq!(rt; text.as_slice(), wanted);
+    holds(rt, "these rows are printed", text.as_slice() == wanted);
 }
 
 /// Asserts that there are three replicas, and that the rows of each behind the first batch are printed so.
 fn each_state(rt: &impl Abort, alloc: Global, three: Replicas, wanted: &[u8]) {
-    assert_eq!(rt; three.count(), 3);
+    is_count(rt, "replicas", u64::from(three.count()), 3);
     for bank in three.parts().as_slice() {
         same_state(rt, alloc, bank, wanted);
     }

@@ -2,7 +2,7 @@
 ghost use Rattle.std.specs.Prelude.{◌≤◌};
 ghost use Rattle.aria_base.specs.declared.limits.TheConstants.{MOST_PERCENT, MOST_WORKERS};
 
-use crate::banks::{MEMORY, calls, engine, replicas, run, run_replicas, same};
+use crate::banks::{MEMORY, calls, engine, is_count, replicas, run, run_replicas, same};
 use answer_text::{append_answer, append_state};
 use aria_base::Free;
 use batch_engine::Engine;
@@ -210,7 +210,7 @@ fn replicas_print<R: Abort + Threads + Sync>(rt: &R, alloc: Global, example: &Ex
         append_answer(&mut answers, next.first().catalog(), &answer).expect(rt, MEMORY);
         replicas = next;
     }
-    same(rt, &"replicas", &replicas.count(), &3);
+    is_count(rt, "replicas", u64::from(replicas.count()), 3);
     let printed = answers.len();
     for engine in replicas.parts().as_slice() {
         same_text(rt, &config, &mut answers, engine, wanted);

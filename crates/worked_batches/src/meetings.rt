@@ -1,5 +1,5 @@
 // Workers are at work at once, and each step is told.
-use crate::banks::{MEMORY, calls, engine, in_turn, replicas, run, run_replicas};
+use crate::banks::{MEMORY, calls, engine, holds, in_turn, is_count, replicas, run, run_replicas};
 use aria_base::{Pace, Place};
 use batch_core::Answer;
 use batch_rules::verdicts::Rule;
@@ -63,8 +63,8 @@ fn run_three_at<P: Pace + Sync, R: Abort + Threads + Sync>(
 
 /// Asserts how often it was told that a request runs on the batch's start, and that one runs again.
 fn told(rt: &impl Abort, steps: &Steps, executes: u64, reruns: u64) {
-    assert_eq!(rt; steps.told(Place::Execute), executes);
-    assert_eq!(rt; steps.told(Place::Rerun), reruns);
+    is_count(rt, "runs", steps.told(Place::Execute), executes);
+    is_count(rt, "runs again", steps.told(Place::Rerun), reruns);
 }
 
 #[test]
@@ -93,9 +93,10 @@ fn apart(rt: &impl Abort, alloc: Global) -> Vec<Ask> {
 /// Asserts that two workers met at the gate, how many steps there were, and that so many requests
 /// finished, in the order of their numbers from 1.
 fn met(rt: &impl Abort, gate: &Gate, answer: &Answer, steps: u64, finished: u64) {
-    assert!(rt; !gate.was_missed(), "a worker passed alone");
-    assert_eq!(rt; gate.steps(), steps);
-    assert_eq!(rt; in_turn(answer.order.as_slice()), Some(finished));
+    holds(rt, "both are there", !gate.was_missed());
+    is_count(rt, "steps", gate.steps(), steps);
+    let order = in_turn(answer.order.as_slice()).unwrap_or(0);
+    is_count(rt, "that finish in turn", order, finished);
 }
 
 #[test]
