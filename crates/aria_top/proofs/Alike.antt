@@ -51,6 +51,7 @@ task_alone (task.Run settings) left images found = run_alone settings (opened im
 task_alone (task.Replay settings) left images found = ap (λ (o : Out). Some o) (replay_alone settings images found)
 task_alone (task.Gen settings) left images found = refl
 task_alone (task.Bench settings) left images found = ap (λ (o : Out). Some o) (bench_alone settings.workload.kind settings)
+task_alone (task.Mix settings) left images found = refl
 task_alone task.Audit left images found = refl
 task_alone task.Check left images found = refl
 

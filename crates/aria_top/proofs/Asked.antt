@@ -138,5 +138,6 @@ leaves_untouched (Some (task.Run settings)) left disk now = λ images found read
 leaves_untouched (Some (task.Replay settings)) left disk now = untouched_all disk (MayLeave disk disk.now) (λ images may. may)
 leaves_untouched (Some (task.Gen settings)) left disk now = tt
 leaves_untouched (Some (task.Bench settings)) left disk now = tt
+leaves_untouched (Some (task.Mix settings)) left disk now = tt
 leaves_untouched (Some task.Audit) left disk now = tt
 leaves_untouched (Some task.Check) left disk now = tt

@@ -228,7 +228,7 @@ of_line law l command.Check is h = tt
 of_line law l (command.Gen settings) is h = law.gen l settings is
 of_line law l (command.Bench settings) is h = record { asked = law.bench l settings is; workers = h.0; replicas = h.1; fallback = h.2 }
 of_line law l command.Audit is h = tt
-of_line law l (command.Mix settings) is h = tt
+of_line law l (command.Mix settings) is h = law.mix l settings is
 of_line law l (command.Nodes settings) is h = tt
 
 by_command : WordsAreWithin → (l : Line) (o : Option Command) → command_of l ≡ o → IfSome (option_and_then task_by o) tasks.IsInRange

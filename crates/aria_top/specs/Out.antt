@@ -1,5 +1,5 @@
 -- What the program prints, and how it ends.
-use Rattle.std.specs.Prelude.{◌≡◌, ℕ, List, ◌++◌, Option, Some, None, option_map}
+use Rattle.std.specs.Prelude.{◌≡◌, ⊤, ℕ, List, ◌++◌, Option, Some, None, option_map}
 use Rattle.answer_text.specs.Notices.{refused_text}
 use Rattle.answer_text.specs.declared.notices.NotDone.TheVariants.{Usage}
 use Rattle.audit_command.specs.Audits as audit
@@ -9,8 +9,11 @@ use Rattle.bench_command.specs.Summaries.{summary_of}
 use Rattle.check_command.specs.Outs as check
 use Rattle.command_words.specs.declared.settings.Bench.{Bench}
 use Rattle.command_words.specs.declared.settings.Load.{Load}
+use Rattle.command_words.specs.declared.settings.Mix.{Mix}
 use Rattle.command_words.specs.declared.settings.Load.TheVariants as load
 use Rattle.gen_command.specs.Scripts.{script_of}
+use Rattle.mix_command.specs.Courses.{last_stage}
+use Rattle.mix_command.specs.Summaries as mixes
 use Rattle.aria_store.specs.Reopens.{Reopened}
 use Rattle.run_commands.specs.Outs.{out_of, told_of}
 use Rattle.run_commands.specs.Resumes.{IsToldOver, out_over}
@@ -24,6 +27,7 @@ use Rattle.script_course.specs.Served.{IsToldOf}
 use Rattle.script_course.specs.declared.statuses.TheConstants.{DONE, USAGE}
 use Rattle.tpcc_audit.specs.Conditions.{audited}
 use Rattle.tpcc_audit.specs.declared.findings.Audit.{Audit}
+use Rattle.tpcc_routines.specs.Sound.{IsSound}
 use Rattle.aria_top.specs.Tasks.{alone, task_in}
 use Rattle.aria_top.specs.declared.tasks.CommandTask.{CommandTask}
 use Rattle.aria_top.specs.declared.tasks.CommandTask.TheVariants as task
@@ -43,6 +47,14 @@ bench_by load.Tpcc settings = with_finding (summary_of settings) (audited (ran_o
 abbrev pub bench_out : Bench → Out
 bench_out settings = bench_by settings.workload.kind settings
 
+-- the summary of the mix, whose last line says that the audit holds; where it is printed, so it does
+abbrev pub mix_out : Mix → Out
+mix_out settings = record { bytes = mixes.summary_of settings; status = DONE }
+
+abbrev pub IsTrueOf : CommandTask → Type 0
+IsTrueOf (task.Mix settings) = IsSound (last_stage settings).mix.rows
+IsTrueOf other = ⊤
+
 -- What a task prints on an input, where the source tells its bytes; what reads nothing prints without it. A command on a store has
 -- its output by the bytes of the four files and by what they reopen as.
 abbrev pub out_of_task : CommandTask → Option (List ℕ) → (ℕ → List ℕ) → Reopened → Option Out
@@ -52,6 +64,7 @@ out_of_task (task.Run settings) left images found = out_over settings (opened im
 out_of_task (task.Replay settings) left images found = Some (replay.out_of settings images found)
 out_of_task (task.Gen settings) left images found = Some (record { bytes = script_of settings; status = DONE })
 out_of_task (task.Bench settings) left images found = Some (bench_out settings)
+out_of_task (task.Mix settings) left images found = Some (mix_out settings)
 out_of_task task.Audit left images found = option_map audit.out_of left
 out_of_task task.Check left images found = option_map check.out_of left
 

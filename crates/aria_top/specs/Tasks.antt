@@ -8,7 +8,7 @@ use Rattle.command_words.specs.declared.settings.Command.{Command}
 use Rattle.command_words.specs.declared.settings.Command.TheVariants as command
 use Rattle.bench_command.specs.Benches as bench
 use Rattle.run_commands.specs.Outs as once
-use Rattle.workloads.specs.Laws.{IsAsked}
+use Rattle.workloads.specs.Laws.{IsAsked, IsMixAsked}
 use Rattle.aria_top.specs.declared.tasks.CommandTask.{CommandTask}
 use Rattle.aria_top.specs.declared.tasks.CommandTask.TheVariants as task
 
@@ -20,6 +20,7 @@ task_by (command.Run settings) = Some (task.Run settings)
 task_by (command.Replay settings) = Some (task.Replay settings)
 task_by (command.Gen settings) = Some (task.Gen settings)
 task_by (command.Bench settings) = Some (task.Bench settings)
+task_by (command.Mix settings) = Some (task.Mix settings)
 task_by command.Audit = Some task.Audit
 task_by command.Check = Some task.Check
 task_by other = None
@@ -41,6 +42,7 @@ IsInRange (task.Replay settings) = ((1 ≤ settings.workers) × (settings.worker
     × ((1 ≤ settings.replicas) × (settings.replicas ≤ MOST_REPLICAS))
 IsInRange (task.Gen settings) = IsAsked settings
 IsInRange (task.Bench settings) = bench.IsInRange settings
+IsInRange (task.Mix settings) = IsMixAsked settings
 IsInRange task.Audit = Unit {0}
 IsInRange task.Check = Unit {0}
 
@@ -84,4 +86,5 @@ alone (task.Once settings) = task.Once (record settings { workers = 1; replicas 
 alone (task.Run settings) = task.Run (record settings { workers = 1; replicas = 1; batons = false })
 alone (task.Replay settings) = task.Replay (record settings { workers = 1; replicas = 1; batons = false })
 alone (task.Bench settings) = task.Bench (record settings { workers = 1; replicas = 1; batons = false })
+alone (task.Mix settings) = task.Mix (record settings { workers = 1 })
 alone other = other

@@ -4,22 +4,25 @@ ghost use Rattle.std.specs.Io.KnownBytes.{Appends, IsAtEnd};
 ghost use Rattle.aria_base.specs.Faults.{Rose};
 ghost use Rattle.aria_base.specs.Streams.{AppendsFront};
 ghost use Rattle.script_course.specs.Served.{IsToldOf};
-ghost use Rattle.aria_top.specs.Out.{bench_out};
+ghost use Rattle.aria_top.specs.Out.{bench_out, mix_out};
 ghost use Rattle.aria_top.specs.Statuses.{IsAnswered, IsEnded};
 ghost use Rattle.audit_command.specs.Audits as audits;
 ghost use Rattle.bench_command.specs.Benches as benches;
 ghost use Rattle.check_command.specs.Outs as checks;
 ghost use Rattle.gen_command.specs.Scripts.{script_of};
 ghost use Rattle.run_commands.specs.Outs.{IsInRange, out_of, told_of};
-ghost use Rattle.workloads.specs.Laws.{IsAsked};
+ghost use Rattle.mix_command.specs.Courses.{last_stage};
+ghost use Rattle.tpcc_routines.specs.Sound.{IsSound};
+ghost use Rattle.workloads.specs.Laws.{IsAsked, IsMixAsked};
 
 use crate::summaries::print_bench;
 use aria_base::{Memory, Pace, Sink, Source};
 use audit_command::audit;
 use check_command::check_report;
-use command_words::{Bench, Once, Workload};
+use command_words::{Bench, Mix, Once, Workload};
 use disk_model::Disk;
 use gen_command::generate;
+use mix_command::measure;
 use run_commands::once;
 use script_course::{DONE, NO_MEMORY, READ_FAULT, REFUSED, WRITE_FAULT};
 use std::alloc::Global;
@@ -85,6 +88,30 @@ pub fn run_bench<K: Sink, P: Pace + Sync, R: Threads + Sync>(
     match print_bench(rt, alloc, settings, pace) {
         Ok((text, status)) => match out.give(&text) {
             Ok(()) => return status,
+            Err(_) => return WRITE_FAULT,
+        },
+        Err(Memory) => return NO_MEMORY,
+    }
+}
+
+/// Runs `mix`, and answers its status. Where it is done, the rows are sound, so that the audit holds.
+pub fn run_mix<K: Sink, P: Pace + Sync, R: Threads + Sync>(
+    rt: &R,
+    alloc: Global,
+    settings: &Mix,
+    out: &mut K,
+    pace: &P,
+) -> u8
+    requires { IsMixAsked settings.now }
+    ensures answered { IsAnswered result → (result ≡ DONE) × Appends (K.given out.old) (K.given out.new) (mix_out settings.now).bytes }
+    ensures front { AppendsFront (K.given out.old) (K.given out.new) (mix_out settings.now).bytes }
+    ensures others { (result ≡ DONE) ⊎ (result ≡ WRITE_FAULT) ⊎ (result ≡ NO_MEMORY) }
+    ensures write { result ≡ WRITE_FAULT → Rose (K.faults out.old) (K.faults out.new) }
+    ensures sound { result ≡ DONE → IsSound (last_stage settings.now).mix.rows }
+{
+    match measure(rt, alloc, settings, pace) {
+        Ok(text) => match out.give(&text) {
+            Ok(()) => return DONE,
             Err(_) => return WRITE_FAULT,
         },
         Err(Memory) => return NO_MEMORY,

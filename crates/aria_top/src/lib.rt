@@ -10,6 +10,7 @@
 //!                                                       │            ├> gen_command (gen)
 //!                                                       │            ├> audit_command (audit)
 //!                                                       │            ├> check_command (check)
+//!                                                       │            ├> mix_command (mix)
 //!                                                       │            └> summaries ──> bench_command (bench)
 //!                                                       └> stores ───┬> store_commands (init, replay)
 //!                                                                    └> run_commands (run)

@@ -4,7 +4,9 @@ ghost use Rattle.aria_top.specs.Tasks.{task_by, task_in, IsInRange};
 ghost use Rattle.workloads.specs.Laws.{WordsAreWithin};
 
 use aria_base::Memory;
-use command_words::{Bench, Command, Init, Once, Replay, Run, Workload, commands, read_settings};
+use command_words::{
+    Bench, Command, Init, Mix, Once, Replay, Run, Workload, commands, read_settings,
+};
 use std::alloc::Global;
 use workloads::words_are_within;
 
@@ -17,6 +19,7 @@ pub enum CommandTask {
     Replay(Replay),
     Gen(Workload),
     Bench(Bench),
+    Mix(Mix),
     Audit,
     Check,
 }
@@ -45,8 +48,9 @@ fn task_by(command: Command) -> Option<CommandTask>
         Command::Replay(settings) => Some(CommandTask::Replay(settings)),
         Command::Gen(settings) => Some(CommandTask::Gen(settings)),
         Command::Bench(settings) => Some(CommandTask::Bench(settings)),
+        Command::Mix(settings) => Some(CommandTask::Mix(settings)),
         Command::Audit => Some(CommandTask::Audit),
         Command::Check => Some(CommandTask::Check),
-        Command::Mix(_) | Command::Nodes(_) => None,
+        Command::Nodes(_) => None,
     }
 }

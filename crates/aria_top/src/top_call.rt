@@ -4,7 +4,7 @@ ghost use Rattle.std.specs.Io.KnownBytes.{Appends, IsAtEnd};
 ghost use Rattle.aria_base.specs.Faults.{Rose};
 ghost use Rattle.aria_base.specs.Streams.{AppendsFront};
 ghost use Rattle.command_words.specs.declared.settings.Once.{Once};
-ghost use Rattle.aria_top.specs.Out.{out_for, out_of_task, IsToldFor, LinesAreOne};
+ghost use Rattle.aria_top.specs.Out.{out_for, out_of_task, IsToldFor, IsTrueOf, LinesAreOne};
 ghost use Rattle.aria_top.specs.Statuses.{IsAnswered, IsEnded};
 ghost use Rattle.aria_store.specs.Reopens.{Reopened};
 ghost use Rattle.aria_top.specs.Disks.{LeavesDisk, Sees};
@@ -13,7 +13,7 @@ ghost use Rattle.answer_text.specs.Notices.{refused_text};
 ghost use Rattle.answer_text.specs.declared.notices.NotDone.TheVariants.{Usage};
 ghost use Rattle.run_commands.specs.Serial.{EachIsSerial, EachReplayIsSerial, EachRunIsSerial};
 
-use crate::commands::{run_audit, run_bench, run_check, run_gen, run_once};
+use crate::commands::{run_audit, run_bench, run_check, run_gen, run_mix, run_once};
 use crate::laws::lines_are_one;
 use crate::stores::{run_batches, run_init, run_replay};
 use crate::tasks::{CommandTask, read_task};
@@ -22,7 +22,7 @@ use aria_base::{Memory, Pace, Sink, Source};
 use disk_model::Disk;
 use run_commands::{each_is_serial, each_replay_is_serial, each_run_is_serial};
 use script_course::{
-    DISK_FAULT, FAILS, NO_MEMORY, READ_FAULT, REFUSED, STORE_REFUSED, USAGE, WRITE_FAULT,
+    DISK_FAULT, DONE, FAILS, NO_MEMORY, READ_FAULT, REFUSED, STORE_REFUSED, USAGE, WRITE_FAULT,
 };
 use std::alloc::Global;
 use std::thread::Threads;
@@ -97,6 +97,9 @@ pub fn aria<S: Source, K: Sink, D: Disk, P: Pace + Sync, R: Threads + Sync>(
 
     // Workers, replicas and batons have no say in what is printed.
     ensures alike { LinesAreOne }
+
+    // Where the mix is printed, its rows are sound: the audit holds, as the last line says.
+    ensures sound { result ≡ DONE → IfSome (task_in (map string_bytes words.now)) IsTrueOf }
 {
     each_is_serial();
     each_run_is_serial();
@@ -141,6 +144,7 @@ fn run_task<S: Source, K: Sink, D: Disk, P: Pace + Sync, R: Threads + Sync>(
     ensures unlooked { makes (Some task.now) ≡ true → (result ≡ REFUSED) ⊎ (result ≡ READ_FAULT) → disk.new ≡ disk.old }
     ensures disk { uses_disk (Some task.now) ≡ false → disk.new ≡ disk.old }
     ensures leaves { LeavesDisk (Some task.now) (S.left input.old) (D.history disk.old) (D.history disk.new) (K.given out.old) (K.given out.new) result }
+    ensures sound { result ≡ DONE → IsTrueOf task.now }
 {
     match task {
         CommandTask::Once(settings) => return run_once(rt, alloc, settings, input, out, disk, pace),
@@ -151,6 +155,7 @@ fn run_task<S: Source, K: Sink, D: Disk, P: Pace + Sync, R: Threads + Sync>(
         CommandTask::Replay(settings) => return run_replay(rt, alloc, settings, out, disk, pace),
         CommandTask::Gen(settings) => return run_gen(alloc, settings, out),
         CommandTask::Bench(settings) => return run_bench(rt, alloc, settings, out, pace),
+        CommandTask::Mix(settings) => return run_mix(rt, alloc, settings, out, pace),
         CommandTask::Audit => return run_audit(alloc, input, out),
         CommandTask::Check => return run_check(alloc, input, out),
     }

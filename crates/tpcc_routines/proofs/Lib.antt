@@ -1,0 +1,4 @@
+mod ColumnKinds
+mod Drawing
+mod Turning
+pub mod Fitting

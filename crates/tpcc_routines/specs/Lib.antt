@@ -1,0 +1,5 @@
+pub mod Answers
+pub mod Routines
+pub mod Turns
+pub mod Mixes
+pub mod Sound

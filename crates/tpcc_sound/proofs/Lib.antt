@@ -1,0 +1,17 @@
+mod Audits
+mod Buying
+mod Closing
+mod Counting
+mod Ending
+mod Entries
+mod Exact
+mod Heading
+mod Keeping
+mod Leading
+mod Ordering
+mod Paying
+mod Points
+mod Rising
+mod Selling
+mod Serially
+mod Working
