@@ -1,0 +1,7 @@
+pub mod Keeping
+pub mod Completing
+pub mod Taking
+pub mod Few
+pub mod Lengthening
+pub mod Putting
+pub mod Beginning

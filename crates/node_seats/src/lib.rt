@@ -1,0 +1,16 @@
+//! Nodes by themselves: each with what it has of all batches.
+//!
+//! ```text
+//!     Seats       a node that is given messages, and completes batch after batch
+//!     AllSeats    all nodes as they begin, and as a batch starts
+//!     RowsAt      the rows of a database at one node
+//! ```
+#![tactic(auto)]
+
+mod all_seats;
+mod rows_at;
+mod seats;
+
+pub use all_seats::{first_seats, lengthen_all};
+pub use rows_at::put_rows_at;
+pub use seats::Seat;
