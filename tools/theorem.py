@@ -212,7 +212,7 @@ KINDS = [
     ("aria_base", "Source::take", 4, ("aria_base", "Streams", "Takes")),
     ("dir_disk", "DirDisk::new", 1, None),
     ("dir_disk", "Folder::new", 0, None),
-    ("aria_top", "aria", 21, ("aria_top", "Out", "IsToldFor")),
+    ("aria_top", "aria", 22, ("aria_top", "Out", "IsToldFor")),
 ]
 
 
