@@ -1,5 +1,5 @@
 #!/usr/bin/env python3
-# What the built program takes by the clock. Printed are finished requests a second of `bench`, by 1, 2 and
+# What the built program takes by the clock. Printed are finished requests a second of `bench` and `mix`, by 1, 2 and
 # 4 workers, and the time of a script of 200,000 requests through `once`. Arguments: the program, and how
 # many turns there are if not 3. Of each run the least time counts.
 import os
@@ -11,6 +11,7 @@ program = os.path.abspath(sys.argv[1])
 turns = int(sys.argv[2]) if len(sys.argv) > 2 else 3
 
 YCSB = "bench --keys 100000 --size 1000 --reads 80"
+MIX = "mix --customers 3000 --items 100000 --size 50"
 TPCC = "bench --kind tpcc --warehouses 4 --customers 3000 --items 100000 --size 50 --fallback 0"
 WORKERS = (1, 2, 4)
 
@@ -35,7 +36,7 @@ def rate(words, few, many):
 
 
 print(f"{'':>6}" + "".join(f"{f'{w} workers':>12}" for w in WORKERS))
-for title, words, few, many in (("ycsb", YCSB, 1, 101), ("tpcc", TPCC, 1, 801)):
+for title, words, few, many in (("ycsb", YCSB, 1, 101), ("tpcc", TPCC, 1, 801), ("mix", MIX, 1, 101)):
     rates = [rate(f"{words} --workers {w}", few, many) for w in WORKERS]
     print(f"{title:>6}" + "".join(f"{r:>12,.0f}" for r in rates), flush=True)
 
