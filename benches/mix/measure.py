@@ -8,7 +8,7 @@ import sys
 
 KINDS = ["new orders", "payments", "Order-Status", "Delivery", "Stock-Level"]
 WORKERS = [1, 2, 4]
-SIZE, BATCHES = 10, 100
+SIZE, BATCHES = 10, 21
 
 program, turns = os.path.realpath(sys.argv[1]), int(sys.argv[2])
 
@@ -37,5 +37,5 @@ for kind, name in enumerate(KINDS):
 if shutil.which("valgrind"):
     print(f"\n{'':>14}{'instructions a request that ends':>34}")
     for kind, name in enumerate(KINDS):
-        few, many = ran(kind, 2, 1), ran(kind, 12, 1)
-        print(f"{name:>14}{(collected(kind, 12) - collected(kind, 2)) / (many[0] - few[0]):>34,.0f}", flush=True)
+        few, many = ran(kind, 2, 1), ran(kind, 7, 1)
+        print(f"{name:>14}{(collected(kind, 7) - collected(kind, 2)) / (many[0] - few[0]):>34,.0f}", flush=True)
