@@ -1,0 +1,20 @@
+//! Worked runs of the routines of order entry, which the gate runs: each on tables of a few rows, with what it gives
+//! and the rows that it leaves; what is sound; and the draws of two batches.
+#![tactic(auto)]
+
+#[cfg(test)]
+mod databases;
+#[cfg(test)]
+mod deliveries;
+#[cfg(test)]
+mod findings;
+#[cfg(test)]
+mod levels;
+#[cfg(test)]
+mod mixes;
+#[cfg(test)]
+mod runs;
+#[cfg(test)]
+mod statuses;
+#[cfg(test)]
+mod steps;
