@@ -1,0 +1,5 @@
+pub mod Merging
+pub mod Shares
+pub mod Printed
+pub mod Stepped
+pub mod Founds

@@ -1,0 +1,4 @@
+pub mod Asked
+pub mod Settling
+pub mod Databases
+pub mod Ready

@@ -1,0 +1,13 @@
+// Nodes as their callers have them.
+use node_world::World;
+use std::alloc::Global;
+use std::snapshot::Snapshot;
+use tbl_rows::Tables;
+
+/// Nodes that divide the rows of a database, and run its batches by messages alone.
+#[derive(Drop)]
+pub struct Nodes {
+    pub(crate) world: World,
+    pub(crate) start: Snapshot<Tables>,
+    pub(crate) alloc: Global,
+}
