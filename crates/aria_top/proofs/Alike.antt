@@ -1,12 +1,14 @@
--- Workers, replicas and batons have no say in what a command line prints.
+-- Workers, replicas, nodes and batons have no say in what a command line prints.
 use Rattle.std.proofs.Common.{◌≡◌, ◌∙◌, sym, ap, refl, ℕ, false, List, Option, Some, None, option_map}
 use Rattle.aria_store.specs.Reopens.{Reopened, NoStore, Damaged, Found}
 use Rattle.command_words.specs.declared.settings.Bench.{Bench}
 use Rattle.command_words.specs.declared.settings.Load.{Load}
 use Rattle.command_words.specs.declared.settings.Load.TheVariants as load
+use Rattle.command_words.specs.declared.settings.Nodes.{Nodes}
 use Rattle.command_words.specs.declared.settings.Once.{Once}
 use Rattle.command_words.specs.declared.settings.Replay.{Replay}
 use Rattle.command_words.specs.declared.settings.Run.{Run}
+use Rattle.nodes_command.specs.Outs as nodes
 use Rattle.run_commands.specs.Outs.{out_of}
 use Rattle.run_commands.specs.Resumes.{out_over}
 use Rattle.script_course.specs.Courses.{Out}
@@ -41,6 +43,10 @@ bench_alone : (kind : Load) (settings : Bench) → bench_by kind settings ≡ be
 bench_alone load.Ycsb settings = refl
 bench_alone load.Tpcc settings = refl
 
+nodes_alone : (settings : Nodes) (left : Option (List ℕ)) → option_map (nodes.out_of settings) left ≡ option_map (nodes.out_of (record settings { nodes = 1 })) left
+nodes_alone settings None = refl
+nodes_alone settings (Some text) = refl
+
 -- ---- each task
 
 task_alone : (t : CommandTask) (left : Option (List ℕ)) (images : ℕ → List ℕ) (found : Reopened)
@@ -52,6 +58,7 @@ task_alone (task.Replay settings) left images found = ap (λ (o : Out). Some o) 
 task_alone (task.Gen settings) left images found = refl
 task_alone (task.Bench settings) left images found = ap (λ (o : Out). Some o) (bench_alone settings.workload.kind settings)
 task_alone (task.Mix settings) left images found = refl
+task_alone (task.Nodes settings) left images found = nodes_alone settings left
 task_alone task.Audit left images found = refl
 task_alone task.Check left images found = refl
 

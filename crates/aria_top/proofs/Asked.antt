@@ -139,5 +139,6 @@ leaves_untouched (Some (task.Replay settings)) left disk now = untouched_all dis
 leaves_untouched (Some (task.Gen settings)) left disk now = tt
 leaves_untouched (Some (task.Bench settings)) left disk now = tt
 leaves_untouched (Some (task.Mix settings)) left disk now = tt
+leaves_untouched (Some (task.Nodes settings)) left disk now = tt
 leaves_untouched (Some task.Audit) left disk now = tt
 leaves_untouched (Some task.Check) left disk now = tt

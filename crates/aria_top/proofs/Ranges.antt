@@ -15,10 +15,12 @@ use Rattle.command_words.specs.declared.settings.Command.{Command}
 use Rattle.command_words.specs.declared.settings.Command.TheVariants as command
 use Rattle.command_words.specs.declared.settings.Init.{Init}
 use Rattle.command_words.specs.declared.settings.Listing.{Listing}
+use Rattle.command_words.specs.declared.settings.Nodes.{Nodes}
 use Rattle.command_words.specs.declared.settings.Once.{Once}
 use Rattle.command_words.specs.declared.settings.Replay.{Replay}
 use Rattle.command_words.specs.declared.settings.Run.{Run}
 use Rattle.command_words.specs.declared.settings.Workload.{Workload}
+use Rattle.nodes_command.specs.Outs as nodes
 use Rattle.run_commands.specs.Outs.{IsInRange}
 use Rattle.workloads.specs.Laws.{WordsAreWithin}
 use Rattle.aria_top.specs.Tasks as tasks
@@ -172,6 +174,21 @@ bench_holds l =
     if_then (number_in l option.fallback) (λ f. OfBench l d w r u f)
     (IsWithin option.fallback) BenchRange (in_range l option.fallback (omega arith, omega arith)) (λ f of_f. (of_w, of_r, of_f.1))))))
 
+abbrev NodesRange : Nodes → Type 0
+NodesRange settings = nodes.IsInRange settings
+
+abbrev OfNodes : Line → ℕ → Rule → Listing → Option Nodes
+OfNodes l n u s = Some (record { nodes = n; rule = u; listing = s; drain = flag_in l option.drain })
+
+nodes_holds : (l : Line) → IfSome (nodes_of l) NodesRange
+nodes_holds l =
+    if_then (number_in l option.nodes) (λ n. with_some (choice_in l option.rule) (λ u. with_some (choice_in l option.listing) (λ s. OfNodes l n u s)))
+    (IsWithin option.nodes) NodesRange (in_range l option.nodes (omega arith, omega arith)) (λ n of_n.
+    if_then (choice_in l option.rule) (λ u. with_some (choice_in l option.listing) (λ s. OfNodes l n u s))
+    (λ _. Unit {0}) NodesRange (anything (choice_in l option.rule)) (λ u _.
+    if_then (choice_in l option.listing) (λ s. OfNodes l n u s)
+    (λ _. Unit {0}) NodesRange (anything (choice_in l option.listing)) (λ s _. record { nodes = of_n })))
+
 -- ---- the command of a line
 
 abbrev IsSound : Command → Type 0
@@ -184,7 +201,7 @@ IsSound (command.Gen settings) = Unit {0}
 IsSound (command.Bench settings) = BenchRange settings
 IsSound command.Audit = Unit {0}
 IsSound (command.Mix settings) = Unit {0}
-IsSound (command.Nodes settings) = Unit {0}
+IsSound (command.Nodes settings) = NodesRange settings
 
 module _ (name : List ℕ) (l : Line) where
   abbrev Reader : Type 0
@@ -212,7 +229,7 @@ module _ (name : List ℕ) (l : Line) where
       (one (codes "bench", λ k. option_map command.Bench (bench_of k)) (drop 7 readers) (if_map (bench_of l) command.Bench IsSound (bench_holds l))
       (one (codes "audit", λ k. Some command.Audit) (drop 8 readers) tt
       (one (codes "mix", λ k. option_map command.Mix (mix_of k)) (drop 9 readers) (if_map (mix_of l) command.Mix IsSound (anything (mix_of l)))
-      (one (codes "nodes", λ k. option_map command.Nodes (nodes_of k)) [] (if_map (nodes_of l) command.Nodes IsSound (anything (nodes_of l))) tt)))))))))
+      (one (codes "nodes", λ k. option_map command.Nodes (nodes_of k)) [] (if_map (nodes_of l) command.Nodes IsSound (nodes_holds l)) tt)))))))))
 
 sound : (l : Line) (c : Command) → command_of l ≡ Some c → IsSound c
 sound l c e = of_some (command_of l) c IsSound e (all l.cmd.name l)
@@ -229,7 +246,7 @@ of_line law l (command.Gen settings) is h = law.gen l settings is
 of_line law l (command.Bench settings) is h = record { asked = law.bench l settings is; workers = h.0; replicas = h.1; fallback = h.2 }
 of_line law l command.Audit is h = tt
 of_line law l (command.Mix settings) is h = law.mix l settings is
-of_line law l (command.Nodes settings) is h = tt
+of_line law l (command.Nodes settings) is h = h
 
 by_command : WordsAreWithin → (l : Line) (o : Option Command) → command_of l ≡ o → IfSome (option_and_then task_by o) tasks.IsInRange
 by_command law l None is = tt

@@ -14,6 +14,7 @@ use Rattle.command_words.specs.declared.settings.Load.TheVariants as load
 use Rattle.gen_command.specs.Scripts.{script_of}
 use Rattle.mix_command.specs.Courses.{last_stage}
 use Rattle.mix_command.specs.Summaries as mixes
+use Rattle.nodes_command.specs.Outs as nodes
 use Rattle.aria_store.specs.Reopens.{Reopened}
 use Rattle.run_commands.specs.Outs.{out_of, told_of}
 use Rattle.run_commands.specs.Resumes.{IsToldOver, out_over}
@@ -65,6 +66,7 @@ out_of_task (task.Replay settings) left images found = Some (replay.out_of setti
 out_of_task (task.Gen settings) left images found = Some (record { bytes = script_of settings; status = DONE })
 out_of_task (task.Bench settings) left images found = Some (bench_out settings)
 out_of_task (task.Mix settings) left images found = Some (mix_out settings)
+out_of_task (task.Nodes settings) left images found = option_map (nodes.out_of settings) left
 out_of_task task.Audit left images found = option_map audit.out_of left
 out_of_task task.Check left images found = option_map check.out_of left
 
@@ -81,11 +83,12 @@ abbrev pub IsToldFor : Option CommandTask → (ℕ → List ℕ) → Reopened �
 IsToldFor (Some (task.Once settings)) images found left rest old new = IsToldOf (told_of settings) left rest old new
 IsToldFor (Some (task.Init settings)) images found left rest old new = IsToldOf init_told left rest old new
 IsToldFor (Some (task.Run settings)) images found left rest old new = IsToldOver settings (opened images found) left rest old new
+IsToldFor (Some (task.Nodes settings)) images found left rest old new = IsToldOf (nodes.told_of settings) left rest old new
 IsToldFor (Some task.Audit) images found left rest old new = IsToldOf audit.told_of left rest old new
 IsToldFor (Some task.Check) images found left rest old new = IsToldOf check.told_of left rest old new
 IsToldFor other images found left rest old new = ⊥
 
--- command lines that ask for the same but for workers, replicas and batons print the same
+-- command lines that ask for the same but for workers, replicas, nodes and batons print the same
 abbrev pub LinesAreOne : Type 0
 LinesAreOne =
     (first second : List (List ℕ)) (left : Option (List ℕ)) (images : ℕ → List ℕ) (found : Reopened)

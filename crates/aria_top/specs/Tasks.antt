@@ -7,12 +7,13 @@ use Rattle.command_words.specs.Tables.{commands}
 use Rattle.command_words.specs.declared.settings.Command.{Command}
 use Rattle.command_words.specs.declared.settings.Command.TheVariants as command
 use Rattle.bench_command.specs.Benches as bench
+use Rattle.nodes_command.specs.Outs as nodes
 use Rattle.run_commands.specs.Outs as once
 use Rattle.workloads.specs.Laws.{IsAsked, IsMixAsked}
 use Rattle.aria_top.specs.declared.tasks.CommandTask.{CommandTask}
 use Rattle.aria_top.specs.declared.tasks.CommandTask.TheVariants as task
 
--- the task of a command that the program has; every other command is refused as arguments that are none
+-- the task of a command
 abbrev pub task_by : Command → Option CommandTask
 task_by (command.Once settings) = Some (task.Once settings)
 task_by (command.Init settings) = Some (task.Init settings)
@@ -21,9 +22,9 @@ task_by (command.Replay settings) = Some (task.Replay settings)
 task_by (command.Gen settings) = Some (task.Gen settings)
 task_by (command.Bench settings) = Some (task.Bench settings)
 task_by (command.Mix settings) = Some (task.Mix settings)
+task_by (command.Nodes settings) = Some (task.Nodes settings)
 task_by command.Audit = Some task.Audit
 task_by command.Check = Some task.Check
-task_by other = None
 
 -- the command that arguments are, where they are one
 abbrev pub command_in : List (List ℕ) → Option Command
@@ -43,6 +44,7 @@ IsInRange (task.Replay settings) = ((1 ≤ settings.workers) × (settings.worker
 IsInRange (task.Gen settings) = IsAsked settings
 IsInRange (task.Bench settings) = bench.IsInRange settings
 IsInRange (task.Mix settings) = IsMixAsked settings
+IsInRange (task.Nodes settings) = nodes.IsInRange settings
 IsInRange task.Audit = Unit {0}
 IsInRange task.Check = Unit {0}
 
@@ -51,6 +53,7 @@ abbrev pub reads : Option CommandTask → Bool
 reads (Some (task.Once settings)) = true
 reads (Some (task.Init settings)) = true
 reads (Some (task.Run settings)) = true
+reads (Some (task.Nodes settings)) = true
 reads (Some task.Audit) = true
 reads (Some task.Check) = true
 reads other = false
@@ -80,11 +83,12 @@ finds (Some task.Audit) = true
 finds (Some task.Check) = true
 finds other = false
 
--- the same task by one worker on one replica, without batons
+-- the same task by one worker on one replica or node, without batons
 abbrev pub alone : CommandTask → CommandTask
 alone (task.Once settings) = task.Once (record settings { workers = 1; replicas = 1; batons = false })
 alone (task.Run settings) = task.Run (record settings { workers = 1; replicas = 1; batons = false })
 alone (task.Replay settings) = task.Replay (record settings { workers = 1; replicas = 1; batons = false })
 alone (task.Bench settings) = task.Bench (record settings { workers = 1; replicas = 1; batons = false })
 alone (task.Mix settings) = task.Mix (record settings { workers = 1 })
+alone (task.Nodes settings) = task.Nodes (record settings { nodes = 1 })
 alone other = other

@@ -12,6 +12,7 @@ ghost use Rattle.check_command.specs.Outs as checks;
 ghost use Rattle.gen_command.specs.Scripts.{script_of};
 ghost use Rattle.run_commands.specs.Outs.{IsInRange, out_of, told_of};
 ghost use Rattle.mix_command.specs.Courses.{last_stage};
+ghost use Rattle.nodes_command.specs.Outs as nodes;
 ghost use Rattle.tpcc_routines.specs.Sound.{IsSound};
 ghost use Rattle.workloads.specs.Laws.{IsAsked, IsMixAsked};
 
@@ -19,10 +20,11 @@ use crate::summaries::print_bench;
 use aria_base::{Memory, Pace, Sink, Source};
 use audit_command::audit;
 use check_command::check_report;
-use command_words::{Bench, Mix, Once, Workload};
+use command_words::{Bench, Mix, Nodes, Once, Workload};
 use disk_model::Disk;
 use gen_command::generate;
 use mix_command::measure;
+use nodes_command::nodes;
 use run_commands::once;
 use script_course::{DONE, NO_MEMORY, READ_FAULT, REFUSED, WRITE_FAULT};
 use std::alloc::Global;
@@ -115,6 +117,30 @@ pub fn run_mix<K: Sink, P: Pace + Sync, R: Threads + Sync>(
             Err(_) => return WRITE_FAULT,
         },
         Err(Memory) => return NO_MEMORY,
+    }
+}
+
+/// Runs `nodes`, and answers its status.
+#[tactic(auto, using(crate::proofs::Stopped::reader_ends))]
+pub fn run_nodes<S: Source, K: Sink>(
+    alloc: Global,
+    settings: &Nodes,
+    input: &mut S,
+    out: &mut K,
+) -> u8
+    requires { nodes.IsInRange settings.now }
+    ensures answered { IsAnswered result → IfSome (S.left input.old)
+        (λ text. (result ≡ (nodes.out_of settings.now text).status) × Appends (K.given out.old) (K.given out.new) (nodes.out_of settings.now text).bytes) }
+    ensures front { IfSome (S.left input.old) (λ text. AppendsFront (K.given out.old) (K.given out.new) (nodes.out_of settings.now text).bytes) }
+    ensures others { (result ≡ DONE) ⊎ (result ≡ REFUSED) ⊎ (result ≡ READ_FAULT) ⊎ (result ≡ WRITE_FAULT) ⊎ (result ≡ NO_MEMORY) }
+    ensures read { result ≡ READ_FAULT → Rose (S.faults input.old) (S.faults input.new) }
+    ensures write { result ≡ WRITE_FAULT → Rose (K.faults out.old) (K.faults out.new) }
+    ensures end { IsEnded result → IsAtEnd (S.left input.new) }
+    ensures told { result ≡ READ_FAULT → IsToldOf (nodes.told_of settings.now) (S.left input.old) (S.left input.new) (K.given out.old) (K.given out.new) }
+{
+    match nodes(alloc, settings, input, out) {
+        Ok(status) => status,
+        Err(stop) => stop.status(),
     }
 }
 

@@ -11,6 +11,7 @@
 //!                                                       │            ├> audit_command (audit)
 //!                                                       │            ├> check_command (check)
 //!                                                       │            ├> mix_command (mix)
+//!                                                       │            ├> nodes_command (nodes)
 //!                                                       │            └> summaries ──> bench_command (bench)
 //!                                                       └> stores ───┬> store_commands (init, replay)
 //!                                                                    └> run_commands (run)

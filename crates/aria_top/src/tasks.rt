@@ -5,7 +5,7 @@ ghost use Rattle.workloads.specs.Laws.{WordsAreWithin};
 
 use aria_base::Memory;
 use command_words::{
-    Bench, Command, Init, Mix, Once, Replay, Run, Workload, commands, read_settings,
+    Bench, Command, Init, Mix, Nodes, Once, Replay, Run, Workload, commands, read_settings,
 };
 use std::alloc::Global;
 use workloads::words_are_within;
@@ -20,6 +20,7 @@ pub enum CommandTask {
     Gen(Workload),
     Bench(Bench),
     Mix(Mix),
+    Nodes(Nodes),
     Audit,
     Check,
 }
@@ -49,8 +50,8 @@ fn task_by(command: Command) -> Option<CommandTask>
         Command::Gen(settings) => Some(CommandTask::Gen(settings)),
         Command::Bench(settings) => Some(CommandTask::Bench(settings)),
         Command::Mix(settings) => Some(CommandTask::Mix(settings)),
+        Command::Nodes(settings) => Some(CommandTask::Nodes(settings)),
         Command::Audit => Some(CommandTask::Audit),
         Command::Check => Some(CommandTask::Check),
-        Command::Nodes(_) => None,
     }
 }

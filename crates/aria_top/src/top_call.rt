@@ -13,7 +13,7 @@ ghost use Rattle.answer_text.specs.Notices.{refused_text};
 ghost use Rattle.answer_text.specs.declared.notices.NotDone.TheVariants.{Usage};
 ghost use Rattle.run_commands.specs.Serial.{EachIsSerial, EachReplayIsSerial, EachRunIsSerial};
 
-use crate::commands::{run_audit, run_bench, run_check, run_gen, run_mix, run_once};
+use crate::commands::{run_audit, run_bench, run_check, run_gen, run_mix, run_nodes, run_once};
 use crate::laws::lines_are_one;
 use crate::stores::{run_batches, run_init, run_replay};
 use crate::tasks::{CommandTask, read_task};
@@ -95,7 +95,7 @@ pub fn aria<S: Source, K: Sink, D: Disk, P: Pace + Sync, R: Threads + Sync>(
     ensures stored { EachRunIsSerial }
     ensures replayed { EachReplayIsSerial }
 
-    // Workers, replicas and batons have no say in what is printed.
+    // Workers, replicas, nodes and batons have no say in what is printed.
     ensures alike { LinesAreOne }
 
     // Where the mix is printed, its rows are sound: the audit holds, as the last line says.
@@ -156,6 +156,7 @@ fn run_task<S: Source, K: Sink, D: Disk, P: Pace + Sync, R: Threads + Sync>(
         CommandTask::Gen(settings) => return run_gen(alloc, settings, out),
         CommandTask::Bench(settings) => return run_bench(rt, alloc, settings, out, pace),
         CommandTask::Mix(settings) => return run_mix(rt, alloc, settings, out, pace),
+        CommandTask::Nodes(settings) => return run_nodes(alloc, settings, input, out),
         CommandTask::Audit => return run_audit(alloc, input, out),
         CommandTask::Check => return run_check(alloc, input, out),
     }

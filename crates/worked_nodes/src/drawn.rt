@@ -66,10 +66,9 @@ fn same_course(rt: &impl Abort, case: u32, nodes: &Nodes, course: &Course)
     requires level { AreLevel nodes.now.world }
     requires ready { AreReady nodes.now }
 {
-    let mut number = 0;
-    for wanted in &course.answers {
-        number += 1;
-        same(rt, &case, &answer(rt, nodes, number), wanted);
+    for place in 0..course.answers.len() {
+        let found = answer(rt, nodes, place as u64 + 1);
+        same(rt, &case, &found, &course.answers[place]);
     }
     same_rows(rt, case, &nodes.tables().expect(rt, MEMORY), &course.rows);
 }

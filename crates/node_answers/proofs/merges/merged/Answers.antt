@@ -28,7 +28,7 @@ loop-place-preserved c = λ entries sh.
     ∙ ap (λ b. map entry_of b.items) (sym c.index-own.ensures) in
     let hit = c.in-Some.ensures.lookup in
     let found = subst (λ l. Some c.in-Some.entry.now ≡ slice_get l (n / length seats)) c.deref.ensures.value
-        (found_at c.deref.result.now (n / length seats) c.in-Some.entry.now hit.0 hit.1) in
+    (found_at c.deref.result.now (n / length seats) c.in-Some.entry.now hit.0 hit.1) in
     one_more seats c.args.batch entries sh c.requires.some n s at own.items is c.loop-place.all.items _ c.in-Some.entry
     (c.loop-place.invariant entries sh) found c.in_ok-push-in-Some.ensures.items
 
@@ -45,7 +45,7 @@ returns-in-None c = λ entries sh.
     ∙ ap (λ b. map entry_of b.items) (sym c.index-own.ensures) in
     let miss = c.in-None.ensures.lookup in
     let none = subst (λ l. None ≡ slice_get l (n / length seats)) c.deref.ensures.value
-        (none_at c.deref.result.now (n / length seats) miss.0) in
+    (none_at c.deref.result.now (n / length seats) miss.0) in
     no_more seats c.args.batch entries sh c.requires.some n s at own.items is c.loop-place.all.items (c.loop-place.invariant entries sh) none
 
 pub returns : goal.returns

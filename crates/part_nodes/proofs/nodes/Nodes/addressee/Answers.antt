@@ -14,12 +14,12 @@ returns-in-Some c =
     let sent = c.args.self.now.world.sent.items in
     let hit = c.in-Some.ensures.lookup in
     let found = subst (λ l. Some c.in-Some.letter.now ≡ slice_get l c.args.k) c.deref.ensures.value
-        (found_at c.deref.result.now c.args.k c.in-Some.letter.now hit.0 hit.1) in
+    (found_at c.deref.result.now c.args.k c.in-Some.letter.now hit.0 hit.1) in
     ap (option_map (λ (m : Message Key Cells). m.addressee)) (ap (option_map message_of) found ∙ sym (slice_get-map message_of sent c.args.k))
 
 pub returns-in-None : goal.returns-in-None
 returns-in-None c =
     let sent = c.args.self.now.world.sent.items in
     let none = subst (λ l. None ≡ slice_get l c.args.k) c.deref.ensures.value
-        (none_at c.deref.result.now c.args.k c.in-None.ensures.lookup.0) in
+    (none_at c.deref.result.now c.args.k c.in-None.ensures.lookup.0) in
     ap (option_map (λ (m : Message Key Cells). m.addressee)) (ap (option_map message_of) none ∙ sym (slice_get-map message_of sent c.args.k))
