@@ -22,6 +22,9 @@ use thiserror::Error;
 /// Each batch copies what accounts hold to others. In the first one three go round, so that one of them waits.
 const BATCHES: [&[(i64, i64)]; 2] = [&[(1, 2), (2, 3), (3, 1)], &[(1, 4), (4, 1)]];
 
+/// The accounts, and what they hold.
+const ACCOUNTS: [(i64, i64); 4] = [(1, 10), (2, 20), (3, 30), (4, 40)];
+
 /// Why the program stops.
 #[derive(Debug, Drop, Error)]
 enum Fault {
@@ -108,12 +111,12 @@ fn bank(alloc: Global) -> Result<Catalog, Fault> {
 /// Four accounts.
 fn accounts(alloc: Global) -> Result<Tables, Fault> {
     let mut rows = Tables::new(alloc)?;
-    for account in 1..5_i64 {
+    for (account, held) in ACCOUNTS {
         let key = Key {
             table: 0,
             parts: Parts::one(Part::Int(account)),
         };
-        let row = Row::from_vec(vec![in alloc; Value::Int(account * 10)].map_err(|_| Memory)?);
+        let row = Row::from_vec(vec![in alloc; Value::Int(held)].map_err(|_| Memory)?);
         rows.put(key, row).map_err(|_| Memory)?;
     }
     Ok(rows)
