@@ -198,8 +198,8 @@ pub enum Command {
     Bench(Bench),
     /// The rows of order entry against its conditions.
     Audit,
-    /// Order entry beside long readers; the program does not run it.
+    /// Order entry with all five of its requests.
     Mix(Mix),
-    /// A database that is split between nodes; the program does not run it.
+    /// A script on nodes that divide the rows.
     Nodes(Nodes),
 }
