@@ -1,10 +1,10 @@
 // The check of a report on batches that no script has, since a line past the ten thousandth call ends its reading:
 // calls of the library.
+use crate::outcomes::{MEMORY, is_count};
 use aria_base::{Arg, Args, Bytes, Call, Memory};
 use cat_builtin::builtin;
 use serial_check::{Finding, check};
 use std::alloc::Global;
-use std::test::Fail;
 use tbl_rows::Tables;
 
 /// How many calls the batches have, one after the other, the report, and the number of the batch that is too large.
@@ -67,10 +67,9 @@ fn crowded(alloc: Global, counts: &[usize], lines: &[&str]) -> Result<u64, Memor
 }
 
 #[test]
-fn a_batch_that_is_too_large_is_named(rt: HostRuntime) -> Result<(), Fail> {
+fn a_batch_that_is_too_large_is_named(rt: HostRuntime) {
     for (counts, lines, number) in CASES {
-        let found = crowded(rt.alloc(), counts, lines)?;
-        assert_eq!(rt; found, number);
+        let found = crowded(rt.alloc(), counts, lines).expect(&rt, MEMORY);
+        is_count(&rt, "the batch", found, number);
     }
-    Ok(())
 }

@@ -1,9 +1,8 @@
-// Summaries of order entry in contention, through the top call.
-use crate::outcomes::{Case, run};
+// Summaries of order entry in contention.
+use crate::outcomes::{Case, empty_disk, holds, is_count, outcome, smooth};
 use aria_base::Free;
 use aria_top::DONE;
 use std::process::Abort;
-use std::test::Fail;
 use std::thread::Threads;
 
 /// Order entry in contention, by one worker and by four: in one warehouse, where only the four have a second
@@ -20,17 +19,15 @@ const CONTENDED: [(&str, &str); 2] = [
 ];
 
 /// What the bench prints. It reads nothing.
-fn summary<R: AllocGlobal + Threads + Abort + Sync>(rt: &R, words: &str) -> Result<Vec<u8>, Fail> {
+fn summary<R: AllocGlobal + Threads + Abort + Sync>(rt: &R, words: &str) -> Vec<u8> {
     let case = Case {
-        words,
-        script: "",
-        piece: 1,
         failing_take: 1,
-        failing_give: 0,
+        ..smooth(words, "")
     };
-    let (status, text) = run(rt, &case, &Free)?;
-    assert_eq!(rt; status, DONE, "of {words}");
-    Ok(text)
+    let mut disk = empty_disk(rt, rt.alloc(), 0);
+    let (status, text) = outcome(rt, &case, &mut disk, &Free);
+    is_count(rt, words, u64::from(status), u64::from(DONE));
+    text
 }
 
 /// Whether each of four times twenty requests has ended without a trap, and the audit holds.
@@ -43,27 +40,17 @@ fn is_whole(text: &str) -> bool {
 }
 
 /// Asserts that both lines print one summary, which is whole.
-fn is_one_summary<R: AllocGlobal + Threads + Abort + Sync>(
-    rt: &R,
-    alone: &str,
-    shared: &str,
-) -> Result<(), Fail> {
-    let text = summary(rt, alone)?;
-    assert_eq!(rt;
-        text,
-        summary(rt, shared)?,
-        "workers and replicas have no say"
-    );
-    let text = str::from_utf8(&text).unwrap_or("?");
-    let whole = is_whole(text);
-    assert!(rt; whole, "{text}");
-    Ok(())
+fn is_one_summary<R: AllocGlobal + Threads + Abort + Sync>(rt: &R, alone: &str, shared: &str) {
+    let text = summary(rt, alone);
+    let other = summary(rt, shared);
+    holds(rt, "workers and replicas have no say", 0, text == other);
+    let whole = is_whole(str::from_utf8(&text).unwrap_or("?"));
+    holds(rt, "the summary is whole", 0, whole);
 }
 
 #[test]
-fn order_entry_holds_in_contention(rt: HostRuntime) -> Result<(), Fail> {
+fn order_entry_holds_in_contention(rt: HostRuntime) {
     for (alone, shared) in CONTENDED {
-        is_one_summary(&rt, alone, shared)?;
+        is_one_summary(&rt, alone, shared);
     }
-    Ok(())
 }
