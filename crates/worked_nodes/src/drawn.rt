@@ -98,10 +98,10 @@ fn run_both(rt: &impl Abort, alloc: Global, draws: &mut Draws, case: u32) {
 }
 
 #[test]
-fn two_hundred_courses_are_those_of_one_database(rt: HostRuntime) {
+fn a_thousand_courses_are_those_of_one_database(rt: HostRuntime) {
     let alloc = rt.alloc();
     let mut draws = Draws::of(36, 1);
-    for case in 0..200 {
+    for case in 0..1_000 {
         run_both(&rt, alloc, &mut draws, case);
     }
 }
