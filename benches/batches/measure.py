@@ -75,19 +75,29 @@ def memory(pid, name):
         return next(int(line.split()[1]) for line in status if line.startswith(name)) / 1e3
 
 
-# What the program told, the processor time of its batches, and the most memory that it had, in MB.
+# What the processors of this machine did so far, and what they wanted to do while its host had taken them away.
+def worked_and_stolen():
+    with open("/proc/stat") as stat:
+        user, nice, system, _, _, interrupts, others, stolen = map(int, stat.readline().split()[1:9])
+    return user + nice + system + interrupts + others, stolen
+
+
+# What the program told, the processor time of its batches, the hundredths of it that the host took away, and the most
+# memory that it had, in MB.
 def run(command):
     ran = subprocess.Popen(command, stdin=subprocess.PIPE, stdout=subprocess.PIPE)
-    seen = []
+    seen, machine = [], []
     for word in (b"ready\n", b"done\n"):
         assert ran.stdout.readline() == word, command
         seen.append(processors(ran.pid))
+        machine.append(worked_and_stolen())
         most = memory(ran.pid, "VmHWM")
         ran.stdin.write(b"\n")
         ran.stdin.flush()
     told = {name.decode(): int(value) for name, value in map(bytes.split, ran.communicate()[0].splitlines())}
     assert ran.returncode == 0, command
-    return told | {"processor": seen[1] - seen[0], "memory": most}
+    worked, stolen = (then - before for before, then in zip(*machine))
+    return told | {"processor": seen[1] - seen[0], "memory": most, "stolen": 100 * stolen / max(worked + stolen, 1)}
 
 
 # Of each command what it told in the turn that took the least by the clock, with the least processor time.
@@ -115,7 +125,7 @@ def loads(least_keys=100_000, most_keys=1_000_000):
 # Finished requests a second by the clock; what one costs, in microseconds of all processors; and memory.
 def rates():
     row("finished a second", "requests", "way", "plain", *(f"{w} workers" for w in WORKERS), "1 / plain", "4 / 1",
-        *("us plain", "us 1", "us 2", "us 4", "MB plain", "MB 1", "MB 4"))
+        *("us plain", "us 1", "us 2", "us 4", "MB plain", "MB 1", "MB 4", "% stolen 1", "% stolen 4"))
     for load in loads():
         commands = {"plain": load.by_plain()}
         commands |= {(name, w): load.by_engine(name, w) for name in engines for w in WORKERS}
@@ -128,7 +138,8 @@ def rates():
             one, four = (name, 1), (name, 4)
             row(load.title(), f"{load.requests:,}", name, *(f"{rate[way]:,.0f}" for way in ways),
                 f"{rate[one] / rate['plain']:.2f}", f"{rate[four] / rate[one]:.2f}",
-                *(f"{cost[way]:.1f}" for way in ways), *(f"{told[way]['memory']:.0f}" for way in ("plain", one, four)))
+                *(f"{cost[way]:.1f}" for way in ways), *(f"{told[way]['memory']:.0f}" for way in ("plain", one, four)),
+                *(f"{told[way]['stolen']:.0f}" for way in (one, four)))
 
 
 # What a request costs one worker by the size of its batch, over rows that were all written just before, in
