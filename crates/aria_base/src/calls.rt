@@ -2,14 +2,12 @@
 ghost use Rattle.std.specs.Prelude.{◌≡◌, IfOk};
 
 use crate::copies::Duplicate;
-use crate::limits::{LONGEST_TUPLE, MOST_ARGS, SHORTEST_TUPLE};
+use crate::limits::MOST_ARGS;
 use crate::lists::{Few, Items};
 use crate::memory::Memory;
 use crate::texts::Txt;
+use crate::tuples::Tuple;
 use std::alloc::Global;
-
-/// One to five whole numbers of 64 bits with a sign.
-pub type Tuple = Few<i64, SHORTEST_TUPLE, LONGEST_TUPLE>;
 
 /// A list of tuples.
 pub type Tuples = Items<Tuple>;

@@ -8,7 +8,7 @@
 //!
 //! ```text
 //! calls (Call, Request)   schemas (Schema, fits)      memory_streams    standard_streams
-//!    |                       |                        (MemSource ..)    (FileSource ..)
+//!    |   \___ tuples (Tuple)  |                        (MemSource ..)    (FileSource ..)
 //!    |        keys (Key, Part, Changes)                      \           /
 //!    |          |           |                             streams (Source, Sink)
 //!    |        values        parts (Parts)
@@ -41,9 +41,10 @@ mod schemas;
 mod standard_streams;
 mod streams;
 mod texts;
+mod tuples;
 mod values;
 
-pub use calls::{Arg, Args, Call, Request, Tuple, Tuples, copy_call};
+pub use calls::{Arg, Args, Call, Request, Tuples, copy_call};
 pub use copies::Duplicate;
 pub use draws::Draws;
 pub use keys::{Changes, Key, Keys, Part, compare_keys, contains_key, copy_key, same_key};
@@ -62,4 +63,5 @@ pub use schemas::{Schema, Table};
 pub use standard_streams::{FileSink, FileSource};
 pub use streams::{Failed, Sink, Source};
 pub use texts::{Txt, TxtRefused, is_word};
+pub use tuples::Tuple;
 pub use values::{Kind, Kinded, Kinds, Row, Value, copy_row};

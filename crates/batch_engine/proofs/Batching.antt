@@ -21,21 +21,21 @@ use Rattle.dep_rules.specs.declared.configs.Config.{Config}
 use Rattle.proc_lang.specs.Catalogs.{IsCatalog, takes, run_of}
 use Rattle.proc_lang.specs.Meaning.{is_done}
 use Rattle.proc_lang.specs.declared.ends.End.{End}
-use Rattle.batch_engine.specs.Commits.{IsCommitted, IsSettled}
+use Rattle.batch_engine.specs.Judgements.{IsJudged, IsSettled}
 use Rattle.batch_engine.specs.Engines.{Between, IsReady, state_in, handed_by}
-use Rattle.batch_engine.specs.declared.commits.Committed.{Committed}
+use Rattle.batch_engine.specs.declared.judgements.Judgement.{Judgement}
 use Rattle.batch_engine.specs.declared.settlements.Settled.{Settled}
 use Rattle.proc_exec.specs.Outcomes.{outcome_at}
 use Rattle.batch_engine.specs.Lists.{sets_in}
 use Rattle.batch_engine.proofs.Readying.{length-list, ready-after}
 
-pub many-verdicts : (tree : Request → Tree Key Cells End) (rule : Rule) (start : Database) (list : List Request) (c : Committed)
-    → IsCommitted tree rule start list c → length c.verdicts.items ≡ length list
+pub many-verdicts : (tree : Request → Tree Key Cells End) (rule : Rule) (start : Database) (list : List Request) (c : Judgement)
+    → IsJudged tree rule start list c → length c.verdicts.items ≡ length list
 many-verdicts tree rule start list c h = ap length h.verdicts ∙ length-map _ (λ d. d.verdict)
     ∙ length-judged (touching (on_start is_done tree start) key_cmp) rule _ list
 
-pub many-sets : (tree : Request → Tree Key Cells End) (rule : Rule) (start : Database) (list : List Request) (c : Committed)
-    → IsCommitted tree rule start list c → length c.sets.items ≡ length list
+pub many-sets : (tree : Request → Tree Key Cells End) (rule : Rule) (start : Database) (list : List Request) (c : Judgement)
+    → IsJudged tree rule start list c → length c.sets.items ≡ length list
 many-sets tree rule start list c h = ap length h.sets ∙ length-map list (λ q. sets_in (outcome_at tree start q))
 
 -- the engine by its fields, `e`, and as its callers see it, `self`
@@ -81,14 +81,14 @@ module _ {e self : Between} (view : e ≡ self) (config : Config) (calls : List 
       → length self.carried + length calls ≤ MOST_REQUESTS → length slice ≤ MOST_REQUESTS
   few-listed l c same room = subst (λ (l : List Request). length l ≤ MOST_REQUESTS) (sym (same ∙ listed l c)) (few-list room)
 
-  pub done : (c : Committed) (s : Settled) {list carried slice : List Request} → list ≡ carried ++ numbered e.requests calls → carried ≡ e.carried
+  pub done : (c : Judgement) (s : Settled) {list carried slice : List Request} → list ≡ carried ++ numbered e.requests calls → carried ≡ e.carried
       → slice ≡ list
-      → IsCommitted (run_of e.plan) config.rule e.rows slice c
-      → ((start : Database) → IsCommitted (run_of e.plan) config.rule start list c → IsSettled (run_of e.plan) config.rule config.fallback start list s)
+      → IsJudged (run_of e.plan) config.rule e.rows slice c
+      → (IsJudged (run_of e.plan) config.rule e.rows list c → IsSettled (run_of e.plan) config.rule config.fallback e.rows list s)
       → IsDone s
-  done c s l k same committed settles =
+  done c s l k same judged settles =
       subst (λ l. IsSettled (run_of e.plan) config.rule config.fallback e.rows l s) (listed l k)
-      (settles e.rows (subst (λ l. IsCommitted (run_of e.plan) config.rule e.rows l c) same committed))
+      (settles (subst (λ l. IsJudged (run_of e.plan) config.rule e.rows l c) same judged))
 
   left-is : (s : Settled) {left : List Request} {count : ℕ} → IsDone s → left ≡ s.carried.items → count ≡ length calls → left_by s left count ≡ state_after e
   left-is s all c n = λ i. record {

@@ -26,7 +26,7 @@ use Rattle.proc_lang.specs.Meaning.{is_done}
 use Rattle.proc_lang.specs.declared.ends.End.{End}
 use Rattle.proc_lang.specs.declared.limits.TheConstants.{MOST_ACCESSES}
 use Rattle.proc_sound.specs.Laws.{TouchesFew}
-use Rattle.batch_engine.specs.Commits.{judged_from}
+use Rattle.batch_engine.specs.Judgements.{judged_from}
 use Rattle.batch_engine.specs.Lists.{sets_in}
 use Rattle.batch_engine.specs.Marks.{Marks, NumbersKeys, MarksSets}
 use Rattle.batch_engine.proofs.Settling.{decided-map}

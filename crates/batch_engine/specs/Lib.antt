@@ -1,6 +1,6 @@
 pub mod Answers
 pub mod Codes
-pub mod Commits
+pub mod Judgements
 pub mod Engines
 pub mod Lasts
 pub mod Lates

@@ -10,7 +10,7 @@ ghost use Rattle.batch_engine.specs.Engines.{IsReady, state_in, handed_by};
 ghost use Rattle.batch_engine.specs.Lasts.{marks_of};
 ghost use Rattle.batch_engine.specs.Marks.{HasMarked};
 
-use crate::commits::commit;
+use crate::judgements::judge;
 use crate::marks::Marked;
 use crate::settlements::settle;
 use aria_base::{Call, Duplicate, Items, MOST_REQUESTS, Memory, Pace, Request};
@@ -106,9 +106,11 @@ impl Engine {
         } = self;
         let total = requests + new.len() as u64;
         let list = number_calls(carried.into_vec(), new, requests)?;
-        let (last, committed) = commit(rt, alloc, &catalog, tables, &list, config, pace)?;
+        let (last, judgement) = judge(rt, alloc, &catalog, &tables, &list, config, pace)?;
         let numbered = &last.numbered;
-        let settled = settle(rt, alloc, &catalog, list, committed, numbered, config, pace)?;
+        let settled = settle(
+            rt, alloc, &catalog, tables, list, judgement, numbered, config, pace,
+        )?;
         let answer = Answer {
             number: batches + 1,
             lines: settled.lines,

@@ -20,8 +20,8 @@
 #![tactic(auto)]
 
 mod answers;
-mod commits;
 mod engines;
+mod judgements;
 mod lates;
 mod lists;
 mod markings;

@@ -1,19 +1,19 @@
-// A batch from the end of its commit phase to its answer.
+// A batch from its verdicts to its answer.
 ghost use Rattle.std.specs.Prelude.{◌≡◌, ◌≤◌, ◌<◌, length, IfOk};
-ghost use Rattle.aria_base.specs.Orders.{Database};
 ghost use Rattle.aria_base.specs.declared.limits.TheConstants.{MOST_PERCENT, MOST_REQUESTS, MOST_WORKERS};
 ghost use Rattle.proc_lang.specs.Catalogs.{run_of};
 ghost use Rattle.dep_rules.specs.Decisions.{reads_of, writes_of};
-ghost use Rattle.batch_engine.specs.Commits.{IsCommitted, IsSettled};
+ghost use Rattle.batch_engine.specs.Judgements.{IsJudged, IsSettled};
 ghost use Rattle.batch_engine.specs.Marks.{NumbersKeys};
 
 use crate::answers::{lines_of, order_of};
-use crate::commits::Committed;
+use crate::judgements::Judgement;
 use crate::lates::{carry, run_late};
 use crate::lists::{numbers_of, tids_of, waiting_of};
 use aria_base::{Items, Memory, Pace, Request};
 use batch_core::{Order, Replies};
 use dep_rules::{Config, Numbered};
+use install_phase::install_changes;
 use proc_lang::Catalog;
 use std::alloc::Global;
 use std::thread::Threads;
@@ -32,39 +32,43 @@ pub(crate) struct Settled {
     pub order: Order,
 }
 
-/// Runs again what waits, where that is due, and makes the answer.
+/// Installs the writes of all that finish, runs again what waits, where that is due, and makes the answer.
 pub(crate) fn settle<P: Pace + Sync, R: Threads + Sync>(
     rt: &R,
     alloc: Global,
     catalog: &Catalog,
+    tables: Tables,
     list: Vec<Request>,
-    committed: Committed,
+    judgement: Judgement,
     numbered: &Numbered,
     config: &Config,
     pace: &P,
 ) -> Result<Settled, Memory>
     requires list { length list.items ≤ MOST_REQUESTS }
-    requires ends { length committed.ends.items ≡ length list.items }
-    requires verdicts { length committed.verdicts.items ≡ length list.items }
-    requires sets { length committed.sets.items ≡ length list.items }
-    requires numbered { NumbersKeys reads_of writes_of committed.sets.items numbered.now }
+    requires ends { length judgement.ends.items ≡ length list.items }
+    requires verdicts { length judgement.verdicts.items ≡ length list.items }
+    requires sets { length judgement.sets.items ≡ length list.items }
+    requires numbered { NumbersKeys reads_of writes_of judgement.sets.items numbered.now }
     requires percent { config.now.fallback ≤ MOST_PERCENT }
     requires workers { (1 ≤ config.now.workers) × (config.now.workers ≤ MOST_WORKERS) }
-    ensures { IfOk result (λ settled. (start : Database) → IsCommitted (run_of catalog.now) config.now.rule start list.items committed
-        → IsSettled (run_of catalog.now) config.now.rule config.now.fallback start list.items settled) }
+    ensures { IfOk result (λ settled. IsJudged (run_of catalog.now) config.now.rule tables list.items judgement
+        → IsSettled (run_of catalog.now) config.now.rule config.now.fallback tables list.items settled) }
 {
-    let Committed {
-        tables,
+    let Judgement {
         sets,
+        changes,
         ends,
         verdicts,
-    } = committed;
+    } = judgement;
     let numbers = numbers_of(alloc, &list)?;
     let tids = tids_of(alloc, &verdicts)?;
+    // the keys of all that finish are freed before the install takes the cache
     let waiting = waiting_of(alloc, list, sets, &verdicts)?;
     let size = verdicts.len();
+    let workers = config.workers;
+    let installed = install_changes(rt, alloc, tables, changes, &verdicts, workers, pace)?;
     let (tables, lates) = run_late(
-        rt, alloc, catalog, tables, &waiting, numbered, &tids, size, config, pace,
+        rt, alloc, catalog, installed, &waiting, numbered, &tids, size, config, pace,
     )?;
     let carried = carry(alloc, waiting, &lates)?;
     let lines = lines_of(alloc, &numbers, ends, &verdicts, lates)?;

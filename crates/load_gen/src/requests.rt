@@ -64,24 +64,21 @@ fn accesses(alloc: Global, settings: &Ycsb, draws: &mut Draws) -> Result<Tuples,
 {
     let mut accesses = Vec::with_capacity(alloc, settings.ops as usize)?;
     for _ in 0..settings.ops {
-        accesses.push(access(alloc, settings, draws)?)?;
+        accesses.push(access(settings, draws))?;
     }
     Ok(Tuples::from_vec(accesses))
 }
 
-/// The next access: its key and what it does there. Its words are taken also where there is no memory.
-fn access(alloc: Global, settings: &Ycsb, draws: &mut Draws) -> Result<Tuple, Memory>
+/// The next access: its key and what it does there.
+fn access(settings: &Ycsb, draws: &mut Draws) -> Tuple
     requires { load.IsWithin settings.now }
-    ensures access { IfOk result (λ access. access ≡ (load.access settings.now draws.old).0) }
+    ensures access { result ≡ (load.access settings.now draws.old).0 }
     ensures past { draws.new ≡ (load.access settings.now draws.old).1 }
 {
     let key = place(settings, draws);
     let share = random(draws, 0, 99);
     let op = op_of(settings, share);
-    let mut pair = Vec::with_capacity(alloc, 2)?;
-    pair.push(i64::from(key))?;
-    pair.push(op)?;
-    Ok(Tuple::from_vec(pair))
+    Tuple::from_slice(&[i64::from(key), op])
 }
 
 /// The key of the next access.

@@ -21,6 +21,9 @@ use proc_lang::{Expr, Exprs, Gives, MOST_ACCESSES, MOST_GIVEN, Regs, Trap};
 use std::alloc::Global;
 use std::marker::Model;
 
+/// How many values there is room for from the first one on: more than most runs give.
+const FIRST_GIVEN: usize = 12;
+
 /// The registers of a run, the values that it has given, and how many accesses it has made.
 #[derive(Drop)]
 pub struct Running {
@@ -218,6 +221,9 @@ impl Running {
         let value = self.value(scope, expr)?;
         if MOST_GIVEN <= self.given.len() {
             return Err(EvalFault::Trap(Trap::Many));
+        }
+        if self.given.capacity() == 0 {
+            self.given.reserve(FIRST_GIVEN)?;
         }
         self.given.push(value)?;
         Ok(())

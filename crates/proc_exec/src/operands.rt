@@ -160,7 +160,11 @@ pub fn number_of(scope: &RunScope, registers: &Vec<Value>, expr: &Expr) -> Optio
 fn both_hold(x: i64, y: i64) -> bool
     ensures { result ≡ (is_true (value.Int x) && is_true (value.Int y)) }
 {
-    x != 0 && y != 0
+    // by two ways out: the conjunction takes a hundred times as long to prove
+    if x == 0 {
+        return false;
+    }
+    y != 0
 }
 
 /// Whether one of the numbers is not 0.

@@ -15,9 +15,9 @@ use std::alloc::Global;
 use std::thread::Threads;
 use work_crew::{carry_out, workers_for};
 
-/// To start a thread takes 19 to 31 microseconds, and a mark 5 nanoseconds in the cache and 42 outside of it: so many
-/// requests of ten keys each take 13 to 110 microseconds.
-const LEAST_A_WORKER: usize = 256;
+/// To start a thread takes 19 to 50 microseconds, and a mark 2 nanoseconds in the cache and 24 outside of it: so many
+/// requests of ten keys each take 40 to 500 microseconds.
+const LEAST_A_WORKER: usize = 2_048;
 
 /// The words over the old numbers after exactly the batch's marks: each request marks each key that it reads
 /// and each that it writes, under the tag. So they are what [`decide`](dep_rules::decide) asks for. The

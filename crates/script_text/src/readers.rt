@@ -39,7 +39,7 @@ impl FromToken for Tuple {
         if numbers.len() < SHORTEST_TUPLE || LONGEST_TUPLE < numbers.len() {
             return Ok(None);
         }
-        Ok(Some(Tuple::from_vec(numbers)))
+        Ok(Some(Tuple::from_slice(&numbers)))
     }
 }
 

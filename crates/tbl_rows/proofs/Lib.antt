@@ -1,7 +1,6 @@
 pub mod Beside
 pub mod Edited
 pub mod Grown
-pub mod Hashed
 pub mod Listed
 pub mod Owned
 pub mod Searched

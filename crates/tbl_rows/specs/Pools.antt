@@ -1,6 +1,6 @@
 -- Maps that are one map together, as shards are and the buckets of a shard, and to which bucket a key belongs.
 use Rattle.std.specs.Prelude.{◌≡◌, ℕ, ◌+◌, ◌/◌, ◌%◌, ◌^◌, ◌<◌, ◌≤◌, ◌==◌, Bool, nat_lt, if◌then◌else◌, List, [], ◌∷◌, ◌++◌}
-use Rattle.std.specs.Prelude.{length, map, None, IsSome, slice_index_or}
+use Rattle.std.specs.Prelude.{length, None, IsSome, slice_index_or}
 use Rattle.std.specs.List.{flat_map, IsDistinct}
 use Rattle.std.specs.List.Sorted.{IsPermutation}
 use Rattle.std.specs.Map.{keys_of}
@@ -46,19 +46,6 @@ slot level count key = slot_at level count (hash_of key)
 -- whether a key moves to the next bucket when that is made
 abbrev pub is_moved : ℕ → ℕ → Key → Bool
 is_moved level count key = slot level (count + 1) key == count
-
--- the same of a key with this hash
-abbrev pub hash_moves : ℕ → ℕ → ℕ → Bool
-hash_moves level count hash = slot_at level (count + 1) hash == count
-
--- the hashes of the keys, in the order of the rows
-abbrev pub hashes_of : Entries → List ℕ
-hashes_of entries = map (λ e. hash_of e.0) entries
-
--- what is so of every bucket
-pub record IsBucket (hashes : List ℕ) (entries : Entries) : Type 0 where
-  pub apart : AllApart entries
-  pub hashed : hashes ≡ hashes_of entries
 
 -- what is so of the buckets of every shard
 pub record IsPool (level : ℕ) (buckets : List Database) : Type 0 where

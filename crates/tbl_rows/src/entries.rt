@@ -6,18 +6,21 @@ ghost use Rattle.tbl_rows.specs.Hashes.{hash_of};
 ghost use Rattle.tbl_rows.specs.Pools.{is_moved};
 ghost use Rattle.tbl_rows.specs.declared.homes.TheConstants.{LAST_LEVEL};
 
-use crate::homes::moves;
+use crate::homes::bucket_at;
 use aria_base::{Duplicate, Key, Memory, Row, same_key};
 use std::alloc::Global;
 use std::marker::Model;
 use std::mem;
 
-/// A row with its key, and with the key's hash, by which a bucket is split. A contract sees the key and the row.
+/// A row with its key, and with the key's hash, so that a search compares keys only where the hashes are one. A
+/// contract sees the key and the row.
+///
+/// The key is the longest and stands last: of a short one all that a search reads lies side by side.
 #[derive(Drop)]
 pub(crate) struct Entry {
     hash: u64,
-    key: Key,
     row: Row,
+    key: Key,
 }
 
 impl Model for Entry {
@@ -63,11 +66,12 @@ impl Entry {
         &self.row
     }
 
-    /// Whether it is the row of this key.
-    pub(crate) fn is_at(&self, key: &Key) -> bool
+    /// Whether it is the row of this key, whose hash it is.
+    pub(crate) fn is_at(&self, hash: u64, key: &Key) -> bool
+        requires { hash ≡ hash_of key.now }
         ensures { result ≡ eq_by_cmp key_cmp key.now self.now.0 }
     {
-        same_key(key, &self.key)
+        hash == self.hash && same_key(key, &self.key)
     }
 
     /// Whether it moves when the next of so many buckets is made.
@@ -78,7 +82,7 @@ impl Entry {
         requires most { count < 2 ^ 32 }
         ensures { result ≡ is_moved level count self.now.0 }
     {
-        moves(level, count, self.hash)
+        bucket_at(level, count + 1, self.hash) == count
     }
 
     /// Sets the row, and hands out the one that stood there.

@@ -2,7 +2,7 @@
 ghost use Rattle.std.specs.Prelude.{◌≡◌, ◌%◌, ◌^◌, ◌<◌, ◌≤◌};
 ghost use Rattle.tbl_rows.specs.Hashes.{hash_of};
 ghost use Rattle.tbl_rows.specs.Shards.{home};
-ghost use Rattle.tbl_rows.specs.Pools.{slot_at, hash_moves};
+ghost use Rattle.tbl_rows.specs.Pools.{slot_at};
 ghost use Rattle.tbl_rows.specs.declared.homes.TheConstants.{SHARDS, LAST_LEVEL};
 
 use crate::hashes::hash_of;
@@ -54,16 +54,6 @@ pub(crate) fn bucket_at(level: u32, count: usize, hash: u64) -> usize
     } else {
         lowest(bits, level) as usize
     }
-}
-
-/// Whether the key with this hash moves when the next of so many buckets is made.
-pub(crate) fn moves(level: u32, count: usize, hash: u64) -> bool
-    requires level { level ≤ LAST_LEVEL }
-    requires least { 2 ^ level ≤ count }
-    requires most { count < 2 ^ 32 }
-    ensures { result ≡ hash_moves level count hash }
-{
-    bucket_at(level, count + 1, hash) == count
 }
 
 /// So many bits of a word, the lowest.

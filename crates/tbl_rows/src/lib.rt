@@ -14,11 +14,11 @@
 //!        Bucket | Bucket | ..    an ordered map: the overflow
 //! ```
 //!
-//! A key's hash tells its shard, and its bucket there: a short list of rows, and beside it the list of their
-//! hashes, which a search reads first. The buckets grow one by one, by linear hashing. A put splits one
-//! bucket at most, and moves its rows without a copy; where there is no memory for the split, it is put off.
-//! The hash is no secret, so that keys can be chosen to share a bucket: the rows past those that come by
-//! chance go to the overflow, where a search takes logarithmic time.
+//! A key's hash tells its shard, and its bucket there: a list of rows, one on average, with their hashes. The
+//! buckets grow one by one, by linear hashing. A put splits one bucket at most, and moves its rows without a
+//! copy; where there is no memory for the split, it is put off. The hash is no secret, so that keys can be
+//! chosen to share a bucket: the rows past those that come by chance go to the overflow, where a search takes
+//! logarithmic time.
 #![tactic(auto)]
 
 mod buckets;

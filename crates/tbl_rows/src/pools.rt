@@ -15,11 +15,13 @@ use aria_base::{Duplicate, Key, Memory, Row};
 use std::alloc::Global;
 use std::marker::Model;
 
-/// How many rows a bucket has on average at most, while there is memory for more buckets.
-const MEAN: usize = 8;
+/// How many rows a bucket has on average at most, while there is memory for more buckets. A search reads the
+/// bucket and, in most cases, one row.
+const MEAN: usize = 1;
 
-/// From how many rows on a bucket is crowded. By chance none ever is.
-const CROWD: usize = 64;
+/// From how many rows on a bucket is crowded. By chance hardly one in a billion is, while buckets that wait for
+/// their split have two rows on average.
+const CROWD: usize = 16;
 
 /// Rows in buckets. A contract sees the map of them. The buckets grow one by one, so that no call
 /// moves more than a bucket's rows. `len` counts the rows, and nothing but growth rests on it.

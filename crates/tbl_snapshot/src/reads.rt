@@ -10,7 +10,7 @@ use aria_base::{Key, Memory, contains_key};
 use std::alloc::{AllocError, Global};
 use std::marker::Model;
 
-/// How many keys or writes there is room for from the first one on.
+/// How many keys there is room for from the first one on.
 const FIRST_ROOM: usize = 8;
 
 /// Keys in the order of their first reads. A contract sees the list of them. Their hashes' bits spare a
@@ -69,7 +69,7 @@ impl Reads {
         ensures added { OnOk result (self.new ≡ self.old ++ key ∷ []) }
         ensures kept { OnErr result (self.new ≡ self.old) }
     {
-        make_room(&mut self.keys)?;
+        make_room(&mut self.keys, FIRST_ROOM)?;
         let places = places_with(alloc, self.places.take(), self.keys.as_slice(), &key)?;
         self.keys.push(key)?;
         self.bits = with_bit(self.bits, hash);
@@ -85,12 +85,12 @@ impl Reads {
     }
 }
 
-/// Makes room for the first few at once.
-pub(crate) fn make_room<T>(list: &mut Vec<T>) -> Result<(), AllocError>
+/// Makes room for the first few at once: so many.
+pub(crate) fn make_room<T>(list: &mut Vec<T>, room: usize) -> Result<(), AllocError>
     ensures { list.new.items ≡ list.old.items }
 {
     if 0 < list.capacity() {
         return Ok(());
     }
-    list.reserve(FIRST_ROOM)
+    list.reserve(room)
 }

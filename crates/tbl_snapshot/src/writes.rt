@@ -15,6 +15,9 @@ use aria_base::{Key, Memory, Row};
 use std::alloc::Global;
 use std::marker::Model;
 
+/// How many writes there is room for from the first one on. One has 128 bytes.
+const FIRST_ROOM: usize = 4;
+
 /// Writes in the order of first writes, each with its last row or absence. A contract sees the list of
 /// them. Their hashes' bits spare a search for nearly every key that is not there, while the writes are
 /// few; the places of many are kept.
@@ -117,7 +120,7 @@ impl Writes {
         ensures added { OnOk result (self.new ≡ self.old ++ (key, row) ∷ []) }
         ensures kept { OnErr result (self.new ≡ self.old) }
     {
-        make_room(&mut self.rows)?;
+        make_room(&mut self.rows, FIRST_ROOM)?;
         let places = places_with_write(alloc, self.places.take(), self.rows.as_slice(), &key)?;
         self.rows.push((key, row))?;
         self.bits = with_bit(self.bits, hash);

@@ -128,7 +128,7 @@ fn lines(alloc: Global, settings: &Tpcc, draws: &mut Draws, start: Start) -> Res
     let mut lines = Vec::with_capacity(alloc, start.count as usize)?;
     for line in 0..start.count {
         let fails = fails_at(start, line + 1);
-        lines.push(one_line(alloc, settings, draws, start.w, fails)?)?;
+        lines.push(one_line(settings, draws, start.w, fails))?;
     }
     Ok(Tuples::from_vec(lines))
 }
@@ -140,23 +140,16 @@ fn fails_at(start: Start, number: u32) -> bool
     start.fails && number == start.count
 }
 
-/// A line: its item, which there is not where it fails, the supplying warehouse, and the quantity. Its
-/// words are taken also where there is no memory.
-fn one_line(
-    alloc: Global,
-    settings: &Tpcc,
-    draws: &mut Draws,
-    w: u32,
-    fails: bool,
-) -> Result<Tuple, Memory>
+/// A line: its item, which there is not where it fails, the supplying warehouse, and the quantity.
+fn one_line(settings: &Tpcc, draws: &mut Draws, w: u32, fails: bool) -> Tuple
     requires { IsWithin settings.now }
-    ensures line { IfOk result (λ line. (requests.line settings.now w fails draws.old).0 ≡ line ∷ []) }
+    ensures line { (requests.line settings.now w fails draws.old).0 ≡ result ∷ [] }
     ensures past { draws.new ≡ (requests.line settings.now w fails draws.old).1 }
 {
     let item = item(settings, draws, fails);
     let from = supply(settings, draws, w);
     let quantity = random(draws, 1, 10);
-    tuple(alloc, item, from, quantity)
+    Tuple::from_slice(&[i64::from(item), i64::from(from), i64::from(quantity)])
 }
 
 /// The item of a line.
@@ -166,17 +159,6 @@ fn item(settings: &Tpcc, draws: &mut Draws, fails: bool) -> u32
 {
     let drawn = drawn_item(draws, settings.items);
     if fails { settings.items + 1 } else { drawn }
-}
-
-/// The three numbers as a tuple.
-fn tuple(alloc: Global, a: u32, b: u32, c: u32) -> Result<Tuple, Memory>
-    ensures { IfOk result (λ tuple. tuple ≡ pos a ∷ pos b ∷ pos c ∷ []) }
-{
-    let mut numbers = Vec::with_capacity(alloc, 3)?;
-    numbers.push(i64::from(a))?;
-    numbers.push(i64::from(b))?;
-    numbers.push(i64::from(c))?;
-    Ok(Tuple::from_vec(numbers))
 }
 
 /// The warehouse that supplies a line.

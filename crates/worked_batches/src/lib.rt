@@ -5,6 +5,9 @@
 //! and `meetings` shows that workers are at work at once, and how often they are told of a step. `drawn`
 //! runs drawn batches beside the rules in their plainest form (`test_banks`), and beside a copy of the engine
 //! that has one worker. `banks` makes a database of accounts, and runs batches of calls.
+//!
+//! The commit phase as a machine over events: `machines` makes one of calls and rows, and `events` runs lists of
+//! events on it, each worked out by hand.
 #![tactic(auto)]
 
 #[cfg(test)]
@@ -14,6 +17,10 @@ mod crowds;
 #[cfg(test)]
 mod drawn;
 #[cfg(test)]
+mod events;
+#[cfg(test)]
 mod examples;
+#[cfg(test)]
+mod machines;
 #[cfg(test)]
 mod meetings;

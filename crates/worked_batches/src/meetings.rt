@@ -81,10 +81,10 @@ fn each_replica_runs_each_request(rt: HostRuntime) {
     told(&rt, &steps, 9, 6);
 }
 
-/// Three hundred calls that each put an account of its own: so many that two workers mark them.
+/// Three thousand calls that each put an account of its own: so many that two workers mark them.
 fn apart(rt: &impl Abort, alloc: Global) -> Vec<Ask> {
     let mut asks = Vec::new(alloc);
-    for account in 0..300_i64 {
+    for account in 0..3_000_i64 {
         asks.push((SET, account, 7)).expect(rt, MEMORY);
     }
     asks
@@ -104,7 +104,7 @@ fn two_workers_meet_before_their_first_mark(rt: HostRuntime) {
     let gate = Gate::before(Place::Mark);
     let asks = apart(&rt, rt.alloc());
     let answer = run_at(&rt, rt.alloc(), &asks, &gate);
-    met(&rt, &gate, &answer, 300, 300);
+    met(&rt, &gate, &answer, 3_000, 3_000);
 }
 
 #[test]

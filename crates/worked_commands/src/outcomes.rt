@@ -9,8 +9,10 @@ use std::thread::Threads;
 /// What a test says that finds no memory.
 pub const MEMORY: &str = "memory";
 
-/// How many bytes a sink takes, more than any of these runs writes.
-const ROOM: usize = 1_000_000;
+/// How many bytes a sink or a disk takes, more than any of these runs writes, and how many calls a disk remembers.
+pub const ROOM: usize = 1_000_000;
+
+pub const CALLS: u32 = 1_000;
 
 /// Three accounts.
 pub const HEAD: &str = "catalog bank\nrow acct 1 = 10\nrow acct 2 = 20\nrow acct 3 = 30\n";
@@ -21,21 +23,23 @@ pub type Row = (&'static str, &'static str, u8, &'static str);
 /// The accounts become a store.
 pub const MADE: Row = ("init", HEAD, 0, "ready\n");
 
-/// A run: its arguments, its input, of which seven bytes come at a time, and which call of the source and of
+/// A run: its arguments, its input and how many bytes of it come at a time, and which call of the source and of
 /// the sink fails, 0 for none.
 #[derive(Clone, Copy, Debug)]
 pub struct Case<'a> {
     pub words: &'a str,
     pub input: &'a [u8],
+    pub piece: usize,
     pub failing_take: u64,
     pub failing_give: u64,
 }
 
-/// A run in which neither fails.
+/// A run in which neither fails, and whose input comes by seven bytes.
 pub fn smooth<'a>(words: &'a str, input: &'a str) -> Case<'a> {
     Case {
         words,
         input: input.as_bytes(),
+        piece: 7,
         failing_take: 0,
         failing_give: 0,
     }
@@ -66,7 +70,11 @@ fn words_of(rt: &impl Abort, alloc: Global, line: &str) -> Vec<String> {
 
 fn source_of(rt: &impl Abort, alloc: Global, case: &Case<'_>) -> MemSource {
     let bytes = copy(rt, alloc, case.input);
-    MemSource::new(bytes, 7, failing(rt, alloc, case.failing_take))
+    MemSource::new(
+        bytes,
+        case.piece.max(1),
+        failing(rt, alloc, case.failing_take),
+    )
 }
 
 fn sink_of(rt: &impl Abort, alloc: Global, failing_give: u64) -> MemSink {
@@ -106,7 +114,13 @@ pub fn case_ends<R: AllocGlobal + Threads + Abort + Sync>(
 }
 
 /// Asserts that this is what the case ends in and prints.
-fn is_outcome(rt: &impl Abort, case: &Case<'_>, found: &(u8, Vec<u8>), status: u8, output: &[u8]) {
+pub fn is_outcome(
+    rt: &impl Abort,
+    case: &Case<'_>,
+    found: &(u8, Vec<u8>),
+    status: u8,
+    output: &[u8],
+) {
     let right = found.0 == status && found.1.as_slice() == output;
     assert!(rt; right, "at {case:?}: {found:?}");
 }
@@ -129,7 +143,7 @@ pub fn holds(rt: &impl Abort, what: &str, calls: u64, found: bool) {
 
 /// A disk of four empty files, whose call of this number fails; with 0 none does.
 pub fn empty_disk(rt: &impl Abort, alloc: Global, call: u64) -> MemDisk {
-    MemDisk::new(alloc, 1000, 100_000, failing(rt, alloc, call)).expect(rt, MEMORY)
+    MemDisk::new(alloc, CALLS, ROOM, failing(rt, alloc, call)).expect(rt, MEMORY)
 }
 
 /// A disk with the store of the three accounts, whose call of this number fails; with 0 none does.
@@ -140,7 +154,7 @@ pub fn new_store<R: AllocGlobal + Threads + Abort + Sync>(rt: &R, call: u64) -> 
 }
 
 /// A copy of these bytes.
-fn copy(rt: &impl Abort, alloc: Global, bytes: &[u8]) -> Vec<u8> {
+pub fn copy(rt: &impl Abort, alloc: Global, bytes: &[u8]) -> Vec<u8> {
     Vec::from_slice(alloc, bytes).expect(rt, MEMORY)
 }
 
@@ -152,8 +166,8 @@ pub fn reopened(rt: &impl Abort, alloc: Global, disk: &MemDisk, call: u64) -> Me
         copy(rt, alloc, disk.bytes(1)),
         copy(rt, alloc, disk.bytes(2)),
         copy(rt, alloc, disk.bytes(3)),
-        1000,
-        100_000,
+        CALLS,
+        ROOM,
         failing(rt, alloc, call),
     )
     .expect(rt, MEMORY)

@@ -7,10 +7,10 @@ use std::alloc::Global;
 use std::process::Abort;
 use test_paces::{Gate, Steps};
 
-/// Three hundred requests that each write an account of their own: so many that two workers mark them.
+/// Three thousand requests that each write an account of their own: so many that two workers mark them.
 fn apart(rt: &impl Abort, alloc: Global) -> String {
     let mut script = String::from_str(alloc, "catalog bank\n").expect(rt, MEMORY);
-    for account in 1..=300_u32 {
+    for account in 1..=3_000_u32 {
         write!(script, "tx set {account} 7\n").expect(rt, MEMORY);
     }
     script.push_str("end 1\n").expect(rt, MEMORY);
@@ -27,7 +27,7 @@ fn two_workers_mark_at_once(rt: HostRuntime) {
     let missed = u64::from(gate.was_missed());
     is_count(&rt, "status", u64::from(status), u64::from(DONE));
     is_count(&rt, "times that a worker waited in vain", missed, 0);
-    is_count(&rt, "marks", gate.steps(), 300);
+    is_count(&rt, "marks", gate.steps(), 3_000);
 }
 
 #[test]

@@ -222,7 +222,7 @@ fn call(alloc: Global, wanted: &Wanted) -> Result<Call, Memory>
 fn lines(alloc: Global, wanted: &[[i64; 3]]) -> Result<Tuples, Memory> {
     let mut lines = Vec::new(alloc);
     for &[item, from, quantity] in wanted {
-        lines.push(Tuple::from_vec(vec![in alloc; item, from, quantity]?))?;
+        lines.push(Tuple::from_slice(&[item, from, quantity]))?;
     }
     Ok(Tuples::from_vec(lines))
 }

@@ -53,7 +53,7 @@ fn same<T: PartialEq + Debug>(rt: &impl Abort, case: &impl Debug, found: &T, wan
 fn call(alloc: Global, wanted: &Wanted) -> Result<Call, Memory> {
     let mut accesses = Vec::new(alloc);
     for &(key, op) in wanted.1 {
-        accesses.push(Tuple::from_vec(vec![in alloc; key, op]?))?;
+        accesses.push(Tuple::from_slice(&[key, op]))?;
     }
     let accesses = Arg::List(Tuples::from_vec(accesses));
     Ok(Call {

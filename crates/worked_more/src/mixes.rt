@@ -94,8 +94,7 @@ fn args(rt: &impl Abort, alloc: Global, numbers: &[i64], lines: Option<Tuples>) 
 fn lines_of(rt: &impl Abort, alloc: Global, lines: &[[i64; 3]]) -> Tuples {
     let mut tuples = Vec::new(alloc);
     for line in lines {
-        let numbers = line.as_slice().to_vec(alloc).expect(rt, MEMORY);
-        tuples.push(Tuple::from_vec(numbers)).expect(rt, MEMORY);
+        tuples.push(Tuple::from_slice(line)).expect(rt, MEMORY);
     }
     Tuples::from_vec(tuples)
 }

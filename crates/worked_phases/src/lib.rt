@@ -8,7 +8,8 @@
 //! back until both are at work, in each phase that has steps to tell of, and counts these steps.
 //! `keeping` keeps more keys than a batch may find.
 //!
-//! The tests of each phase alone stand in `worked_crews`.
+//! What several workers do at once, by crates: `work_claim` in `claims`, `work_crew` in `crews`, `resv_words` in `words`,
+//! `resv_phase` in `reservations`, `touch_numbers` in `numbers` and `install_phase` in `installs`. `checks` asserts.
 #![tactic(auto)]
 
 #[cfg(test)]
@@ -16,10 +17,24 @@ mod accounts;
 #[cfg(test)]
 mod by_hand;
 #[cfg(test)]
+mod checks;
+#[cfg(test)]
+mod claims;
+#[cfg(test)]
+mod crews;
+#[cfg(test)]
 mod decisions;
 #[cfg(test)]
 mod executions;
 #[cfg(test)]
+mod installs;
+#[cfg(test)]
 mod keeping;
 #[cfg(test)]
 mod meetings;
+#[cfg(test)]
+mod numbers;
+#[cfg(test)]
+mod reservations;
+#[cfg(test)]
+mod words;

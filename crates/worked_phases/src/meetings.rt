@@ -59,13 +59,13 @@ fn execute_hundred<R: Threads + Sync, P: Pace + Sync>(
     Ok(())
 }
 
-/// Six hundred requests, so many that three workers mark them: each reads one of ten accounts, and each from the
-/// 301st on writes one.
+/// Five thousand requests, so many that three workers mark them: each reads one of ten accounts, and each from the
+/// 2,501st on writes one.
 fn many_sets(alloc: Global) -> Result<Vec<Sets>, Fail> {
     let mut list = Vec::new(alloc);
-    for place in 0..600_u32 {
+    for place in 0..5_000_u32 {
         let account = [place % 10];
-        let written = if place < 300 { 0 } else { 1 };
+        let written = if place < 2_500 { 0 } else { 1 };
         list.push(sets(alloc, &account, &account[..written])?)?;
     }
     Ok(list)
@@ -127,7 +127,7 @@ fn two_workers_meet_before_their_first_run(rt: HostRuntime) -> Result<(), Fail> 
 fn two_workers_meet_before_their_first_mark(rt: HostRuntime) -> Result<(), Fail> {
     let gate = Gate::before(Place::Mark);
     mark_many(&rt, rt.alloc(), 2, &gate)?;
-    met(&rt, &gate, 900);
+    met(&rt, &gate, 7_500);
     Ok(())
 }
 
@@ -147,7 +147,7 @@ fn each_step_is_told(rt: HostRuntime) -> Result<(), Fail> {
     told(&rt, "runs", &steps, [103, 100, 0, 0, 0]);
     let steps = Steps::new();
     mark_many(&rt, alloc, 3, &steps)?;
-    told(&rt, "marks", &steps, [603, 0, 900, 0, 0]);
+    told(&rt, "marks", &steps, [5_003, 0, 7_500, 0, 0]);
     let steps = Steps::new();
     install_hundred(&rt, alloc, 3, &steps)?;
     told(&rt, "writes", &steps, [0, 0, 0, 75, 0]);

@@ -4,15 +4,14 @@ ghost use Rattle.aria_base.specs.declared.limits.TheConstants.{MOST_REQUESTS};
 
 use crate::makings::{ADD, Again, catalog, crowd, tables, waiting};
 use crate::words::{late_words, rows_words, same};
-use aria_base::{Free, Memory, Pace, Place};
+use aria_base::{Free, Memory, Place};
 use fallback_locks::{rerun, waves};
 use proc_exec::{Late, Waiting};
 use std::alloc::Global;
 use std::process::Abort;
-use std::sync::atomic::{AtomicU64, Ordering};
 use std::test::Fail;
-use std::thread::yield_now;
 use tbl_rows::Tables;
+use test_paces::Gate;
 
 /// Requests that do not conflict, so many that two workers run their wave.
 const APART: [Again; 8] = [
@@ -38,56 +37,16 @@ const ACCOUNTS: [(i64, i64); 8] = [
     (8, 80),
 ];
 
-/// How often a worker looks at most whether the other one is there.
-const TURNS: u64 = 100_000_000;
-
-/// Holds each of two workers back before its first run until the other one is there.
-#[derive(Drop)]
-struct Gate {
-    first: AtomicU64,
-    second: AtomicU64,
-    missed: AtomicU64,
-    runs: AtomicU64,
-}
-
-impl Pace for Gate {
-    fn at(&self, who: u32, place: Place) {
-        if place != Place::Rerun {
-            return;
-        }
-        self.runs.fetch_add(1, Ordering::SeqCst);
-        let (mine, other) = if who == 0 {
-            (&self.first, &self.second)
-        } else {
-            (&self.second, &self.first)
-        };
-        mine.store(1, Ordering::SeqCst);
-        for _ in 0..TURNS {
-            if other.load(Ordering::SeqCst) == 1 {
-                return;
-            }
-            yield_now();
-        }
-        self.missed.store(1, Ordering::SeqCst);
-    }
-}
-
 /// Asserts that both workers were there, and that eight runs were told.
 fn met(rt: &impl Abort, gate: &Gate) {
-    let missed = gate.missed.load(Ordering::SeqCst);
-    let runs = gate.runs.load(Ordering::SeqCst);
-    assert!(rt; missed == 0 && runs == 8, "missed {missed}, runs {runs}");
+    let (missed, runs) = (gate.was_missed(), gate.steps());
+    assert!(rt; !missed && runs == 8, "missed {missed}, runs {runs}");
 }
 
 #[test]
 fn two_requests_of_one_wave_meet(rt: HostRuntime) -> Result<(), Fail> {
     let alloc = rt.alloc();
-    let gate = Gate {
-        first: AtomicU64::new(0),
-        second: AtomicU64::new(0),
-        missed: AtomicU64::new(0),
-        runs: AtomicU64::new(0),
-    };
+    let gate = Gate::before(Place::Rerun);
     let catalog = catalog(alloc)?;
     let tables = tables(alloc, &ACCOUNTS)?;
     let waiting = waiting(alloc, &APART)?;

@@ -86,7 +86,7 @@ fn schema(alloc: Global) -> Result<Schema, Fail> {
 }
 
 fn call(alloc: Global) -> Result<Call, Fail> {
-    let pair = Tuple::from_vec(vec![in alloc; i64::MIN, i64::MAX]?);
+    let pair = Tuple::from_slice(&[i64::MIN, i64::MAX]);
     let pairs = Tuples::from_vec(vec![in alloc; pair]?);
     let note = Txt::of(alloc, b"rent")?;
     let args = Args::from_vec(vec![in alloc; Arg::Int(-1), Arg::Text(note), Arg::List(pairs)]?);
@@ -360,10 +360,8 @@ fn bytes_are_in_order(rt: HostRuntime) -> Result<(), Fail> {
 fn lists_give_their_items(rt: HostRuntime) -> Result<(), Fail> {
     let bytes = Bytes::from_vec(vec![in rt.alloc(); 1, 200]?).into_vec();
     same(&rt, &"bytes", &bytes.as_slice(), &[1, 200].as_slice());
-    let tuple = Tuple::from_vec(vec![in rt.alloc(); -5, 5]?);
+    let tuple = Tuple::from_slice(&[-5, 5]);
     same(&rt, &"a tuple", &tuple.as_slice(), &[-5, 5].as_slice());
-    let items = tuple.into_vec();
-    same(&rt, &"its items", &items.as_slice(), &[-5, 5].as_slice());
     Ok(())
 }
 

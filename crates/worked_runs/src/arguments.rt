@@ -38,14 +38,14 @@ fn tuple(alloc: Global, words: &str) -> Result<Tuple, Wrong> {
     if numbers.is_empty() || numbers.len() > 5 {
         return Err(Wrong::Form("a tuple has 1 to 5 numbers"));
     }
-    Ok(Tuple::from_vec(numbers))
+    Ok(Tuple::from_slice(&numbers))
 }
 
 /// A tuple of each number of a range.
 fn ranged(alloc: Global, first: i64, last: i64) -> Result<Tuples, Memory> {
     let mut tuples = Vec::new(alloc);
     for number in first..=last {
-        tuples.push(Tuple::from_vec(vec![in alloc; number]?))?;
+        tuples.push(Tuple::from_slice(&[number]))?;
     }
     Ok(Tuples::from_vec(tuples))
 }

@@ -1,10 +1,11 @@
-//! Worked scripts, which the gate runs, and the smallest command that reads one.
+//! Worked scripts and catalogues, which the gate runs, and the smallest command that reads a script.
 //!
 //! [`Echo`] prints in one word what each line of a script asks for. Scripts and lines that a command line can
 //! show are cases of `worked_cases`. `scripts` has some that begin behind batches, which no command line can bring
 //! about, `bounds` one at its limit of bytes, and `faults` sources and sinks that fail at each call in turn. `forms`
 //! has lines that say a catalogue or a piece of one, and `cuttings` feeds texts in pieces of many sizes. `answers`
-//! and `refusals` have what is printed with all its bytes, worked out by hand.
+//! and `refusals` have what is printed with all its bytes, worked out by hand. Of catalogues as JSON text `readers` has
+//! some that are read or refused, `writers` those that are written, and `builtins` those that every database has.
 //!
 //! ```text
 //! catalog bank          nothing
@@ -24,6 +25,8 @@ mod answers;
 #[cfg(test)]
 mod bounds;
 #[cfg(test)]
+mod builtins;
+#[cfg(test)]
 mod catalogs;
 #[cfg(test)]
 mod checks;
@@ -36,6 +39,10 @@ mod forms;
 #[cfg(test)]
 mod outcomes;
 #[cfg(test)]
+mod readers;
+#[cfg(test)]
 mod refusals;
 #[cfg(test)]
 mod scripts;
+#[cfg(test)]
+mod writers;

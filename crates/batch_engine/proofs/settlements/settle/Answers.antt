@@ -12,50 +12,53 @@ use Rattle.std.specs.List.{All}
 use Rattle.dep_rules.specs.Sheets.{IsTid}
 use Rattle.fallback_locks.specs.Numbers.{StandFor}
 use Rattle.batch_engine.specs.Lists.{tids_among, waiting_among}
+use Rattle.batch_engine.proofs.Committing.{rows-are}
 use Rattle.batch_engine.proofs.LateNumbers.{stands, tids_are}
 use Rattle.batch_engine.proofs.settlements.settle.Goals as goal
 
 pub run_late-requires-clause-waiting : goal.run_late-requires-clause-waiting
 run_late-requires-clause-waiting g c κs within =
-    let size : c.len-size.result ≡ length c.args.committed.verdicts.items = search rules in
-    let few = few_among c.args.list.items c.args.committed.sets.items c.deref-3.result.now in
-    omega (arith, ap length c.deref-4.ensures.value, ap length c.in_ok-waiting.ensures, few, ap length c.deref-3.ensures.value, size)
+    let size : c.len-size.result ≡ length c.args.judgement.verdicts.items = search rules in
+    let few = few_among c.args.list.items c.args.judgement.sets.items c.deref-3.result.now in
+    omega (arith, ap length c.deref-5.ensures.value, ap length c.in_ok-waiting.ensures, few, ap length c.deref-3.ensures.value, size)
 
 pub order_of-requires-clause-each : goal.order_of-requires-clause-each
 order_of-requires-clause-each g c =
-    let even : length c.deref-8.result.now ≡ length c.args.committed.ends.items = ap length c.deref-8.ensures.value ∙ c.requires.verdicts
+    let even : length c.deref-9.result.now ≡ length c.args.judgement.ends.items = ap length c.deref-9.ensures.value ∙ c.requires.verdicts
     ∙ sym c.requires.ends in
-    ap length c.deref-11.ensures.value ∙ ap length c.in_ok-lines.ensures
-    ∙ length-lines c.deref-7.result.now c.args.committed.ends.items c.deref-8.result.now (map fate_of c.in_ok-tables.lates.items) even
-    ∙ ap length (c.deref-8.ensures.value ∙ sym c.deref-10.ensures.value)
+    ap length c.deref-12.ensures.value ∙ ap length c.in_ok-lines.ensures
+    ∙ length-lines c.deref-8.result.now c.args.judgement.ends.items c.deref-9.result.now (map fate_of c.in_ok-tables.lates.items) even
+    ∙ ap length (c.deref-9.ensures.value ∙ sym c.deref-11.ensures.value)
 
 pub returns : goal.returns
-returns g c start committed =
+returns g c judged =
     let tree = run_of c.args.catalog.now in
     let rule = c.args.config.now.rule in
     let percent = c.args.config.now.fallback in
     let list = c.args.list.items in
-    let ends = c.args.committed.ends.items in
-    let verdicts = c.args.committed.verdicts.items in
+    let ends = c.args.judgement.ends.items in
+    let verdicts = c.args.judgement.verdicts.items in
     let fates = map fate_of c.in_ok-tables.lates.items in
+    let start = c.args.tables in
     let waiting = c.in_ok-waiting.ensures
-    ∙ settling.waiting-is tree rule start percent list c.args.committed.sets.items c.deref-3.result.now committed.sets (c.deref-3.ensures.value
-    ∙ committed.verdicts) in
+    ∙ settling.waiting-is tree rule start percent list c.args.judgement.sets.items c.deref-3.result.now judged.sets (c.deref-3.ensures.value
+    ∙ judged.verdicts) in
     let size : c.len-size.result ≡ length verdicts = search rules in
-    let late = settling.late-is tree rule start percent list c.args.committed.tables c.in_ok-tables.tables c.deref-4.result.now c.len-size.result fates
-    committed.rows (c.deref-4.ensures.value ∙ waiting) (size ∙ ap length committed.verdicts ∙ length-map _ (λ d. d.verdict)) c.in_ok-tables.ensures in
+    let rows = c.in_ok-installed.ensures ∙ rows-are tree rule start list c.args.judgement.changes.items _ judged.changes (c.deref-4.ensures.value ∙ judged.verdicts) in
+    let late = settling.late-is tree rule start percent list c.in_ok-installed.installed c.in_ok-tables.tables c.deref-5.result.now c.len-size.result fates
+    rows (c.deref-5.ensures.value ∙ waiting) (size ∙ ap length judged.verdicts ∙ length-map _ (λ d. d.verdict)) c.in_ok-tables.ensures in
     let listed : c.deref.result.now ≡ list = c.deref.ensures.value in
     let numbers = c.in_ok-numbers.ensures ∙ ap (map (λ q. q.q)) listed in
     let lines : c.in_ok-lines.lines.items ≡ _ = c.in_ok-lines.ensures
-    ∙ (λ i. lines_in ((c.deref-7.ensures.value ∙ numbers) i) ends (c.deref-8.ensures.value i) fates)
-    ∙ settling.lines-are tree rule start percent list ends verdicts fates committed.ends committed.verdicts late.1 in
+    ∙ (λ i. lines_in ((c.deref-8.ensures.value ∙ numbers) i) ends (c.deref-9.ensures.value i) fates)
+    ∙ settling.lines-are tree rule start percent list ends verdicts fates judged.ends judged.verdicts late.1 in
     let order : c.in_ok-order.order.items ≡ _ = c.in_ok-order.ensures
-    ∙ (λ i. map (number_in ((c.deref-9.ensures.value ∙ numbers) i))
-    (ordered_tids ((c.deref-10.ensures.value ∙ committed.verdicts) i) (map (λ (line : Line). is_final line.reply) ((c.deref-11.ensures.value ∙ lines) i))))
+    ∙ (λ i. map (number_in ((c.deref-10.ensures.value ∙ numbers) i))
+    (ordered_tids ((c.deref-11.ensures.value ∙ judged.verdicts) i) (map (λ (line : Line). is_final line.reply) ((c.deref-12.ensures.value ∙ lines) i))))
     ∙ settling.order-is tree rule start percent list in
     record {
       rows = late.0;
-      carried = c.in_ok-carried.ensures ∙ ap (λ ls. still_waiting c.in_ok-waiting.waiting.items (map fate_of ls)) c.deref-6.ensures.value
+      carried = c.in_ok-carried.ensures ∙ ap (λ ls. still_waiting c.in_ok-waiting.waiting.items (map fate_of ls)) c.deref-7.ensures.value
           ∙ settling.carried-is tree rule start percent list fates c.in_ok-waiting.waiting.items waiting late.1;
       lines = c.from_vec.ensures ∙ lines;
       order = c.from_vec-2.ensures ∙ order;
@@ -63,19 +66,19 @@ returns g c start committed =
 
 pub run_late-requires-clause-tids : goal.run_late-requires-clause-tids
 run_late-requires-clause-tids g c κs within =
-    let tids : c.deref-5.result.now ≡ tids_among 1 c.args.committed.verdicts.items = c.deref-5.ensures.value ∙ c.in_ok-tids.ensures
+    let tids : c.deref-6.result.now ≡ tids_among 1 c.args.judgement.verdicts.items = c.deref-6.ensures.value ∙ c.in_ok-tids.ensures
     ∙ ap (tids_among 1) c.deref-2.ensures.value in
     subst (All (λ tid. IsTid c.args.numbered.now tid)) (sym tids)
-    (tids_are c.args.numbered.now c.args.committed.sets.items c.args.committed.verdicts.items (c.requires.verdicts
+    (tids_are c.args.numbered.now c.args.judgement.sets.items c.args.judgement.verdicts.items (c.requires.verdicts
     ∙ sym c.requires.sets) c.requires.numbered)
 
 pub run_late-requires-clause-numbered : goal.run_late-requires-clause-numbered
 run_late-requires-clause-numbered g c κs within =
-    let tids : c.deref-5.result.now ≡ tids_among 1 c.args.committed.verdicts.items = c.deref-5.ensures.value ∙ c.in_ok-tids.ensures
+    let tids : c.deref-6.result.now ≡ tids_among 1 c.args.judgement.verdicts.items = c.deref-6.ensures.value ∙ c.in_ok-tids.ensures
     ∙ ap (tids_among 1) c.deref-2.ensures.value in
-    let waiting : c.deref-4.result.now ≡ waiting_among c.args.list.items c.args.committed.sets.items c.args.committed.verdicts.items = c.deref-4.ensures.value
-    ∙ c.in_ok-waiting.ensures ∙ ap (waiting_among c.args.list.items c.args.committed.sets.items) c.deref-3.ensures.value in
-    subst (λ ts. StandFor c.args.numbered.now ts c.deref-4.result.now) (sym tids)
-    (subst (StandFor c.args.numbered.now (tids_among 1 c.args.committed.verdicts.items)) (sym waiting)
-    (stands c.args.numbered.now c.args.list.items c.args.committed.sets.items c.args.committed.verdicts.items c.requires.sets c.requires.verdicts
+    let waiting : c.deref-5.result.now ≡ waiting_among c.args.list.items c.args.judgement.sets.items c.args.judgement.verdicts.items = c.deref-5.ensures.value
+    ∙ c.in_ok-waiting.ensures ∙ ap (waiting_among c.args.list.items c.args.judgement.sets.items) c.deref-3.ensures.value in
+    subst (λ ts. StandFor c.args.numbered.now ts c.deref-5.result.now) (sym tids)
+    (subst (StandFor c.args.numbered.now (tids_among 1 c.args.judgement.verdicts.items)) (sym waiting)
+    (stands c.args.numbered.now c.args.list.items c.args.judgement.sets.items c.args.judgement.verdicts.items c.requires.sets c.requires.verdicts
     c.requires.numbered))

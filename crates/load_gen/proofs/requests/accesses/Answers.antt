@@ -16,24 +16,16 @@ loop-preserved c =
     let more = times-more c.loop.counter (access s) c.args.draws.now in
     let at = c.loop.invariant.1 in (
       c.in_ok-push.ensures.items
-          ∙ (λ i. c.loop.invariant.0 i ++ (c.in_ok-access.ensures.access ∙ ap (λ g. (access s g).0) at) i ∷ [])
+          ∙ (λ i. c.loop.invariant.0 i ++ (c.access.ensures.access ∙ ap (λ g. (access s g).0) at) i ∷ [])
           ∙ sym (ap (λ x. x.0) more),
-      c.in_ok-access.ensures.past ∙ ap (λ g. (access s g).1) at ∙ sym (ap (λ x. x.1) more),
+      c.access.ensures.past ∙ ap (λ g. (access s g).1) at ∙ sym (ap (λ x. x.1) more),
     )
-
-pub returns-in_err-access-clause-further : goal.returns-in_err-access-clause-further
-returns-in_err-access-clause-further c =
-    let s = c.args.settings.now in
-    let g = c.args.draws.now in
-    let at = c.in_err-access.ensures.past ∙ ap (λ g. (access s g).1) c.loop.invariant.1 in
-    subst (IsPast g) (sym at) (past-trans g (times c.loop.counter (access s) g).1 _ (advances-times c.loop.counter (access s) (advances-access s) g)
-    (advances-access s _))
 
 pub returns-in_err-push-clause-further : goal.returns-in_err-push-clause-further
 returns-in_err-push-clause-further c =
     let s = c.args.settings.now in
     let g = c.args.draws.now in
-    let at = c.in_ok-access.ensures.past ∙ ap (λ g. (access s g).1) c.loop.invariant.1 in
+    let at = c.access.ensures.past ∙ ap (λ g. (access s g).1) c.loop.invariant.1 in
     subst (IsPast g) (sym at) (past-trans g (times c.loop.counter (access s) g).1 _ (advances-times c.loop.counter (access s) (advances-access s) g)
     (advances-access s _))
 

@@ -22,21 +22,11 @@ loop-line-preserved c =
     let more = over-more n d c.args.draws.now in
     let at = c.loop-line.invariant.1 in (
       c.in_ok-push.ensures.items
-          ∙ (λ i. c.loop-line.invariant.0 i ++ (sym c.in_ok-one_line.ensures.line ∙ ap (λ b. (line s w b now).0) c.fails_at-fails.ensures
+          ∙ (λ i. c.loop-line.invariant.0 i ++ (sym c.one_line.ensures.line ∙ ap (λ b. (line s w b now).0) c.fails_at-fails.ensures
           ∙ ap (λ g. (d (n + 1) g).0) at) i)
           ∙ sym (ap (λ x. x.0) more),
-      c.in_ok-one_line.ensures.past ∙ ap (λ b. (line s w b now).1) c.fails_at-fails.ensures ∙ ap (λ g. (d (n + 1) g).1) at ∙ sym (ap (λ x. x.1) more),
+      c.one_line.ensures.past ∙ ap (λ b. (line s w b now).1) c.fails_at-fails.ensures ∙ ap (λ g. (d (n + 1) g).1) at ∙ sym (ap (λ x. x.1) more),
     )
-
-pub returns-in_err-one_line-clause-further : goal.returns-in_err-one_line-clause-further
-returns-in_err-one_line-clause-further c =
-    let s = c.args.settings.now in
-    let n = c.loop-line.line in
-    let g = c.args.draws.now in
-    let d = line_at s c.args.start in
-    let at = c.in_err-one_line.ensures.past ∙ ap (λ b. (line s c.args.start.w b c.loop-line.draws).1) c.fails_at-fails.ensures
-    ∙ ap (λ g. (d (n + 1) g).1) c.loop-line.invariant.1 in
-    subst (IsPast g) (sym at) (past-trans g (over n d g).1 _ (lines-advance s c.args.start n g) (line_at-advances s c.args.start (n + 1) (over n d g).1))
 
 pub returns-in_err-push-clause-further : goal.returns-in_err-push-clause-further
 returns-in_err-push-clause-further c =
@@ -44,7 +34,7 @@ returns-in_err-push-clause-further c =
     let n = c.loop-line.line in
     let g = c.args.draws.now in
     let d = line_at s c.args.start in
-    let at = c.in_ok-one_line.ensures.past ∙ ap (λ b. (line s c.args.start.w b c.loop-line.draws).1) c.fails_at-fails.ensures
+    let at = c.one_line.ensures.past ∙ ap (λ b. (line s c.args.start.w b c.loop-line.draws).1) c.fails_at-fails.ensures
     ∙ ap (λ g. (d (n + 1) g).1) c.loop-line.invariant.1 in
     subst (IsPast g) (sym at) (past-trans g (over n d g).1 _ (lines-advance s c.args.start n g) (line_at-advances s c.args.start (n + 1) (over n d g).1))
 

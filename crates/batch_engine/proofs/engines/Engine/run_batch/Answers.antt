@@ -3,15 +3,15 @@ use Rattle.proc_lang.specs.Catalogs.{IsCatalog}
 use Rattle.batch_engine.proofs.Batching.{many-verdicts, many-sets, few-listed, done, ready-is, state-is, answer-is, serial-is, progress-is}
 use Rattle.batch_engine.proofs.engines.Engine.run_batch.Goals as goal
 
-pub commit-requires-clause-list : goal.commit-requires-clause-list
-commit-requires-clause-list g c κs within =
+pub judge-requires-clause-list : goal.judge-requires-clause-list
+judge-requires-clause-list g c κs within =
     few-listed c.self.view_is c.args.config.now c.args.new.items c.in_ok-list.ensures.list c.into_vec.ensures c.deref.ensures.value c.requires.room
 
 pub settle-requires-clause-verdicts : goal.settle-requires-clause-verdicts
-settle-requires-clause-verdicts g c κs within = many-verdicts _ _ _ _ _ c.in_ok-last.ensures.committed ∙ ap length c.deref.ensures.value
+settle-requires-clause-verdicts g c κs within = many-verdicts _ _ _ _ _ c.in_ok-last.ensures.judged ∙ ap length c.deref.ensures.value
 
 pub settle-requires-clause-sets : goal.settle-requires-clause-sets
-settle-requires-clause-sets g c κs within = many-sets _ _ _ _ _ c.in_ok-last.ensures.committed ∙ ap length c.deref.ensures.value
+settle-requires-clause-sets g c κs within = many-sets _ _ _ _ _ c.in_ok-last.ensures.judged ∙ ap length c.deref.ensures.value
 
 pub invariant_of-engine : goal.invariant_of-engine
 invariant_of-engine g c =
@@ -19,8 +19,8 @@ invariant_of-engine g c =
     let calls = c.args.new.items in
     let s = c.in_ok-settled.settled in
     let count : c.len.result ≡ length calls = search rules in
-    let all = done c.self.view_is config calls c.in_ok-last.committed s c.in_ok-list.ensures.list c.into_vec.ensures c.deref.ensures.value
-    c.in_ok-last.ensures.committed c.in_ok-settled.ensures in
+    let all = done c.self.view_is config calls c.in_ok-last.judgement s c.in_ok-list.ensures.list c.into_vec.ensures c.deref.ensures.value
+    c.in_ok-last.ensures.judged c.in_ok-settled.ensures in
     ready-is c.self.view_is config calls s all c.from_vec.ensures count
     (subst IsCatalog c.catalog.view_is c.catalog.invariant) c.self.invariant c.requires.fit c.requires.room c.requires.batches c.requires.requests
 
@@ -30,8 +30,8 @@ returns-clause-state g c =
     let calls = c.args.new.items in
     let s = c.in_ok-settled.settled in
     let count : c.len.result ≡ length calls = search rules in
-    let all = done c.self.view_is config calls c.in_ok-last.committed s c.in_ok-list.ensures.list c.into_vec.ensures c.deref.ensures.value
-    c.in_ok-last.ensures.committed c.in_ok-settled.ensures in
+    let all = done c.self.view_is config calls c.in_ok-last.judgement s c.in_ok-list.ensures.list c.into_vec.ensures c.deref.ensures.value
+    c.in_ok-last.ensures.judged c.in_ok-settled.ensures in
     state-is c.self.view_is config calls s all c.from_vec.ensures count
 
 pub returns-clause-answer : goal.returns-clause-answer
@@ -39,8 +39,8 @@ returns-clause-answer g c =
     let config = c.args.config.now in
     let calls = c.args.new.items in
     let s = c.in_ok-settled.settled in
-    let all = done c.self.view_is config calls c.in_ok-last.committed s c.in_ok-list.ensures.list c.into_vec.ensures c.deref.ensures.value
-    c.in_ok-last.ensures.committed c.in_ok-settled.ensures in
+    let all = done c.self.view_is config calls c.in_ok-last.judgement s c.in_ok-list.ensures.list c.into_vec.ensures c.deref.ensures.value
+    c.in_ok-last.ensures.judged c.in_ok-settled.ensures in
     answer-is c.self.view_is config calls s all
 
 pub returns-clause-serial : goal.returns-clause-serial
@@ -49,8 +49,8 @@ returns-clause-serial g c =
     let calls = c.args.new.items in
     let s = c.in_ok-settled.settled in
     let count : c.len.result ≡ length calls = search rules in
-    let all = done c.self.view_is config calls c.in_ok-last.committed s c.in_ok-list.ensures.list c.into_vec.ensures c.deref.ensures.value
-    c.in_ok-last.ensures.committed c.in_ok-settled.ensures in
+    let all = done c.self.view_is config calls c.in_ok-last.judgement s c.in_ok-list.ensures.list c.into_vec.ensures c.deref.ensures.value
+    c.in_ok-last.ensures.judged c.in_ok-settled.ensures in
     serial-is c.self.view_is config calls s all c.from_vec.ensures count c.self.invariant.numbered
 
 pub returns-clause-progress : goal.returns-clause-progress
@@ -59,6 +59,6 @@ returns-clause-progress g c =
     let calls = c.args.new.items in
     let s = c.in_ok-settled.settled in
     let count : c.len.result ≡ length calls = search rules in
-    let all = done c.self.view_is config calls c.in_ok-last.committed s c.in_ok-list.ensures.list c.into_vec.ensures c.deref.ensures.value
-    c.in_ok-last.ensures.committed c.in_ok-settled.ensures in
+    let all = done c.self.view_is config calls c.in_ok-last.judgement s c.in_ok-list.ensures.list c.into_vec.ensures c.deref.ensures.value
+    c.in_ok-last.ensures.judged c.in_ok-settled.ensures in
     progress-is c.self.view_is config calls s all c.from_vec.ensures count

@@ -3,4 +3,4 @@ use Rattle.tbl_rows.proofs.Listed.{len-listed}
 use Rattle.tbl_rows.proofs.buckets.Bucket.len.Goals as goal
 
 pub returns : goal.returns
-returns c = rw (← c.self.view_is) (omega (arith, c.len.ensures, c.self.inside.entries.ok.0, len-listed c.self.inside.entries.items c.self.invariant.apart))
+returns c = rw (← c.self.view_is) (omega (arith, c.len.ensures, c.self.inside.entries.ok.0, len-listed c.self.inside.entries.items c.self.invariant))

@@ -4,4 +4,4 @@ use Rattle.tbl_rows.proofs.buckets.BucketDuplicate.duplicate.Goals as goal
 
 pub invariant_of-result : goal.invariant_of-result
 invariant_of-result c =
-    rw (c.loop-entry.invariant ∙ take_all _ _ c.loop-entry-test.false ∙ c.deref-entry-items.ensures.value, c.in_ok-hashes.ensures) c.self.invariant
+    rw (c.loop-entry.invariant ∙ take_all _ _ c.loop-entry-test.false ∙ c.deref-entry-items.ensures.value) c.self.invariant
