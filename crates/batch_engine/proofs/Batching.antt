@@ -26,7 +26,6 @@ use Rattle.batch_engine.specs.Engines.{Between, IsReady, state_in, handed_by}
 use Rattle.batch_engine.specs.declared.judgements.Judgement.{Judgement}
 use Rattle.batch_engine.specs.declared.settlements.Settled.{Settled}
 use Rattle.proc_exec.specs.Outcomes.{outcome_at}
-use Rattle.batch_engine.specs.Lists.{sets_in}
 use Rattle.batch_engine.proofs.Readying.{length-list, ready-after}
 
 pub many-verdicts : (tree : Request → Tree Key Cells End) (rule : Rule) (start : Database) (list : List Request) (c : Judgement)
@@ -34,9 +33,9 @@ pub many-verdicts : (tree : Request → Tree Key Cells End) (rule : Rule) (start
 many-verdicts tree rule start list c h = ap length h.verdicts ∙ length-map _ (λ d. d.verdict)
     ∙ length-judged (touching (on_start is_done tree start) key_cmp) rule _ list
 
-pub many-sets : (tree : Request → Tree Key Cells End) (rule : Rule) (start : Database) (list : List Request) (c : Judgement)
-    → IsJudged tree rule start list c → length c.sets.items ≡ length list
-many-sets tree rule start list c h = ap length h.sets ∙ length-map list (λ q. sets_in (outcome_at tree start q))
+pub many-outcomes : (tree : Request → Tree Key Cells End) (rule : Rule) (start : Database) (list : List Request) (c : Judgement)
+    → IsJudged tree rule start list c → length c.outcomes.items ≡ length list
+many-outcomes tree rule start list c h = ap length h.outcomes ∙ length-map list (outcome_at tree start)
 
 -- the engine by its fields, `e`, and as its callers see it, `self`
 module _ {e self : Between} (view : e ≡ self) (config : Config) (calls : List Call) where

@@ -1,13 +1,13 @@
 -- What the phases of a commit hand on is what the definition of a batch says of its list.
-use Rattle.std.proofs.Common.{◌≡◌, refl, sym, ap, ◌∙◌, ◌+◌, ◌≤◌, List, [], ◌∷◌, map, length, Option, true, arith}
-use Rattle.std.specs.List.{All, filter}
+use Rattle.std.proofs.Common.{◌≡◌, refl, sym, ap, ◌∙◌, ◌≤◌, List, [], ◌∷◌, map, length, Option, true, arith}
+use Rattle.std.specs.List.{All}
 use Rattle.std.proofs.lemmas.List.{length-map}
 use Rattle.std.proofs.lemmas.List.Elements.{All-nil, All-cons}
 use Rattle.std.proofs.lemmas.Simd.{map-map}
 use Rattle.aria_base.specs.Orders.{key_cmp, Cells, Database}
 use Rattle.aria_base.specs.declared.calls.Request.{Request}
 use Rattle.aria_base.specs.declared.keys.Key.{Key}
-use Rattle.batch_rules.specs.Batches.{Judged, judged, decided, finishing, judged_through, touching, on_start, reads_at, rows_at, after_commit}
+use Rattle.batch_rules.specs.Batches.{Judged, decided, finishing, judged_through, touching, on_start, rows_at, after_commit}
 use Rattle.batch_rules.specs.Touches.{is_among, keys_of, installed}
 use Rattle.batch_rules.specs.Trees.{Tree}
 use Rattle.batch_rules.specs.Verdicts.{finishes}
@@ -17,7 +17,6 @@ use Rattle.batch_rules.proofs.Installs.{installed-map}
 use Rattle.batch_rules.proofs.Judges.{decided_each}
 use Rattle.batch_rules.proofs.Lists.{All-unmapped, filter-map}
 use Rattle.dep_rules.specs.Sheets.{Sheet}
-use Rattle.dep_rules.specs.declared.sets.Sets.{Sets}
 use Rattle.install_phase.specs.Installs.{after_changes}
 use Rattle.key_numbering.specs.Numbers.{touch_count}
 use Rattle.proc_exec.specs.Outcomes.{outcome_at}

@@ -1,15 +1,15 @@
 -- What is made of a batch's judged list, one list after the other, is what the definition of a batch says.
-use Rattle.std.proofs.Common.{◌≡◌, refl, sym, ap, subst, ◌∙◌, ℕ, zero, suc, ◌+◌, ◌-◌, ◌*◌, ◌≤◌, List, [], ◌∷◌, ◌++◌, map, length, drop, take, Bool, true, false, ◌&&◌, nat_lt, nat_le, if◌then◌else◌, Option, Some, None, option_map, slice_index_or, arith, append_assoc, length-append, add-one}
+use Rattle.std.proofs.Common.{◌≡◌, refl, sym, ap, subst, ◌∙◌, ℕ, zero, suc, ◌+◌, ◌-◌, ◌≤◌, List, [], ◌∷◌, ◌++◌, map, length, drop, true, false, if◌then◌else◌, Some, option_map, slice_index_or, arith, append_assoc}
 use Rattle.std.specs.List.{All, filter, slice_get}
-use Rattle.std.proofs.lemmas.List.{length-map, append-nil}
-use Rattle.std.proofs.lemmas.List.Elements.{All-nil, All-cons, All-head, All-tail}
+use Rattle.std.proofs.lemmas.List.{length-map}
+use Rattle.std.proofs.lemmas.List.Elements.{All-nil, All-cons}
 use Rattle.std.proofs.lemmas.Option.{slice_get-map}
 use Rattle.std.proofs.lemmas.Simd.{map-map}
 use Rattle.aria_base.specs.Orders.{key_cmp, Cells, Database}
 use Rattle.aria_base.specs.declared.calls.Request.{Request}
 use Rattle.aria_base.specs.declared.keys.Key.{Key}
 use Rattle.batch_core.specs.Steps.{number_in, number_or, number_at, reply_by, reply_of, line_of}
-use Rattle.batch_rules.specs.Batches.{Carrier, Judged, Entry, Fate, Ended, Waits, Moved, Batch, judge, judged, decided, waiting, late_runs, has_ended, is_carried, ordered, carried, declared, touching, fate_after, lates_behind, settled, after_commit, late_fates, late_left, late_results, late_rest, on_start, batch, read_through, judged_through, entry_through}
+use Rattle.batch_rules.specs.Batches.{Carrier, Judged, Entry, Fate, Ended, Waits, Moved, Batch, judge, judged, decided, waiting, late_runs, has_ended, is_carried, ordered, carried, touching, fate_after, lates_behind, settled, after_commit, late_fates, late_left, late_results, on_start, batch, read_through, judged_through, entry_through}
 use Rattle.batch_rules.specs.Trees.{Tree, end_of}
 use Rattle.batch_rules.specs.Verdicts.{Dependencies, waits}
 use Rattle.batch_rules.specs.declared.verdicts.Rule.{Rule}
@@ -17,7 +17,7 @@ use Rattle.batch_rules.specs.declared.verdicts.Verdict.{Verdict}
 use Rattle.batch_rules.specs.declared.verdicts.Verdict.TheVariants.{Finish, Wait}
 use Rattle.batch_rules.proofs.Carriers.{fates_map, left_map, settled-through}
 use Rattle.batch_rules.proofs.Fates.{judged-settled, requests-settled}
-use Rattle.batch_rules.proofs.Judges.{decided_each, length-judged}
+use Rattle.batch_rules.proofs.Judges.{decided_each}
 use Rattle.batch_rules.proofs.Lists.{All-unmapped, map_same}
 use Rattle.proc_exec.specs.Limits.{touchable}
 use Rattle.proc_exec.specs.Outcomes.{outcome_at}
@@ -27,7 +27,7 @@ use Rattle.proc_lang.specs.declared.ends.End.{End}
 use Rattle.reorder.specs.Orders.{ordered_tids}
 use Rattle.reorder.proofs.Places.{ordered_names}
 use Rattle.dep_rules.specs.declared.sets.Sets.{Sets}
-use Rattle.batch_engine.specs.Answers.{by_end, line_in, lines_in, is_final, first_ended, still_waiting}
+use Rattle.batch_engine.specs.Answers.{by_end, line_in, lines_in, is_final, still_waiting}
 use Rattle.batch_engine.specs.Lates.{is_due, LateRun}
 use Rattle.batch_engine.specs.Lists.{sets_in, waiting_with, waiting_among}
 
@@ -40,6 +40,17 @@ few_among (q ∷ qs) (s ∷ ss) (Wait cause ∷ vs) = let rest = few_among qs ss
 few_among [] sets verdicts = omega arith
 few_among (q ∷ qs) [] verdicts = omega arith
 few_among (q ∷ qs) (s ∷ ss) [] = omega arith
+
+-- a list without length
+pub none_left : {A : Type 0} (list : List A) → length list ≡ 0 → list ≡ []
+none_left [] none = refl
+none_left (x ∷ xs) none = absurd (omega (arith, none))
+
+-- one more
+pub more_among : (q : Request) (s : Sets) (v : Verdict) (list : List Request) (sets : List Sets) (verdicts : List Verdict)
+    → waiting_among (q ∷ []) (s ∷ []) (v ∷ []) ++ waiting_among list sets verdicts ≡ waiting_among (q ∷ list) (s ∷ sets) (v ∷ verdicts)
+more_among q s (Finish raw) list sets verdicts = refl
+more_among q s (Wait cause) list sets verdicts = refl
 
 -- as many are decided as there are verdicts, and as many settled
 length-decided : {O : Type 0} (tid : ℕ) (list : List O) (verdicts : List Verdict) → length verdicts ≡ length list

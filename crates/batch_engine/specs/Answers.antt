@@ -1,6 +1,6 @@
 -- The answer of a batch from what its phases hand on: request numbers by TID, ends of the runs on the batch's start, verdicts, and
 -- the fates of a late run.
-use Rattle.std.specs.Prelude.{ℕ, ◌-◌, List, [], ◌∷◌, map, length, drop, Bool, true, false, if◌then◌else◌}
+use Rattle.std.specs.Prelude.{ℕ, List, [], ◌∷◌, map, length, drop, Bool, true, false, if◌then◌else◌}
 use Rattle.std.specs.List.{range_with_len}
 use Rattle.std.specs.Ordering.{nat_cmp}
 use Rattle.aria_base.specs.Orders.{Cells}

@@ -7,10 +7,9 @@ use Rattle.proc_lang.specs.declared.ends.End.{End}
 use Rattle.proc_lang.specs.Meaning.{is_done}
 use Rattle.proc_exec.specs.Outcomes.{outcome_at}
 use Rattle.batch_rules.specs.declared.verdicts.Rule.{Rule}
-use Rattle.batch_rules.specs.Trees.{Tree, end_of}
-use Rattle.batch_rules.specs.Batches.{Batch, Judged, judged, touching, on_start, batch, ordered, carried}
+use Rattle.batch_rules.specs.Trees.{Tree}
+use Rattle.batch_rules.specs.Batches.{Judged, judged, touching, on_start, batch, ordered, carried}
 use Rattle.batch_core.specs.Steps.{line_of}
-use Rattle.batch_engine.specs.Lists.{sets_in}
 use Rattle.batch_engine.specs.declared.judgements.Judgement.{Judgement}
 use Rattle.batch_engine.specs.declared.settlements.Settled.{Settled}
 
@@ -21,9 +20,7 @@ module _ (tree : Request → Tree Key Cells End) (rule : Rule) where
 
   -- what is known of the list before a write is installed
   pub record IsJudged (start : Database) (list : List Request) (c : Judgement) : Type 0 where
-    pub changes : c.changes.items ≡ map (λ q. (outcome_at tree start q).writes) list
-    pub sets : c.sets.items ≡ map (λ q. sets_in (outcome_at tree start q)) list
-    pub ends : c.ends.items ≡ map (λ q. end_of (tree q) start) list
+    pub outcomes : c.outcomes.items ≡ map (outcome_at tree start) list
     pub verdicts : c.verdicts.items ≡ map (λ d. d.verdict) (judged_from start list)
 
   -- what the batch comes to: its rows, the requests that it carries over, and its answer by request numbers

@@ -3,13 +3,14 @@ ghost use Rattle.std.specs.Prelude.{◌≡◌, ◌≤◌, ◌++◌, ◌∷◌, [
 ghost use Rattle.aria_base.specs.declared.limits.TheConstants.{MOST_REQUESTS};
 ghost use Rattle.batch_rules.specs.Touches.{keys_of};
 ghost use Rattle.batch_engine.specs.Lists.{sets_in, tids_among, waiting_among};
+ghost use Rattle.touch_numbers.specs.Touchings.{sets_of};
 
 use aria_base::{Changes, Duplicate, Items, Keys, Memory, Request};
 use batch_rules::verdicts::Verdict;
-use dep_rules::Sets;
 use proc_exec::{Declared, Outcome, Waiting};
 use proc_lang::End;
 use std::alloc::Global;
+use touch_numbers::{Touching, Written};
 
 /// The request numbers of a list.
 pub(crate) fn numbers_of(alloc: Global, list: &[Request]) -> Result<Vec<u64>, Memory>
@@ -49,38 +50,69 @@ fn note_if_it_waits(tids: &mut Vec<u32>, tid: u32, verdict: &Verdict) -> Result<
     }
 }
 
-/// What the requests of a batch come to on its start.
+/// The keys that these runs touched, where they lie.
+pub(crate) fn touched_by<'a>(
+    alloc: Global,
+    outcomes: &'a [Outcome],
+) -> Result<Vec<Touching<'a>>, Memory>
+    ensures { IfOk result (λ list. map sets_of list.items ≡ map sets_in outcomes.now) }
+{
+    let mut list = Vec::with_capacity(alloc, outcomes.len())?;
+    for outcome in outcomes {
+        list.push(Touching {
+            reads: outcome.reads.as_slice(),
+            writes: Written::Rows(outcome.writes.as_slice()),
+        })?;
+    }
+    Ok(list)
+}
+
+/// The runs of a batch, apart by what needs them.
 #[derive(Drop)]
 pub(crate) struct Runs {
-    /// The keys that each reads and writes.
-    pub sets: Vec<Sets>,
-    /// The rows that each writes.
+    /// The requests that wait, with the keys of their runs, in the order of the list.
+    pub waiting: Vec<Waiting>,
+    /// The rows that each run writes.
     pub changes: Vec<Changes>,
     /// How each ends.
     pub ends: Vec<End>,
 }
 
-/// Outcomes taken apart. The keys that are written are copied, since they number and mark while the
-/// rows wait to be installed; all else is moved.
-pub(crate) fn take_apart(alloc: Global, outcomes: Vec<Outcome>) -> Result<Runs, Memory>
-    ensures sets { IfOk result (λ runs. runs.sets.items ≡ map sets_in outcomes.items) }
+/// Takes the runs of a list apart. The keys of all that finish are dropped; those that a waiting one wrote are
+/// copied, since its rows go on to the install too.
+#[tactic(auto, using(crate::proofs::Settling::more_among, crate::proofs::Settling::none_left))]
+pub(crate) fn take_apart(
+    alloc: Global,
+    list: Vec<Request>,
+    outcomes: Vec<Outcome>,
+    verdicts: &[Verdict],
+) -> Result<Runs, Memory>
+    requires outcomes { length outcomes.items ≡ length list.items }
+    requires verdicts { length verdicts.now ≡ length list.items }
+    ensures waiting { IfOk result (λ runs. runs.waiting.items ≡ waiting_among list.items (map sets_in outcomes.items) verdicts.now) }
     ensures changes { IfOk result (λ runs. runs.changes.items ≡ map (λ o. o.writes) outcomes.items) }
     ensures ends { IfOk result (λ runs. runs.ends.items ≡ map (λ o. o.end) outcomes.items) }
 {
-    let mut sets = Vec::with_capacity(alloc, outcomes.len())?;
+    let mut waiting = Vec::new(alloc);
     let mut changes = Vec::with_capacity(alloc, outcomes.len())?;
     let mut ends = Vec::with_capacity(alloc, outcomes.len())?;
-    for outcome in outcomes {
+    let mut outcomes = outcomes.into_iter();
+    let mut rest = verdicts;
+    for request in list {
+        let Some(outcome) = outcomes.next() else {
+            break;
+        };
+        let Some((verdict, later)) = rest.split_first() else {
+            break;
+        };
+        rest = later;
         let Outcome { reads, writes, end } = outcome;
-        sets.push(Sets {
-            reads,
-            writes: copy_keys(alloc, &writes)?,
-        })?;
+        keep_if_it_waits(alloc, &mut waiting, request, reads, &writes, verdict)?;
         changes.push(writes)?;
         ends.push(end)?;
     }
     Ok(Runs {
-        sets,
+        waiting,
         changes,
         ends,
     })
@@ -98,44 +130,22 @@ fn copy_keys(alloc: Global, changes: &Changes) -> Result<Keys, Memory>
     Ok(Items::from_vec(keys))
 }
 
-/// The requests that wait, with the keys of their runs on the start, in the order of the list.
-pub(crate) fn waiting_of(
-    alloc: Global,
-    list: Vec<Request>,
-    sets: Vec<Sets>,
-    verdicts: &[Verdict],
-) -> Result<Vec<Waiting>, Memory>
-    ensures { IfOk result (λ waiting. waiting.items ≡ waiting_among list.items sets.items verdicts.now) }
-{
-    let mut waiting = Vec::new(alloc);
-    let mut sets = sets.into_iter();
-    let mut rest = verdicts;
-    for request in list {
-        let Some(touched) = sets.next() else {
-            return Ok(waiting);
-        };
-        let Some((verdict, later)) = rest.split_first() else {
-            return Ok(waiting);
-        };
-        rest = later;
-        keep_if_it_waits(&mut waiting, request, touched, verdict)?;
-    }
-    Ok(waiting)
-}
-
 /// Appends a request where it waits.
 fn keep_if_it_waits(
+    alloc: Global,
     waiting: &mut Vec<Waiting>,
     request: Request,
-    touched: Sets,
+    reads: Keys,
+    writes: &Changes,
     verdict: &Verdict,
 ) -> Result<(), Memory>
-    ensures { OnOk result (waiting.new.items ≡ waiting.old.items ++ waiting_among (request ∷ []) (touched ∷ []) (verdict.now ∷ [])) }
+    ensures { OnOk result (waiting.new.items ≡ waiting.old.items
+        ++ waiting_among (request ∷ []) (record { reads = reads; writes = keys_of writes.now } ∷ []) (verdict.now ∷ [])) }
 {
     match verdict {
         Verdict::Finish { raw: _ } => Ok(()),
         Verdict::Wait(_) => {
-            let Sets { reads, writes } = touched;
+            let writes = copy_keys(alloc, writes)?;
             waiting.push(Waiting {
                 request,
                 declared: Declared { reads, writes },

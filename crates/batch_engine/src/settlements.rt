@@ -1,15 +1,16 @@
 // A batch from its verdicts to its answer.
-ghost use Rattle.std.specs.Prelude.{◌≡◌, ◌≤◌, ◌<◌, length, IfOk};
+ghost use Rattle.std.specs.Prelude.{◌≡◌, ◌≤◌, ◌<◌, length, map, IfOk};
 ghost use Rattle.aria_base.specs.declared.limits.TheConstants.{MOST_PERCENT, MOST_REQUESTS, MOST_WORKERS};
 ghost use Rattle.proc_lang.specs.Catalogs.{run_of};
 ghost use Rattle.dep_rules.specs.Decisions.{reads_of, writes_of};
 ghost use Rattle.batch_engine.specs.Judgements.{IsJudged, IsSettled};
+ghost use Rattle.batch_engine.specs.Lists.{sets_in};
 ghost use Rattle.batch_engine.specs.Marks.{NumbersKeys};
 
 use crate::answers::{lines_of, order_of};
 use crate::judgements::Judgement;
 use crate::lates::{carry, run_late};
-use crate::lists::{numbers_of, tids_of, waiting_of};
+use crate::lists::{numbers_of, take_apart, tids_of};
 use aria_base::{Items, Memory, Pace, Request};
 use batch_core::{Order, Replies};
 use dep_rules::{Config, Numbered};
@@ -45,33 +46,36 @@ pub(crate) fn settle<P: Pace + Sync, R: Threads + Sync>(
     pace: &P,
 ) -> Result<Settled, Memory>
     requires list { length list.items ≤ MOST_REQUESTS }
-    requires ends { length judgement.ends.items ≡ length list.items }
+    requires outcomes { length judgement.outcomes.items ≡ length list.items }
     requires verdicts { length judgement.verdicts.items ≡ length list.items }
-    requires sets { length judgement.sets.items ≡ length list.items }
-    requires numbered { NumbersKeys reads_of writes_of judgement.sets.items numbered.now }
+    requires numbered { NumbersKeys reads_of writes_of (map sets_in judgement.outcomes.items) numbered.now }
     requires percent { config.now.fallback ≤ MOST_PERCENT }
     requires workers { (1 ≤ config.now.workers) × (config.now.workers ≤ MOST_WORKERS) }
     ensures { IfOk result (λ settled. IsJudged (run_of catalog.now) config.now.rule tables list.items judgement
         → IsSettled (run_of catalog.now) config.now.rule config.now.fallback tables list.items settled) }
 {
-    let Judgement {
-        sets,
-        changes,
-        ends,
-        verdicts,
-    } = judgement;
+    let Judgement { outcomes, verdicts } = judgement;
     let numbers = numbers_of(alloc, &list)?;
     let tids = tids_of(alloc, &verdicts)?;
     // the keys of all that finish are freed before the install takes the cache
-    let waiting = waiting_of(alloc, list, sets, &verdicts)?;
+    let runs = take_apart(alloc, list, outcomes, &verdicts)?;
     let size = verdicts.len();
     let workers = config.workers;
-    let installed = install_changes(rt, alloc, tables, changes, &verdicts, workers, pace)?;
+    let installed = install_changes(rt, alloc, tables, runs.changes, &verdicts, workers, pace)?;
     let (tables, lates) = run_late(
-        rt, alloc, catalog, installed, &waiting, numbered, &tids, size, config, pace,
+        rt,
+        alloc,
+        catalog,
+        installed,
+        &runs.waiting,
+        numbered,
+        &tids,
+        size,
+        config,
+        pace,
     )?;
-    let carried = carry(alloc, waiting, &lates)?;
-    let lines = lines_of(alloc, &numbers, ends, &verdicts, lates)?;
+    let carried = carry(alloc, runs.waiting, &lates)?;
+    let lines = lines_of(alloc, &numbers, runs.ends, &verdicts, lates)?;
     let order = order_of(alloc, &numbers, &verdicts, &lines)?;
     Ok(Settled {
         tables,

@@ -1,12 +1,15 @@
-use Rattle.std.proofs.Common.{◌≡◌, ◌++◌, map}
+use Rattle.std.proofs.Common.{◌≡◌, ◌++◌, map, length}
 use Rattle.std.specs.Vec.Iter.{into_iter_items}
-use Rattle.batch_engine.specs.Lists.{sets_in}
+use Rattle.batch_engine.specs.Lists.{sets_in, waiting_among}
 use Rattle.batch_engine.proofs.lists.take_apart.Given as goal
 
-abbrev pub invariant-loop-outcome : goal.invariant-loop-outcome
-invariant-loop-outcome l =
-    (goal.iterator-loop-outcome).can_next l.outcome-iterator ×
-    (goal.iterator-loop-outcome).is_finite l.outcome-iterator ×
-    (l.sets.items ++ map sets_in (into_iter_items l.outcome-iterator) ≡ map sets_in (into_iter_items l.initial.outcome-iterator)) ×
-    (l.changes.items ++ map (λ o. o.writes) (into_iter_items l.outcome-iterator) ≡ map (λ o. o.writes) (into_iter_items l.initial.outcome-iterator)) ×
-    (l.ends.items ++ map (λ o. o.end) (into_iter_items l.outcome-iterator) ≡ map (λ o. o.end) (into_iter_items l.initial.outcome-iterator))
+abbrev pub invariant-loop-request : goal.invariant-loop-request
+invariant-loop-request l =
+    (goal.iterator-loop-request).can_next l.request-iterator ×
+    (goal.iterator-loop-request).is_finite l.request-iterator ×
+    (length (into_iter_items l.outcomes) ≡ length (into_iter_items l.request-iterator)) ×
+    (length l.rest ≡ length (into_iter_items l.request-iterator)) ×
+    (l.waiting.items ++ waiting_among (into_iter_items l.request-iterator) (map sets_in (into_iter_items l.outcomes)) l.rest
+    ≡ waiting_among (into_iter_items l.initial.request-iterator) (map sets_in (into_iter_items l.initial.outcomes)) l.initial.rest) ×
+    (l.changes.items ++ map (λ o. o.writes) (into_iter_items l.outcomes) ≡ map (λ o. o.writes) (into_iter_items l.initial.outcomes)) ×
+    (l.ends.items ++ map (λ o. o.end) (into_iter_items l.outcomes) ≡ map (λ o. o.end) (into_iter_items l.initial.outcomes))

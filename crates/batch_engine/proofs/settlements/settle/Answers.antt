@@ -1,7 +1,9 @@
 use Rattle.std.proofs.Common.{rules, ◌≡◌, sym, ap, subst, ◌∙◌, length, map, arith}
 use Rattle.std.proofs.lemmas.List.{length-map}
+use Rattle.std.proofs.lemmas.Simd.{map-map}
 use Rattle.batch_core.specs.declared.answers.Line.{Line}
 use Rattle.proc_exec.specs.Lates.{fate_of}
+use Rattle.proc_exec.specs.Outcomes.{outcome_at}
 use Rattle.proc_lang.specs.Catalogs.{run_of}
 use Rattle.reorder.specs.Orders.{ordered_tids}
 use Rattle.batch_core.specs.Steps.{number_in}
@@ -11,7 +13,7 @@ use Rattle.batch_engine.proofs.Settling as settling
 use Rattle.std.specs.List.{All}
 use Rattle.dep_rules.specs.Sheets.{IsTid}
 use Rattle.fallback_locks.specs.Numbers.{StandFor}
-use Rattle.batch_engine.specs.Lists.{tids_among, waiting_among}
+use Rattle.batch_engine.specs.Lists.{sets_in, tids_among, waiting_among}
 use Rattle.batch_engine.proofs.Committing.{rows-are}
 use Rattle.batch_engine.proofs.LateNumbers.{stands, tids_are}
 use Rattle.batch_engine.proofs.settlements.settle.Goals as goal
@@ -19,15 +21,17 @@ use Rattle.batch_engine.proofs.settlements.settle.Goals as goal
 pub run_late-requires-clause-waiting : goal.run_late-requires-clause-waiting
 run_late-requires-clause-waiting g c κs within =
     let size : c.len-size.result ≡ length c.args.judgement.verdicts.items = search rules in
-    let few = few_among c.args.list.items c.args.judgement.sets.items c.deref-3.result.now in
-    omega (arith, ap length c.deref-5.ensures.value, ap length c.in_ok-waiting.ensures, few, ap length c.deref-3.ensures.value, size)
+    let few = few_among c.args.list.items (map sets_in c.args.judgement.outcomes.items) c.deref-3.result.now in
+    omega (arith, ap length c.deref-5.ensures.value, ap length c.in_ok-runs.ensures.waiting, few, ap length c.deref-3.ensures.value, size)
 
 pub order_of-requires-clause-each : goal.order_of-requires-clause-each
 order_of-requires-clause-each g c =
-    let even : length c.deref-9.result.now ≡ length c.args.judgement.ends.items = ap length c.deref-9.ensures.value ∙ c.requires.verdicts
-    ∙ sym c.requires.ends in
+    let ends = c.in_ok-runs.runs.ends.items in
+    let many : length ends ≡ length c.args.list.items = ap length c.in_ok-runs.ensures.ends ∙ length-map c.args.judgement.outcomes.items (λ o. o.end)
+    ∙ c.requires.outcomes in
+    let even : length c.deref-9.result.now ≡ length ends = ap length c.deref-9.ensures.value ∙ c.requires.verdicts ∙ sym many in
     ap length c.deref-12.ensures.value ∙ ap length c.in_ok-lines.ensures
-    ∙ length-lines c.deref-8.result.now c.args.judgement.ends.items c.deref-9.result.now (map fate_of c.in_ok-tables.lates.items) even
+    ∙ length-lines c.deref-8.result.now ends c.deref-9.result.now (map fate_of c.in_ok-tables.lates.items) even
     ∙ ap length (c.deref-9.ensures.value ∙ sym c.deref-11.ensures.value)
 
 pub returns : goal.returns
@@ -36,30 +40,33 @@ returns g c judged =
     let rule = c.args.config.now.rule in
     let percent = c.args.config.now.fallback in
     let list = c.args.list.items in
-    let ends = c.args.judgement.ends.items in
+    let outcomes = c.args.judgement.outcomes.items in
+    let ends = c.in_ok-runs.runs.ends.items in
     let verdicts = c.args.judgement.verdicts.items in
     let fates = map fate_of c.in_ok-tables.lates.items in
     let start = c.args.tables in
-    let waiting = c.in_ok-waiting.ensures
-    ∙ settling.waiting-is tree rule start percent list c.args.judgement.sets.items c.deref-3.result.now judged.sets (c.deref-3.ensures.value
-    ∙ judged.verdicts) in
+    let sets_are = ap (map sets_in) judged.outcomes ∙ map-map sets_in (outcome_at tree start) list in
+    let changes_are = c.in_ok-runs.ensures.changes ∙ ap (map (λ o. o.writes)) judged.outcomes ∙ map-map (λ o. o.writes) (outcome_at tree start) list in
+    let ends_are = c.in_ok-runs.ensures.ends ∙ ap (map (λ o. o.end)) judged.outcomes ∙ map-map (λ o. o.end) (outcome_at tree start) list in
+    let waiting = c.in_ok-runs.ensures.waiting
+    ∙ settling.waiting-is tree rule start percent list (map sets_in outcomes) c.deref-3.result.now sets_are (c.deref-3.ensures.value ∙ judged.verdicts) in
     let size : c.len-size.result ≡ length verdicts = search rules in
-    let rows = c.in_ok-installed.ensures ∙ rows-are tree rule start list c.args.judgement.changes.items _ judged.changes (c.deref-4.ensures.value ∙ judged.verdicts) in
+    let rows = c.in_ok-installed.ensures ∙ rows-are tree rule start list c.in_ok-runs.runs.changes.items _ changes_are (c.deref-4.ensures.value ∙ judged.verdicts) in
     let late = settling.late-is tree rule start percent list c.in_ok-installed.installed c.in_ok-tables.tables c.deref-5.result.now c.len-size.result fates
     rows (c.deref-5.ensures.value ∙ waiting) (size ∙ ap length judged.verdicts ∙ length-map _ (λ d. d.verdict)) c.in_ok-tables.ensures in
     let listed : c.deref.result.now ≡ list = c.deref.ensures.value in
     let numbers = c.in_ok-numbers.ensures ∙ ap (map (λ q. q.q)) listed in
     let lines : c.in_ok-lines.lines.items ≡ _ = c.in_ok-lines.ensures
     ∙ (λ i. lines_in ((c.deref-8.ensures.value ∙ numbers) i) ends (c.deref-9.ensures.value i) fates)
-    ∙ settling.lines-are tree rule start percent list ends verdicts fates judged.ends judged.verdicts late.1 in
+    ∙ settling.lines-are tree rule start percent list ends verdicts fates ends_are judged.verdicts late.1 in
     let order : c.in_ok-order.order.items ≡ _ = c.in_ok-order.ensures
     ∙ (λ i. map (number_in ((c.deref-10.ensures.value ∙ numbers) i))
     (ordered_tids ((c.deref-11.ensures.value ∙ judged.verdicts) i) (map (λ (line : Line). is_final line.reply) ((c.deref-12.ensures.value ∙ lines) i))))
     ∙ settling.order-is tree rule start percent list in
     record {
       rows = late.0;
-      carried = c.in_ok-carried.ensures ∙ ap (λ ls. still_waiting c.in_ok-waiting.waiting.items (map fate_of ls)) c.deref-7.ensures.value
-          ∙ settling.carried-is tree rule start percent list fates c.in_ok-waiting.waiting.items waiting late.1;
+      carried = c.in_ok-carried.ensures ∙ ap (λ ls. still_waiting c.in_ok-runs.runs.waiting.items (map fate_of ls)) c.deref-7.ensures.value
+          ∙ settling.carried-is tree rule start percent list fates c.in_ok-runs.runs.waiting.items waiting late.1;
       lines = c.from_vec.ensures ∙ lines;
       order = c.from_vec-2.ensures ∙ order;
     }
@@ -69,16 +76,17 @@ run_late-requires-clause-tids g c κs within =
     let tids : c.deref-6.result.now ≡ tids_among 1 c.args.judgement.verdicts.items = c.deref-6.ensures.value ∙ c.in_ok-tids.ensures
     ∙ ap (tids_among 1) c.deref-2.ensures.value in
     subst (All (λ tid. IsTid c.args.numbered.now tid)) (sym tids)
-    (tids_are c.args.numbered.now c.args.judgement.sets.items c.args.judgement.verdicts.items (c.requires.verdicts
-    ∙ sym c.requires.sets) c.requires.numbered)
+    (tids_are c.args.numbered.now (map sets_in c.args.judgement.outcomes.items) c.args.judgement.verdicts.items (c.requires.verdicts
+    ∙ sym (length-map c.args.judgement.outcomes.items sets_in ∙ c.requires.outcomes)) c.requires.numbered)
 
 pub run_late-requires-clause-numbered : goal.run_late-requires-clause-numbered
 run_late-requires-clause-numbered g c κs within =
     let tids : c.deref-6.result.now ≡ tids_among 1 c.args.judgement.verdicts.items = c.deref-6.ensures.value ∙ c.in_ok-tids.ensures
     ∙ ap (tids_among 1) c.deref-2.ensures.value in
-    let waiting : c.deref-5.result.now ≡ waiting_among c.args.list.items c.args.judgement.sets.items c.args.judgement.verdicts.items = c.deref-5.ensures.value
-    ∙ c.in_ok-waiting.ensures ∙ ap (waiting_among c.args.list.items c.args.judgement.sets.items) c.deref-3.ensures.value in
+    let sets = map sets_in c.args.judgement.outcomes.items in
+    let long = length-map c.args.judgement.outcomes.items sets_in ∙ c.requires.outcomes in
+    let waiting : c.deref-5.result.now ≡ waiting_among c.args.list.items sets c.args.judgement.verdicts.items = c.deref-5.ensures.value
+    ∙ c.in_ok-runs.ensures.waiting ∙ ap (waiting_among c.args.list.items sets) c.deref-3.ensures.value in
     subst (λ ts. StandFor c.args.numbered.now ts c.deref-5.result.now) (sym tids)
     (subst (StandFor c.args.numbered.now (tids_among 1 c.args.judgement.verdicts.items)) (sym waiting)
-    (stands c.args.numbered.now c.args.list.items c.args.judgement.sets.items c.args.judgement.verdicts.items c.requires.sets c.requires.verdicts
-    c.requires.numbered))
+    (stands c.args.numbered.now c.args.list.items sets c.args.judgement.verdicts.items long c.requires.verdicts c.requires.numbered))

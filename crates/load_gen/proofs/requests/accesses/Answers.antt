@@ -1,4 +1,4 @@
-use Rattle.std.proofs.Common.{subst, ap, sym, ◌∙◌, [], ◌∷◌, ◌++◌}
+use Rattle.std.proofs.Common.{◌≡◌, subst, ap, sym, ◌∙◌, [], ◌∷◌, ◌++◌, arith}
 use Rattle.load_gen.specs.Draws.{times, IsPast}
 use Rattle.load_gen.specs.Ycsb.{access}
 use Rattle.load_gen.proofs.Advances.{past-trans, advances-times, advances-access}
@@ -33,3 +33,15 @@ pub returns-clause-further : goal.returns-clause-further
 returns-clause-further c =
     let s = c.args.settings.now in
     subst (IsPast c.args.draws.now) (sym c.loop.invariant.1) (advances-times c.loop.counter (access s) (advances-access s) c.args.draws.now)
+
+pub returns-clause-accesses : goal.returns-clause-accesses
+returns-clause-accesses c =
+    let s = c.args.settings.now in
+    let done : c.loop.counter ≡ s.ops = omega (arith, c.loop-test.false, c.loop.auto.counter-end) in
+    c.from_vec.ensures ∙ c.loop.invariant.0 ∙ ap (λ n. (times n (access s) c.args.draws.now).0) done
+
+pub returns-clause-past : goal.returns-clause-past
+returns-clause-past c =
+    let s = c.args.settings.now in
+    let done : c.loop.counter ≡ s.ops = omega (arith, c.loop-test.false, c.loop.auto.counter-end) in
+    c.loop.invariant.1 ∙ ap (λ n. (times n (access s) c.args.draws.now).1) done

@@ -1,6 +1,6 @@
 use Rattle.std.proofs.Common.{rules, ◌≡◌, ap, subst, ◌∙◌, length}
 use Rattle.proc_lang.specs.Catalogs.{IsCatalog}
-use Rattle.batch_engine.proofs.Batching.{many-verdicts, many-sets, few-listed, done, ready-is, state-is, answer-is, serial-is, progress-is}
+use Rattle.batch_engine.proofs.Batching.{many-verdicts, many-outcomes, few-listed, done, ready-is, state-is, answer-is, serial-is, progress-is}
 use Rattle.batch_engine.proofs.engines.Engine.run_batch.Goals as goal
 
 pub judge-requires-clause-list : goal.judge-requires-clause-list
@@ -10,8 +10,8 @@ judge-requires-clause-list g c κs within =
 pub settle-requires-clause-verdicts : goal.settle-requires-clause-verdicts
 settle-requires-clause-verdicts g c κs within = many-verdicts _ _ _ _ _ c.in_ok-last.ensures.judged ∙ ap length c.deref.ensures.value
 
-pub settle-requires-clause-sets : goal.settle-requires-clause-sets
-settle-requires-clause-sets g c κs within = many-sets _ _ _ _ _ c.in_ok-last.ensures.judged ∙ ap length c.deref.ensures.value
+pub settle-requires-clause-outcomes : goal.settle-requires-clause-outcomes
+settle-requires-clause-outcomes g c κs within = many-outcomes _ _ _ _ _ c.in_ok-last.ensures.judged ∙ ap length c.deref.ensures.value
 
 pub invariant_of-engine : goal.invariant_of-engine
 invariant_of-engine g c =
