@@ -20,9 +20,11 @@
 //! Here no lock is taken: the waves say all that the locks would.
 //!
 //! Whoever has numbers of the declared keys calls [`waves_numbered`] and [`rerun_numbered`], which find the
-//! waves by them; [`waves`] and [`rerun`] find them by the keys.
+//! waves by them; [`waves`] and [`rerun`] find them by the keys. A single worker wants no waves:
+//! [`rerun_alone`] runs one request on the rows that those before it left.
 #![tactic(auto)]
 
+mod alone;
 mod dones;
 mod groups;
 mod lasts;
@@ -32,5 +34,6 @@ mod rounds;
 mod settlements;
 mod tables;
 
+pub use alone::rerun_alone;
 pub use levels::{waves, waves_numbered};
 pub use reruns::{rerun, rerun_numbered};

@@ -86,7 +86,7 @@ pub(crate) fn run_wave<P: Pace + Sync, R: Threads + Sync>(
 
 /// Runs the request that stands at this place of the list within the keys that it declared. One that
 /// moved writes nothing.
-fn run_again(
+pub(crate) fn run_again(
     alloc: Global,
     catalog: &Catalog,
     snapshot: Snapshot,
