@@ -1,5 +1,5 @@
 -- What the phases of a commit hand on is what the definition of a batch says of its list.
-use Rattle.std.proofs.Common.{◌≡◌, refl, sym, ap, ◌∙◌, ◌≤◌, List, [], ◌∷◌, map, length, Option, true, arith}
+use Rattle.std.proofs.Common.{◌≡◌, refl, sym, ap, ◌∙◌, ℕ, ◌+◌, ◌≤◌, List, [], ◌∷◌, map, length, Option, true, arith}
 use Rattle.std.specs.List.{All}
 use Rattle.std.proofs.lemmas.List.{length-map}
 use Rattle.std.proofs.lemmas.List.Elements.{All-nil, All-cons}
@@ -13,6 +13,7 @@ use Rattle.batch_rules.specs.Trees.{Tree}
 use Rattle.batch_rules.specs.Verdicts.{finishes}
 use Rattle.batch_rules.specs.declared.verdicts.Rule.{Rule}
 use Rattle.batch_rules.specs.declared.verdicts.Verdict.{Verdict}
+use Rattle.batch_rules.specs.declared.verdicts.Verdict.TheVariants.{Finish, Wait}
 use Rattle.batch_rules.proofs.Installs.{installed-map}
 use Rattle.batch_rules.proofs.Judges.{decided_each}
 use Rattle.batch_rules.proofs.Lists.{All-unmapped, filter-map}
@@ -26,7 +27,7 @@ use Rattle.proc_lang.specs.declared.ends.End.{End}
 use Rattle.proc_lang.specs.declared.limits.TheConstants.{MOST_ACCESSES}
 use Rattle.proc_sound.specs.Laws.{TouchesFew}
 use Rattle.batch_engine.specs.Judgements.{judged_from}
-use Rattle.batch_engine.specs.Lists.{sets_in}
+use Rattle.batch_engine.specs.Lists.{sets_in, counting}
 use Rattle.batch_engine.specs.Marks.{Marks, NumbersKeys, MarksSets}
 use Rattle.batch_engine.proofs.Settling.{decided-map}
 
@@ -59,6 +60,15 @@ module _ {S Z : Type 0} (reads writes : S → List Key) (of : Z → S) (list : L
   pub marks-through : (marks : Marks) → MarksSets reads writes (map of list) marks → MarksSets (λ z. reads (of z)) (λ z. writes (of z)) list marks
   marks-through marks h = record { numbered = numbers-through marks.numbered h.numbered; marked = h.marked; words = h.words }
 
+-- rows of those that wait are not installed
+finishing-counting : (tid : ℕ) (list : List (List (Key × Option Cells))) (verdicts : List Verdict)
+    → finishing (decided tid (counting list verdicts) verdicts) ≡ finishing (decided tid list verdicts)
+finishing-counting tid [] verdicts = refl
+finishing-counting tid (rows ∷ list) [] = refl
+finishing-counting tid (rows ∷ list) (Finish raw ∷ verdicts) = ap (λ ds. record { tid = tid; request = rows; verdict = Finish raw } ∷ ds)
+    (finishing-counting (tid + 1) list verdicts)
+finishing-counting tid (rows ∷ list) (Wait cause ∷ verdicts) = finishing-counting (tid + 1) list verdicts
+
 -- the rows with the writes of all that finish
 module _ (tree : Request → Tree Key Cells End) (rule : Rule) (start : Database) (list : List Request) where
   abbrev rows_of : Request → List (Key × Option Cells)
@@ -68,12 +78,13 @@ module _ (tree : Request → Tree Key Cells End) (rule : Rule) (start : Database
   ds = judged_from tree rule start list
 
   pub rows-are : (changes : List (List (Key × Option Cells))) (verdicts : List Verdict) → changes ≡ map rows_of list → verdicts ≡ map (λ d. d.verdict) ds
-      → after_changes 1 start changes verdicts ≡ after_commit (on_start is_done tree start) start ds
+      → after_changes 1 start (counting changes verdicts) verdicts ≡ after_commit (on_start is_done tree start) start ds
   rows-are changes verdicts c v =
       let on = touching (on_start is_done tree start) key_cmp in
       let all = (λ i. decided 1 (c i) (v i)) ∙ decided-map rows_of 1 list (map (λ d. d.verdict) ds)
       ∙ ap (map (judged_through rows_of)) (decided_each on rule list) in
       let kept = sym (filter-map (judged_through rows_of) (λ d. finishes d.verdict) (λ d. finishes d.verdict) ds (λ k d below. refl)) in
-      ap (λ l. installed (λ one. one.request) start (finishing l)) all
+      ap (installed (λ one. one.request) start) (finishing-counting 1 changes verdicts)
+      ∙ ap (λ l. installed (λ one. one.request) start (finishing l)) all
       ∙ ap (installed (λ one. one.request) start) kept
       ∙ installed-map (λ one. one.request) (judged_through rows_of) start (finishing ds)

@@ -1,5 +1,5 @@
 -- What is made of a batch's judged list, one list after the other, is what the definition of a batch says.
-use Rattle.std.proofs.Common.{◌≡◌, refl, sym, ap, subst, ◌∙◌, ℕ, zero, suc, ◌+◌, ◌-◌, ◌≤◌, List, [], ◌∷◌, ◌++◌, map, length, drop, true, false, if◌then◌else◌, Some, option_map, slice_index_or, arith, append_assoc}
+use Rattle.std.proofs.Common.{◌≡◌, refl, sym, ap, subst, ◌∙◌, ℕ, zero, suc, ◌+◌, ◌-◌, ◌≤◌, List, [], ◌∷◌, ◌++◌, map, length, drop, true, false, if◌then◌else◌, Option, Some, option_map, slice_index_or, arith, append_assoc}
 use Rattle.std.specs.List.{All, filter, slice_get}
 use Rattle.std.proofs.lemmas.List.{length-map}
 use Rattle.std.proofs.lemmas.List.Elements.{All-nil, All-cons}
@@ -29,7 +29,7 @@ use Rattle.reorder.proofs.Places.{ordered_names}
 use Rattle.dep_rules.specs.declared.sets.Sets.{Sets}
 use Rattle.batch_engine.specs.Answers.{by_end, line_in, lines_in, is_final, still_waiting}
 use Rattle.batch_engine.specs.Lates.{is_due, LateRun}
-use Rattle.batch_engine.specs.Lists.{sets_in, waiting_with, waiting_among}
+use Rattle.batch_engine.specs.Lists.{sets_in, waiting_with, waiting_among, counting}
 
 -- ---- lists of verdicts
 
@@ -51,6 +51,11 @@ pub more_among : (q : Request) (s : Sets) (v : Verdict) (list : List Request) (s
     → waiting_among (q ∷ []) (s ∷ []) (v ∷ []) ++ waiting_among list sets verdicts ≡ waiting_among (q ∷ list) (s ∷ sets) (v ∷ verdicts)
 more_among q s (Finish raw) list sets verdicts = refl
 more_among q s (Wait cause) list sets verdicts = refl
+
+pub more_counting : (rows : List (Key × Option Cells)) (v : Verdict) (list : List (List (Key × Option Cells))) (verdicts : List Verdict)
+    → counting (rows ∷ []) (v ∷ []) ++ counting list verdicts ≡ counting (rows ∷ list) (v ∷ verdicts)
+more_counting rows (Finish raw) list verdicts = refl
+more_counting rows (Wait cause) list verdicts = refl
 
 -- as many are decided as there are verdicts, and as many settled
 length-decided : {O : Type 0} (tid : ℕ) (list : List O) (verdicts : List Verdict) → length verdicts ≡ length list

@@ -1,5 +1,7 @@
 -- The requests of a batch, apart by what the commit phase decided of them.
-use Rattle.std.specs.Prelude.{ℕ, ◌+◌, List, [], ◌∷◌}
+use Rattle.std.specs.Prelude.{ℕ, ◌+◌, List, [], ◌∷◌, Option}
+use Rattle.aria_base.specs.Orders.{Cells}
+use Rattle.aria_base.specs.declared.keys.Key.{Key}
 use Rattle.aria_base.specs.declared.calls.Request.{Request}
 use Rattle.batch_rules.specs.declared.verdicts.Verdict.{Verdict}
 use Rattle.batch_rules.specs.declared.verdicts.Verdict.TheVariants.{Finish, Wait}
@@ -27,3 +29,9 @@ abbrev pub tids_among : ℕ → List Verdict → List ℕ
 tids_among tid [] = []
 tids_among tid (Finish raw ∷ verdicts) = tids_among (tid + 1) verdicts
 tids_among tid (Wait cause ∷ verdicts) = tid ∷ tids_among (tid + 1) verdicts
+
+-- the rows that each writes that finishes; one that waits writes none yet
+abbrev pub counting : List (List (Key × Option Cells)) → List Verdict → List (List (Key × Option Cells))
+counting (rows ∷ more) (Finish raw ∷ verdicts) = rows ∷ counting more verdicts
+counting (rows ∷ more) (Wait cause ∷ verdicts) = [] ∷ counting more verdicts
+counting more verdicts = []

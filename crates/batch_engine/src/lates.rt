@@ -1,5 +1,6 @@
 // The late run at the end of a batch, where enough requests wait.
 ghost use Rattle.std.specs.Prelude.{◌≡◌, ◌≤◌, length, map, drop, All, IfOk};
+ghost use Rattle.batch_rules.specs.Batches.{has_ended};
 ghost use Rattle.aria_base.specs.declared.limits.TheConstants.{MOST_PERCENT, MOST_REQUESTS, MOST_WORKERS};
 ghost use Rattle.proc_lang.specs.Catalogs.{run_of};
 ghost use Rattle.proc_exec.specs.Lates.{IsLateFold, fate_of};
@@ -8,9 +9,9 @@ ghost use Rattle.fallback_locks.specs.Numbers.{StandFor};
 ghost use Rattle.batch_engine.specs.Answers.{still_waiting, first_ended};
 ghost use Rattle.batch_engine.specs.Lates.{is_due, LateRun};
 
-use aria_base::{Memory, Pace, Request};
+use aria_base::{Memory, Pace, Place, Request};
 use dep_rules::{Config, Numbered};
-use fallback_locks::rerun_numbered;
+use fallback_locks::{rerun_alone, rerun_numbered};
 use proc_exec::{Late, Waiting};
 use proc_lang::Catalog;
 use row_batons::rerun_batons_numbered;
@@ -28,37 +29,103 @@ fn is_due(percent: u32, waiting: usize, size: usize) -> bool
     0 < waiting && percent as usize * size <= waiting * 100
 }
 
-/// The rows after the late run, and what became of each request that waits; where it is not due, the
-/// rows as they are and nothing.
+/// What a late run comes to.
+#[derive(Drop)]
+pub(crate) struct AfterLate {
+    /// The rows that it leaves.
+    pub tables: Tables,
+    /// What became of each request that waited; nothing where no late run was due.
+    pub lates: Vec<Late>,
+    /// The requests that wait for the next batch.
+    pub carried: Vec<Request>,
+}
+
+/// Runs again what waits, where that is due. Where it is not, the rows stay as they are, and all go on waiting.
 pub(crate) fn run_late<P: Pace + Sync, R: Threads + Sync>(
     rt: &R,
     alloc: Global,
     catalog: &Catalog,
     tables: Tables,
-    waiting: &[Waiting],
+    waiting: Vec<Waiting>,
     numbered: &Numbered,
     tids: &[u32],
     size: usize,
     config: &Config,
     pace: &P,
-) -> Result<(Tables, Vec<Late>), Memory>
-    requires waiting { length waiting.now ≤ size }
+) -> Result<AfterLate, Memory>
+    requires waiting { length waiting.items ≤ size }
     requires tids { All (λ tid. IsTid numbered.now tid) tids.now }
-    requires numbered { StandFor numbered.now tids.now waiting.now }
+    requires numbered { StandFor numbered.now tids.now waiting.items }
     requires size { size ≤ MOST_REQUESTS }
     requires percent { config.now.fallback ≤ MOST_PERCENT }
     requires workers { (1 ≤ config.now.workers) × (config.now.workers ≤ MOST_WORKERS) }
-    ensures { IfOk result (λ r. LateRun (run_of catalog.now) (is_due config.now.fallback (length waiting.now) size) tables waiting.now r.0 (map fate_of r.1.items)) }
+    ensures late { IfOk result (λ after. LateRun (run_of catalog.now) (is_due config.now.fallback (length waiting.items) size) tables waiting.items after.tables (map fate_of after.lates.items)) }
+    ensures carried { IfOk result (λ after. after.carried.items ≡ still_waiting waiting.items (map fate_of after.lates.items)) }
 {
     if !is_due(config.fallback, waiting.len(), size) {
-        return Ok((tables, Vec::new(alloc)));
+        let lates = Vec::new(alloc);
+        let carried = carry(alloc, waiting, &lates)?;
+        return Ok(AfterLate {
+            tables,
+            lates,
+            carried,
+        });
     }
-    rerun_all(
-        rt, alloc, catalog, tables, waiting, numbered, tids, config, pace,
-    )
+    if config.workers == 1 {
+        return rerun_in_turn(alloc, catalog, tables, waiting, pace);
+    }
+    let (tables, lates) = rerun_all(
+        rt, alloc, catalog, tables, &waiting, numbered, tids, config, pace,
+    )?;
+    let carried = carry(alloc, waiting, &lates)?;
+    Ok(AfterLate {
+        tables,
+        lates,
+        carried,
+    })
 }
 
-/// Runs all that wait again, in the way that the settings say.
+/// Runs all that wait again on the caller, one after the other. The keys of each are dropped behind its run, while
+/// they are still in the cache.
+fn rerun_in_turn<P: Pace>(
+    alloc: Global,
+    catalog: &Catalog,
+    tables: Tables,
+    waiting: Vec<Waiting>,
+    pace: &P,
+) -> Result<AfterLate, Memory>
+    ensures fold { IfOk result (λ after. IsLateFold (run_of catalog.now) tables waiting.items after.lates.items after.tables) }
+    ensures carried { IfOk result (λ after. after.carried.items ≡ still_waiting waiting.items (map fate_of after.lates.items)) }
+{
+    let mut tables = tables;
+    let mut lates = Vec::with_capacity(alloc, waiting.len())?;
+    let mut carried = Vec::new(alloc);
+    for one in waiting {
+        pace.at(0, Place::Rerun);
+        let late = rerun_alone(alloc, catalog, &mut tables, &one)?;
+        if !has_ended(&late) {
+            carried.push(one.request)?;
+        }
+        lates.push(late)?;
+    }
+    Ok(AfterLate {
+        tables,
+        lates,
+        carried,
+    })
+}
+
+/// Whether a request that ran again has ended.
+fn has_ended(late: &Late) -> bool
+    ensures { result ≡ has_ended (fate_of late.now) }
+{
+    match late {
+        Late::Finished(_) => true,
+        Late::Moved(_) => false,
+    }
+}
+
+/// Runs all that wait again by several workers, in the way that the settings say.
 fn rerun_all<P: Pace + Sync, R: Threads + Sync>(
     rt: &R,
     alloc: Global,
@@ -88,11 +155,7 @@ fn rerun_all<P: Pace + Sync, R: Threads + Sync>(
 }
 
 /// Of the requests that wait, those that still do after these results, for the next batch's list.
-pub(crate) fn carry(
-    alloc: Global,
-    waiting: Vec<Waiting>,
-    lates: &[Late],
-) -> Result<Vec<Request>, Memory>
+fn carry(alloc: Global, waiting: Vec<Waiting>, lates: &[Late]) -> Result<Vec<Request>, Memory>
     ensures { IfOk result (λ carried. carried.items ≡ still_waiting waiting.items (map fate_of lates.now)) }
 {
     let mut carried = Vec::with_capacity(alloc, waiting.len())?;
@@ -113,8 +176,7 @@ fn first_of(lates: &[Late]) -> (bool, &[Late])
     ensures rest { map fate_of result.1.now ≡ drop 1 (map fate_of lates.now) }
 {
     match lates.split_first() {
-        Some((Late::Finished(_), rest)) => (true, rest),
-        Some((Late::Moved(_), rest)) => (false, rest),
+        Some((late, rest)) => (has_ended(late), rest),
         None => (false, lates),
     }
 }

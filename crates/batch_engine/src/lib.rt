@@ -9,11 +9,11 @@
 //!      │ number
 //!      v
 //!    list ──execute_all──> keys read and written, rows, ends
-//!                │ number_by, reserve
+//!                │ number_touches, reserve
 //!                v
 //!           Marked ──decide──> verdicts ──install──> rows
 //!                                 │ who waits          │
-//!                                 └──────rerun─────────┤
+//!                                 └───run_late─────────┤
 //!                                                      v
 //!                                       Answer, carried requests, rows
 //! ```

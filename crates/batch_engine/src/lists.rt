@@ -2,10 +2,10 @@
 ghost use Rattle.std.specs.Prelude.{◌≡◌, ◌≤◌, ◌++◌, ◌∷◌, [], length, map, IfOk, OnOk};
 ghost use Rattle.aria_base.specs.declared.limits.TheConstants.{MOST_REQUESTS};
 ghost use Rattle.batch_rules.specs.Touches.{keys_of};
-ghost use Rattle.batch_engine.specs.Lists.{sets_in, tids_among, waiting_among};
+ghost use Rattle.batch_engine.specs.Lists.{sets_in, tids_among, waiting_among, counting};
 ghost use Rattle.touch_numbers.specs.Touchings.{sets_of};
 
-use aria_base::{Changes, Duplicate, Items, Keys, Memory, Request};
+use aria_base::{Changes, Items, Keys, Memory, Request};
 use batch_rules::verdicts::Verdict;
 use proc_exec::{Declared, Outcome, Waiting};
 use proc_lang::End;
@@ -72,15 +72,15 @@ pub(crate) fn touched_by<'a>(
 pub(crate) struct Runs {
     /// The requests that wait, with the keys of their runs, in the order of the list.
     pub waiting: Vec<Waiting>,
-    /// The rows that each run writes.
+    /// The rows that each run writes that finishes; of one that waits there are none.
     pub changes: Vec<Changes>,
     /// How each ends.
     pub ends: Vec<End>,
 }
 
-/// Takes the runs of a list apart. The keys of all that finish are dropped; those that a waiting one wrote are
-/// copied, since its rows go on to the install too.
-#[tactic(auto, using(crate::proofs::Settling::more_among, crate::proofs::Settling::none_left))]
+/// Takes the runs of a list apart. The keys that those read that finish are dropped, and so are the rows that those
+/// wrote that wait.
+#[tactic(auto, using(crate::proofs::Settling::more_among, crate::proofs::Settling::more_counting, crate::proofs::Settling::none_left))]
 pub(crate) fn take_apart(
     alloc: Global,
     list: Vec<Request>,
@@ -90,7 +90,7 @@ pub(crate) fn take_apart(
     requires outcomes { length outcomes.items ≡ length list.items }
     requires verdicts { length verdicts.now ≡ length list.items }
     ensures waiting { IfOk result (λ runs. runs.waiting.items ≡ waiting_among list.items (map sets_in outcomes.items) verdicts.now) }
-    ensures changes { IfOk result (λ runs. runs.changes.items ≡ map (λ o. o.writes) outcomes.items) }
+    ensures changes { IfOk result (λ runs. runs.changes.items ≡ counting (map (λ o. o.writes) outcomes.items) verdicts.now) }
     ensures ends { IfOk result (λ runs. runs.ends.items ≡ map (λ o. o.end) outcomes.items) }
 {
     let mut waiting = Vec::new(alloc);
@@ -107,8 +107,7 @@ pub(crate) fn take_apart(
         };
         rest = later;
         let Outcome { reads, writes, end } = outcome;
-        keep_if_it_waits(alloc, &mut waiting, request, reads, &writes, verdict)?;
-        changes.push(writes)?;
+        changes.push(keep_if_it_waits(alloc, &mut waiting, request, reads, writes, verdict)?)?;
         ends.push(end)?;
     }
     Ok(Runs {
@@ -118,39 +117,40 @@ pub(crate) fn take_apart(
     })
 }
 
-/// The keys of these changes.
-fn copy_keys(alloc: Global, changes: &Changes) -> Result<Keys, Memory>
-    ensures { IfOk result (λ keys. keys ≡ keys_of changes.now) }
+/// The keys of these changes, whose rows are dropped.
+fn keys_in(alloc: Global, changes: Changes) -> Result<Keys, Memory>
+    ensures { IfOk result (λ keys. keys ≡ keys_of changes) }
 {
-    let changes = changes.as_slice();
+    let changes = changes.into_vec();
     let mut keys = Vec::with_capacity(alloc, changes.len())?;
     for change in changes {
-        keys.push(change.0.duplicate(alloc)?)?;
+        keys.push(change.0)?;
     }
     Ok(Items::from_vec(keys))
 }
 
-/// Appends a request where it waits.
+/// Appends a request where it waits. Where it finishes, its rows are given back.
 fn keep_if_it_waits(
     alloc: Global,
     waiting: &mut Vec<Waiting>,
     request: Request,
     reads: Keys,
-    writes: &Changes,
+    writes: Changes,
     verdict: &Verdict,
-) -> Result<(), Memory>
-    ensures { OnOk result (waiting.new.items ≡ waiting.old.items
-        ++ waiting_among (request ∷ []) (record { reads = reads; writes = keys_of writes.now } ∷ []) (verdict.now ∷ [])) }
+) -> Result<Changes, Memory>
+    ensures waiting { OnOk result (waiting.new.items ≡ waiting.old.items
+        ++ waiting_among (request ∷ []) (record { reads = reads; writes = keys_of writes } ∷ []) (verdict.now ∷ [])) }
+    ensures changes { IfOk result (λ changes. changes ∷ [] ≡ counting (writes ∷ []) (verdict.now ∷ [])) }
 {
     match verdict {
-        Verdict::Finish { raw: _ } => Ok(()),
+        Verdict::Finish { raw: _ } => Ok(writes),
         Verdict::Wait(_) => {
-            let writes = copy_keys(alloc, writes)?;
+            let writes = keys_in(alloc, writes)?;
             waiting.push(Waiting {
                 request,
                 declared: Declared { reads, writes },
             })?;
-            Ok(())
+            Ok(Items::from_vec(Vec::new(alloc)))
         }
     }
 }

@@ -9,7 +9,7 @@ ghost use Rattle.batch_engine.specs.Marks.{NumbersKeys};
 
 use crate::answers::{lines_of, order_of};
 use crate::judgements::Judgement;
-use crate::lates::{carry, run_late};
+use crate::lates::run_late;
 use crate::lists::{numbers_of, take_apart, tids_of};
 use aria_base::{Items, Memory, Pace, Request};
 use batch_core::{Order, Replies};
@@ -62,24 +62,23 @@ pub(crate) fn settle<P: Pace + Sync, R: Threads + Sync>(
     let size = verdicts.len();
     let workers = config.workers;
     let installed = install_changes(rt, alloc, tables, runs.changes, &verdicts, workers, pace)?;
-    let (tables, lates) = run_late(
+    let after = run_late(
         rt,
         alloc,
         catalog,
         installed,
-        &runs.waiting,
+        runs.waiting,
         numbered,
         &tids,
         size,
         config,
         pace,
     )?;
-    let carried = carry(alloc, runs.waiting, &lates)?;
-    let lines = lines_of(alloc, &numbers, runs.ends, &verdicts, lates)?;
+    let lines = lines_of(alloc, &numbers, runs.ends, &verdicts, after.lates)?;
     let order = order_of(alloc, &numbers, &verdicts, &lines)?;
     Ok(Settled {
-        tables,
-        carried,
+        tables: after.tables,
+        carried: after.carried,
         lines: Items::from_vec(lines),
         order: Items::from_vec(order),
     })
