@@ -205,7 +205,7 @@ impl<T: Hash, const LOW: usize, const HIGH: usize> Hash for Few<T, LOW, HIGH> {
 }
 
 /// Equal items, in their order.
-fn duplicate_all<T: Duplicate>(alloc: Global, items: &[T]) -> Result<Vec<T>, Memory>
+pub(crate) fn duplicate_all<T: Duplicate>(alloc: Global, items: &[T]) -> Result<Vec<T>, Memory>
     ensures { IfOk result (λ copies. copies.items ≡ items.now) }
 {
     let mut copies = Vec::with_capacity(alloc, items.len())?;

@@ -1,6 +1,6 @@
-// The parts of a key. They lie in the key itself, by their number, so that a comparison of keys follows
+// The parts of a key. One or two lie in the key itself, so that most keys are short, and a comparison of them follows
 // no pointer but that of a text.
-ghost use Rattle.std.specs.Prelude.{◌≡◌, ◌≤◌, ◌∷◌, [], length};
+ghost use Rattle.std.specs.Prelude.{◌≡◌, ◌≤◌, ◌∷◌, [], length, IfOk};
 ghost use Rattle.std.specs.Cmp.Lexicographic.{lists_equiv, lists_agrees, lists_total, lists_ties, lists_per, lists_po};
 ghost use Rattle.std.specs.Hash.{items_Alike};
 ghost use Rattle.aria_base.specs.contracts.keys.PartPartialEq.TheImpl.Laws as eq_laws;
@@ -12,7 +12,7 @@ ghost use Rattle.aria_base.specs.declared.limits.TheConstants.{FEWEST_PARTS, MOS
 
 use crate::copies::Duplicate;
 use crate::keys::Part;
-use crate::lists::Items;
+use crate::lists::{Items, duplicate_all};
 use crate::memory::Memory;
 use std::alloc::Global;
 use std::cmp::Ordering;
@@ -25,14 +25,12 @@ pub struct Parts {
     held: Held,
 }
 
-/// The parts where they lie.
+/// The parts where they lie. With room for five in place a key had twice as many bytes, and runs took a tenth longer.
 #[derive(Debug, Drop)]
 enum Held {
     One([Part; 1]),
     Two([Part; 2]),
-    Three([Part; 3]),
-    Four([Part; 4]),
-    Five([Part; 5]),
+    More(Vec<Part>),
 }
 
 impl Model for Parts {
@@ -66,56 +64,59 @@ impl Parts {
         }
     }
 
-    /// The three parts.
-    pub fn three(a: Part, b: Part, c: Part) -> Parts
-        ensures { result ≡ a ∷ b ∷ c ∷ [] }
+    /// The three parts. An error: there was no memory.
+    pub fn three(alloc: Global, a: Part, b: Part, c: Part) -> Result<Parts, Memory>
+        ensures { IfOk result (λ parts. parts ≡ a ∷ b ∷ c ∷ []) }
     {
-        Parts {
-            held: Held::Three([a, b, c]),
-        }
+        Ok(Parts::from_vec(vec![in alloc; a, b, c]?))
     }
 
-    /// The four parts.
-    pub fn four(a: Part, b: Part, c: Part, d: Part) -> Parts
-        ensures { result ≡ a ∷ b ∷ c ∷ d ∷ [] }
+    /// The four parts. An error: there was no memory.
+    pub fn four(alloc: Global, a: Part, b: Part, c: Part, d: Part) -> Result<Parts, Memory>
+        ensures { IfOk result (λ parts. parts ≡ a ∷ b ∷ c ∷ d ∷ []) }
     {
-        Parts {
-            held: Held::Four([a, b, c, d]),
-        }
+        Ok(Parts::from_vec(vec![in alloc; a, b, c, d]?))
     }
 
-    /// The five parts.
-    pub fn five(a: Part, b: Part, c: Part, d: Part, e: Part) -> Parts
-        ensures { result ≡ a ∷ b ∷ c ∷ d ∷ e ∷ [] }
+    /// The five parts. An error: there was no memory.
+    pub fn five(alloc: Global, a: Part, b: Part, c: Part, d: Part, e: Part) -> Result<Parts, Memory>
+        ensures { IfOk result (λ parts. parts ≡ a ∷ b ∷ c ∷ d ∷ e ∷ []) }
     {
-        Parts {
-            held: Held::Five([a, b, c, d, e]),
-        }
+        Ok(Parts::from_vec(vec![in alloc; a, b, c, d, e]?))
     }
 
-    /// The list of these parts, of which there are one to five.
+    /// The list of these parts, of which there are one to five. No memory.
     pub fn from_vec(items: Vec<Part>) -> Self
         requires low { FEWEST_PARTS ≤ length items.items }
         requires high { length items.items ≤ MOST_PARTS }
         ensures { result ≡ items.items }
     {
+        if items.len() > 2 {
+            return Parts {
+                held: Held::More(items),
+            };
+        }
         let mut rest = items.into_iter();
         let Some(a) = rest.next() else {
             unreachable!();
         };
-        let Some(b) = rest.next() else {
-            return Parts::one(a);
-        };
-        let Some(c) = rest.next() else {
-            return Parts::two(a, b);
-        };
-        let Some(d) = rest.next() else {
-            return Parts::three(a, b, c);
-        };
-        let Some(e) = rest.next() else {
-            return Parts::four(a, b, c, d);
-        };
-        Parts::five(a, b, c, d, e)
+        match rest.next() {
+            Some(b) => Parts::two(a, b),
+            None => Parts::one(a),
+        }
+    }
+
+    /// Equal parts, of which there are one to five. An error: there was no memory.
+    pub fn copy_of(alloc: Global, parts: &[Part]) -> Result<Parts, Memory>
+        requires low { FEWEST_PARTS ≤ length parts.now }
+        requires high { length parts.now ≤ MOST_PARTS }
+        ensures { IfOk result (λ copy. copy ≡ parts.now) }
+    {
+        match parts {
+            [a] => Ok(Parts::one(a.duplicate(alloc)?)),
+            [a, b] => Ok(Parts::two(a.duplicate(alloc)?, b.duplicate(alloc)?)),
+            more => Ok(Parts::from_vec(duplicate_all(alloc, more)?)),
+        }
     }
 
     /// The parts, in their order.
@@ -127,38 +128,14 @@ impl Parts {
         match &self.held {
             Held::One(parts) => parts.as_slice(),
             Held::Two(parts) => parts.as_slice(),
-            Held::Three(parts) => parts.as_slice(),
-            Held::Four(parts) => parts.as_slice(),
-            Held::Five(parts) => parts.as_slice(),
+            Held::More(parts) => parts.as_slice(),
         }
     }
 }
 
 impl Duplicate for Parts {
     fn duplicate(&self, alloc: Global) -> Result<Self, Memory> {
-        match self.as_slice() {
-            [a] => Ok(Parts::one(a.duplicate(alloc)?)),
-            [a, b] => Ok(Parts::two(a.duplicate(alloc)?, b.duplicate(alloc)?)),
-            [a, b, c] => Ok(Parts::three(
-                a.duplicate(alloc)?,
-                b.duplicate(alloc)?,
-                c.duplicate(alloc)?,
-            )),
-            [a, b, c, d] => Ok(Parts::four(
-                a.duplicate(alloc)?,
-                b.duplicate(alloc)?,
-                c.duplicate(alloc)?,
-                d.duplicate(alloc)?,
-            )),
-            [a, b, c, d, e] => Ok(Parts::five(
-                a.duplicate(alloc)?,
-                b.duplicate(alloc)?,
-                c.duplicate(alloc)?,
-                d.duplicate(alloc)?,
-                e.duplicate(alloc)?,
-            )),
-            _ => unreachable!(),
-        }
+        Parts::copy_of(alloc, self.as_slice())
     }
 }
 

@@ -89,23 +89,26 @@ impl Running {
                 part(scope, &self.registers, b)?,
             )),
             [a, b, c] => Ok(Parts::three(
+                scope.alloc,
                 part(scope, &self.registers, a)?,
                 part(scope, &self.registers, b)?,
                 part(scope, &self.registers, c)?,
-            )),
+            )?),
             [a, b, c, d] => Ok(Parts::four(
+                scope.alloc,
                 part(scope, &self.registers, a)?,
                 part(scope, &self.registers, b)?,
                 part(scope, &self.registers, c)?,
                 part(scope, &self.registers, d)?,
-            )),
+            )?),
             [a, b, c, d, e] => Ok(Parts::five(
+                scope.alloc,
                 part(scope, &self.registers, a)?,
                 part(scope, &self.registers, b)?,
                 part(scope, &self.registers, c)?,
                 part(scope, &self.registers, d)?,
                 part(scope, &self.registers, e)?,
-            )),
+            )?),
             // no key: all are evaluated, since one may trap, and the single 0 stands for the parts
             _ => {
                 eval_all(scope, &self.registers, exprs)?;

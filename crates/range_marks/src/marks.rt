@@ -6,7 +6,7 @@ ghost use Rattle.range_marks.specs.Marks.{front_count, front_of, fronts_below, m
 ghost use Rattle.range_runs.specs.Indexes.{with_keys};
 ghost use Rattle.range_runs.specs.Marks.{mark_of};
 
-use aria_base::{Duplicate, Key, MOST_PARTS, Memory, Parts, Row};
+use aria_base::{Key, MOST_PARTS, Memory, Parts, Row};
 use range_rules::{Prefix, Ran};
 use range_runs::{Index, mark_of, whole_table};
 use std::alloc::Global;
@@ -78,14 +78,10 @@ fn front(alloc: Global, key: &Key, count: usize) -> Result<Key, Memory>
     ensures { IfOk result (λ front. front ≡ front_of key.now count) }
 {
     if count == 0 {
-        return Ok(whole_table(key.table));
-    }
-    let mut parts = Vec::with_capacity(alloc, count)?;
-    for part in &key.parts.as_slice()[..count] {
-        parts.push(part.duplicate(alloc)?)?;
+        return whole_table(alloc, key.table);
     }
     Ok(Key {
         table: key.table,
-        parts: Parts::from_vec(parts),
+        parts: Parts::copy_of(alloc, &key.parts.as_slice()[..count])?,
     })
 }

@@ -1,33 +1,40 @@
 // The first parts of a key.
 ghost use Rattle.std.specs.Prelude.{◌≡◌, ◌<◌, ◌∷◌, [], length};
-ghost use Rattle.std.specs.Option.{option_copied};
 ghost use Rattle.std.specs.Cmp.Lexicographic.{lists_equiv, lists_per};
 ghost use Rattle.aria_base.specs.contracts.keys.PartPartialEq.TheImpl.Laws as eq_laws;
 ghost use Rattle.aria_base.specs.contracts.keys.PartEq.TheImpl.Laws as equiv_laws;
 ghost use Rattle.aria_base.specs.declared.limits.TheConstants.{MOST_PARTS};
-ghost use Rattle.range_rules.specs.Fronts.{AreParts};
 
-use aria_base::{Duplicate, Items, Memory, Part, Parts};
+use aria_base::{Duplicate, Items, Memory, Part};
 use std::alloc::Global;
 use std::marker::Model;
 
 /// The first parts of a key, from the left: none to four, since a key may have one more. A contract sees the list of them.
 #[derive(Debug, Drop)]
 pub struct Front {
-    held: Option<Parts>,
+    held: Held,
+}
+
+/// The parts where they lie.
+#[derive(Debug, Drop)]
+enum Held {
+    None,
+    One([Part; 1]),
+    Two([Part; 2]),
+    Three([Part; 3]),
+    Four([Part; 4]),
 }
 
 impl Model for Front {
-    ghost use Rattle.std.specs.Prelude.{◌<◌, List, length};
+    ghost use Rattle.std.specs.Prelude.{List};
     ghost use Rattle.aria_base.specs.declared.keys.Part.{Part as Plain};
-    ghost use Rattle.aria_base.specs.declared.limits.TheConstants.{MOST_PARTS};
-    ghost use Rattle.range_rules.specs.Fronts.{parts_in};
+    ghost use Rattle.range_rules.specs.Fronts.{held_parts, IsHeld};
 
     ghost Value = { List Plain };
 
-    ghost view = { λ a. parts_in a.held };
+    ghost view = { λ a. held_parts a.held };
 
-    ghost invariant = { λ a. length (parts_in a.held) < MOST_PARTS };
+    ghost invariant = { λ a. IsHeld a.held };
 }
 
 impl Front {
@@ -35,7 +42,7 @@ impl Front {
     pub fn none() -> Front
         ensures { result ≡ [] }
     {
-        Front { held: None }
+        Front { held: Held::None }
     }
 
     /// The single part.
@@ -43,7 +50,7 @@ impl Front {
         ensures { result ≡ a ∷ [] }
     {
         Front {
-            held: Some(Parts::one(a)),
+            held: Held::One([a]),
         }
     }
 
@@ -52,7 +59,7 @@ impl Front {
         ensures { result ≡ a ∷ b ∷ [] }
     {
         Front {
-            held: Some(Parts::two(a, b)),
+            held: Held::Two([a, b]),
         }
     }
 
@@ -61,7 +68,7 @@ impl Front {
         ensures { result ≡ a ∷ b ∷ c ∷ [] }
     {
         Front {
-            held: Some(Parts::three(a, b, c)),
+            held: Held::Three([a, b, c]),
         }
     }
 
@@ -70,7 +77,7 @@ impl Front {
         ensures { result ≡ a ∷ b ∷ c ∷ d ∷ [] }
     {
         Front {
-            held: Some(Parts::four(a, b, c, d)),
+            held: Held::Four([a, b, c, d]),
         }
     }
 
@@ -80,32 +87,33 @@ impl Front {
         ensures few { length self.now < MOST_PARTS }
     {
         match &self.held {
-            None => &[],
-            Some(parts) => parts.as_slice(),
-        }
-    }
-
-    /// The parts as those of a key, if there are any.
-    pub fn as_parts(&self) -> Option<&Parts>
-        ensures { AreParts (option_copied result) self.now }
-    {
-        match &self.held {
-            None => None,
-            Some(parts) => {
-                let _some = parts.as_slice();
-                Some(parts)
-            }
+            Held::None => &[],
+            Held::One(parts) => parts.as_slice(),
+            Held::Two(parts) => parts.as_slice(),
+            Held::Three(parts) => parts.as_slice(),
+            Held::Four(parts) => parts.as_slice(),
         }
     }
 }
 
 impl Duplicate for Front {
     fn duplicate(&self, alloc: Global) -> Result<Self, Memory> {
-        match &self.held {
-            None => Ok(Front { held: None }),
-            Some(parts) => Ok(Front {
-                held: Some(parts.duplicate(alloc)?),
-            }),
+        match self.as_slice() {
+            [] => Ok(Front::none()),
+            [a] => Ok(Front::one(a.duplicate(alloc)?)),
+            [a, b] => Ok(Front::two(a.duplicate(alloc)?, b.duplicate(alloc)?)),
+            [a, b, c] => Ok(Front::three(
+                a.duplicate(alloc)?,
+                b.duplicate(alloc)?,
+                c.duplicate(alloc)?,
+            )),
+            [a, b, c, d] => Ok(Front::four(
+                a.duplicate(alloc)?,
+                b.duplicate(alloc)?,
+                c.duplicate(alloc)?,
+                d.duplicate(alloc)?,
+            )),
+            _ => unreachable!(),
         }
     }
 }

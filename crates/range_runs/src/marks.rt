@@ -14,24 +14,31 @@ pub const NO_TABLE: u16 = u16::MAX;
 pub fn mark_of(alloc: Global, prefix: &Prefix) -> Result<Key, Memory>
     ensures { IfOk result (λ key. key ≡ mark_of prefix.now) }
 {
-    prefix.key_or(alloc, whole_table(prefix.table))
+    match prefix.parts.as_slice() {
+        [] => whole_table(alloc, prefix.table),
+        parts => Ok(Key {
+            table: prefix.table,
+            parts: Parts::copy_of(alloc, parts)?,
+        }),
+    }
 }
 
 /// The mark of the prefix without parts, a scan of the whole table. No other prefix's mark has so many parts,
-/// and no row's key has such a table. No memory.
-pub fn whole_table(table: u16) -> Key
-    ensures { result ≡ whole_table table }
+/// and no row's key has such a table. An error: there was no memory.
+pub fn whole_table(alloc: Global, table: u16) -> Result<Key, Memory>
+    ensures { IfOk result (λ key. key ≡ whole_table table) }
 {
     let number = Part::Int(i64::from(table));
     let parts = Parts::five(
+        alloc,
         number,
         Part::Int(0),
         Part::Int(0),
         Part::Int(0),
         Part::Int(0),
-    );
-    Key {
+    )?;
+    Ok(Key {
         table: NO_TABLE,
         parts,
-    }
+    })
 }

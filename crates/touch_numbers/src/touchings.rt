@@ -20,7 +20,9 @@ pub enum Written<'a> {
 /// The keys that a request touched: those that it read before it wrote them, and those that it wrote.
 #[derive(Drop)]
 pub struct Touching<'a> {
+    /// Those that it read before it wrote them.
     pub reads: &'a [Key],
+    /// Those that it wrote.
     pub writes: Written<'a>,
 }
 

@@ -101,7 +101,7 @@ fn closed<'a>(
     ensures { IfOk result (λ turn. (next : ℤ → Walk) → Turns (routines.closed what at o.now next) next seen.now turn) }
 {
     match seen {
-        [] => Ok(Turn::Asks(Action::Write(key_in(OPEN_ORDERS, at, *o), None))),
+        [] => Ok(Turn::Asks(Action::Write(key_in(alloc, OPEN_ORDERS, at, *o)?, None))),
         [Seen::Wrote, rest @ ..] => {
             let turn = with_carrier(alloc, what, at, o, rest)?;
             Ok(turn)
@@ -122,7 +122,7 @@ fn with_carrier<'a>(
     ensures { IfOk result (λ turn. (next : ℤ → Walk) → Turns (routines.with_carrier what at o.now next) next seen.now turn) }
 {
     match seen {
-        [] => Ok(Turn::Asks(Action::Read(key_in(ORDERS, at, *o)))),
+        [] => Ok(Turn::Asks(Action::Read(key_in(alloc, ORDERS, at, *o)?))),
         [Seen::One(Some(order)), rest @ ..] => {
             if !are_numbers(5, order) {
                 return Ok(Turn::Asks(absent()));
@@ -149,7 +149,7 @@ fn carried<'a>(
     match seen {
         [] => {
             let row = with_number(alloc, order, 2, what.carrier)?;
-            Ok(Turn::Asks(Action::Write(key_in(ORDERS, at, *o), Some(row))))
+            Ok(Turn::Asks(Action::Write(key_in(alloc, ORDERS, at, *o)?, Some(row))))
         }
         [Seen::Wrote, rest @ ..] => {
             let turn = dated(alloc, what, at, o, &column_at(order, 0), rest)?;
@@ -270,7 +270,7 @@ fn credited<'a>(
     ensures { IfOk result (λ turn. (next : ℤ → Walk) → Turns (routines.credited at o.now c.now amount.now next) next seen.now turn) }
 {
     match seen {
-        [] => Ok(Turn::Asks(Action::Read(key_in(CUSTOMERS, at, *c)))),
+        [] => Ok(Turn::Asks(Action::Read(key_in(alloc, CUSTOMERS, at, *c)?))),
         [Seen::One(Some(customer)), rest @ ..] => {
             if !is_customer(customer) {
                 return Ok(Turn::Asks(absent()));
@@ -304,7 +304,7 @@ fn with_balance<'a>(
     match seen {
         [] => {
             let row = with_number(alloc, customer, 4, *balance)?;
-            Ok(Turn::Asks(Action::Write(key_in(CUSTOMERS, at, *c), Some(row))))
+            Ok(Turn::Asks(Action::Write(key_in(alloc, CUSTOMERS, at, *c)?, Some(row))))
         }
         [Seen::Wrote, rest @ ..] => Ok(Turn::Goes(rest, *o)),
         _ => Ok(Turn::Asks(absent())),

@@ -20,29 +20,30 @@ pub(crate) fn district_key(at: District) -> Key
     }
 }
 
-/// The key of a table whose rows are told by the district and one number more.
-pub(crate) fn key_in(table: u16, at: District, number: i64) -> Key
-    ensures { result ≡ key_at table (at.w ∷ at.d ∷ number ∷ []) }
+/// The key of a table whose rows are told by the district and one number more. An error: there was no memory.
+pub(crate) fn key_in(alloc: Global, table: u16, at: District, number: i64) -> Result<Key, Memory>
+    ensures { IfOk result (λ key. key ≡ key_at table (at.w ∷ at.d ∷ number ∷ [])) }
 {
-    Key {
-        table,
-        parts: Parts::three(Part::Int(at.w), Part::Int(at.d), Part::Int(number)),
-    }
+    let (w, d) = (Part::Int(at.w), Part::Int(at.d));
+    let parts = Parts::three(alloc, w, d, Part::Int(number))?;
+    Ok(Key { table, parts })
 }
 
-/// The key of a place among those of a name.
-pub(crate) fn place_key(at: District, name: i64, place: i64) -> Key
-    ensures { result ≡ key_at table.name_places (at.w ∷ at.d ∷ name ∷ place ∷ []) }
+/// The key of a place among those of a name. An error: there was no memory.
+pub(crate) fn place_key(alloc: Global, at: District, name: i64, place: i64) -> Result<Key, Memory>
+    ensures { IfOk result (λ key. key ≡ key_at table.name_places (at.w ∷ at.d ∷ name ∷ place ∷ [])) }
 {
-    Key {
+    let parts = Parts::four(
+        alloc,
+        Part::Int(at.w),
+        Part::Int(at.d),
+        Part::Int(name),
+        Part::Int(place),
+    )?;
+    Ok(Key {
         table: NAME_PLACES,
-        parts: Parts::four(
-            Part::Int(at.w),
-            Part::Int(at.d),
-            Part::Int(name),
-            Part::Int(place),
-        ),
-    }
+        parts,
+    })
 }
 
 /// The key of an item's stock in a warehouse.

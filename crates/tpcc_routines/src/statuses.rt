@@ -44,7 +44,7 @@ pub(crate) fn order_status(
         return Ok(action);
     }
     match seen {
-        [] => Ok(Action::Read(key_in(NAME_COUNTS, at, *id))),
+        [] => Ok(Action::Read(key_in(alloc, NAME_COUNTS, at, *id)?)),
         [Seen::One(row), rest @ ..] => {
             let action = namesake(alloc, at, id, row, rest)?;
             Ok(action)
@@ -90,7 +90,7 @@ fn at_place(
     ensures { IfOk result (λ action. action ≡ follow (routines.at_place at name.now place.now) seen.now) }
 {
     match seen {
-        [] => Ok(Action::Read(place_key(at, *name, *place))),
+        [] => Ok(Action::Read(place_key(alloc, at, *name, *place)?)),
         [Seen::One(Some(row)), rest @ ..] => {
             if !are_numbers(1, row) {
                 return Ok(absent());
@@ -108,7 +108,7 @@ fn status_of(alloc: Global, at: District, c: &i64, seen: &[Seen]) -> Result<Acti
     ensures { IfOk result (λ action. action ≡ follow (routines.status_of at c.now) seen.now) }
 {
     match seen {
-        [] => Ok(Action::Read(key_in(CUSTOMERS, at, *c))),
+        [] => Ok(Action::Read(key_in(alloc, CUSTOMERS, at, *c)?)),
         [Seen::One(Some(row)), rest @ ..] => {
             if !is_customer(row) {
                 return Ok(absent());
