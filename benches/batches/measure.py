@@ -171,43 +171,34 @@ def instructions():
         row(load.title(), f"{load.requests:,}", *(f"{one:,.0f}" for one in each), *(f"{one / each[0]:.2f}" for one in each[1:]))
 
 
-# What waits, run again in waves and by handed rows.
-def both_ways(few):
-    yield Load("tpcc", 1, 0, 50, 20 if few else 60)
-    yield Load("tpcc", 4, 0, 50, 20 if few else 120)
+# What waits, run again in waves and by handed rows; one worker does neither.
+def both_ways():
+    yield Load("tpcc", 1, 0, 50, 60)
+    yield Load("tpcc", 4, 0, 50, 120)
     for hot in (0, 20, 50, 80):
-        yield Load("ycsb", 100_000, 80, 1_000, 2 if few else 40, hot)
+        yield Load("ycsb", 100_000, 80, 1_000, 40, hot)
     for chains in (8, 64):
-        yield Load("chains", chains, 200, 1_000, 2 if few else 10)
+        yield Load("chains", chains, 200, 1_000, 10)
 
 
 # Finished requests a second by the clock, and what one costs in microseconds of all processors.
 def batons():
     ways = [(kind, w) for kind in (0, 1) for w in WORKERS]
     names = [f"{('waves', 'batons')[kind]} {w}" for kind, w in ways]
-    row("finished a second", "requests", "way", *names, *(f"us {name}" for name in names), "batons/waves 1", "of 4")
-    for load in both_ways(False):
+    row("finished a second", "requests", "way", *names, *(f"us {name}" for name in names), "batons/waves 2", "of 4")
+    for load in both_ways():
         for name in engines:
             told = least({way: load.by_engine(name, way[1], 0, way[0]) for way in ways})
             assert len({(one["ended"], one["waits"]) for one in told.values()}) == 1, "all ways end the same requests"
             rate = {way: one["ended"] / one["whole"] * 1e9 for way, one in told.items()}
             cost = {way: one["processor"] / one["ended"] / 1e3 for way, one in told.items()}
             row(load.title(), f"{load.requests:,}", name, *(f"{rate[way]:,.0f}" for way in ways),
-                *(f"{cost[way]:.1f}" for way in ways), *(f"{rate[1, w] / rate[0, w]:.2f}" for w in (1, 4)))
-
-
-# The same in instructions of one worker.
-def batons_instructions():
-    row("instructions", "requests", "way", "waves", "batons", "batons/waves")
-    for load in both_ways(True):
-        for name in engines:
-            each = [count(load.by_engine(name, 1, 0, kind)) for kind in (0, 1)]
-            row(load.title(), f"{load.requests:,}", name, *(f"{one:,.0f}" for one in each), f"{each[1] / each[0]:.2f}")
+                *(f"{cost[way]:.1f}" for way in ways), *(f"{rate[1, w] / rate[0, w]:.2f}" for w in (2, 4)))
 
 
 tables = {
     "rates": rates, "sizes": sizes, "instructions": instructions,
-    "batons": batons, "batons_instructions": batons_instructions,
+    "batons": batons,
 }
 os.makedirs(folder, exist_ok=True)
 cut_catalogs()
