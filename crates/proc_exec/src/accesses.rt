@@ -129,7 +129,7 @@ fn fetch<L: Limits, A: Access, S: Reads<A>>(
 {
     let alloc = setting.scope.alloc;
     state.count()?;
-    if !setting.limits.allows_read(&key) {
+    if !setting.limits.allows_read(&key, &mut state.likely) {
         return Err(RunStop::Moved(Box::new(alloc, key)?));
     }
     Ok(
@@ -151,7 +151,7 @@ fn store<L: Limits, A: Access>(
     ensures { Performs result (L.declared limits.now) (writes (Ok key) (Ok row)) state.old state.new (A.seen access.old) (A.seen access.new) }
 {
     state.count()?;
-    if !limits.allows_write(&key) {
+    if !limits.allows_write(&key, &mut state.likely) {
         return Err(RunStop::Moved(Box::new(alloc, key)?));
     }
     access.write(key, row)?;

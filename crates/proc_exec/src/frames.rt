@@ -12,6 +12,7 @@ ghost use Rattle.proc_exec.specs.Steppings.{Counts, Goes};
 
 use crate::early_ends::EvalFault;
 use crate::evaluations::{eval, eval_all, part, test};
+use crate::limits::Likely;
 use crate::scopes::RunScope;
 use crate::texts::kept;
 use aria_base::{
@@ -24,12 +25,14 @@ use std::marker::Model;
 /// How many values there is room for from the first one on: more than most runs give.
 const FIRST_GIVEN: usize = 12;
 
-/// The registers of a run, the values that it has given, and how many accesses it has made.
+/// The registers of a run, the values that it has given, and how many accesses it has made. A contract sees nothing
+/// of where its next access is likely to stand.
 #[derive(Drop)]
 pub struct Running {
     registers: Vec<Value>,
     given: Vec<Value>,
     made: usize,
+    pub(crate) likely: Likely,
 }
 
 impl Model for Running {
@@ -53,6 +56,7 @@ impl Running {
             registers: blanks(alloc, kinds)?,
             given: Vec::new(alloc),
             made: 0,
+            likely: Likely::first(),
         })
     }
 

@@ -1,5 +1,7 @@
 // What a run may touch.
 ghost use Rattle.std.specs.Prelude.{◌≡◌, Option, Some, None};
+ghost use Rattle.std.specs.List.{list_any};
+ghost use Rattle.std.specs.Ordering.{eq_by_cmp};
 ghost use Rattle.aria_base.specs.Orders.{key_cmp};
 ghost use Rattle.aria_base.specs.declared.keys.Key.{Key};
 ghost use Rattle.batch_rules.specs.Touches.{Declared as Touchable};
@@ -7,7 +9,26 @@ ghost use Rattle.batch_rules.specs.Plays.{allows_read, allows_write};
 ghost use Rattle.proc_exec.specs.Limits.{touchable};
 
 use crate::outcomes::Declared;
-use aria_base::{Key, contains_key};
+use aria_base::{Key, contains_key, same_key};
+
+/// Where in the lists of declared keys the next access is likely to stand: behind the last one that stood where
+/// it was likely to. It changes no answer. A run within the keys of an earlier run mostly makes the same accesses in
+/// the same order.
+#[derive(Clone, Copy, Debug)]
+pub struct Likely {
+    reads: usize,
+    writes: usize,
+}
+
+impl Likely {
+    /// At the beginning of both lists.
+    pub fn first() -> Likely {
+        Likely {
+            reads: 0,
+            writes: 0,
+        }
+    }
+}
 
 /// What a run may touch: everything, or declared keys.
 pub trait Limits {
@@ -15,11 +36,11 @@ pub trait Limits {
     ghost declared: { Self → Option (Touchable Key) };
 
     /// Whether a read of the key is allowed.
-    fn allows_read(&self, key: &Key) -> bool
+    fn allows_read(&self, key: &Key, likely: &mut Likely) -> bool
         ensures { result ≡ allows_read key_cmp (declared self.now) key.now };
 
     /// Whether a write of the key is allowed.
-    fn allows_write(&self, key: &Key) -> bool
+    fn allows_write(&self, key: &Key, likely: &mut Likely) -> bool
         ensures { result ≡ allows_write key_cmp (declared self.now) key.now };
 }
 
@@ -30,11 +51,11 @@ pub struct Unlimited;
 impl Limits for Unlimited {
     ghost declared = { λ _. None };
 
-    fn allows_read(&self, _key: &Key) -> bool {
+    fn allows_read(&self, _key: &Key, _likely: &mut Likely) -> bool {
         true
     }
 
-    fn allows_write(&self, _key: &Key) -> bool {
+    fn allows_write(&self, _key: &Key, _likely: &mut Likely) -> bool {
         true
     }
 }
@@ -42,11 +63,24 @@ impl Limits for Unlimited {
 impl Limits for Declared {
     ghost declared = { λ d. Some (touchable d) };
 
-    fn allows_read(&self, key: &Key) -> bool {
-        contains_key(self.reads.as_slice(), key) || contains_key(self.writes.as_slice(), key)
+    fn allows_read(&self, key: &Key, likely: &mut Likely) -> bool {
+        stands_among(self.reads.as_slice(), &mut likely.reads, key)
+            || contains_key(self.writes.as_slice(), key)
     }
 
-    fn allows_write(&self, key: &Key) -> bool {
-        contains_key(self.writes.as_slice(), key)
+    fn allows_write(&self, key: &Key, likely: &mut Likely) -> bool {
+        stands_among(self.writes.as_slice(), &mut likely.writes, key)
     }
+}
+
+/// Whether the key stands among these. It is looked for at the likely place first.
+fn stands_among(keys: &[Key], likely: &mut usize, key: &Key) -> bool
+    ensures { result ≡ list_any (eq_by_cmp key_cmp key.now) keys.now }
+{
+    let at = *likely;
+    if at < keys.len() && same_key(key, &keys[at]) {
+        *likely = at + 1;
+        return true;
+    }
+    contains_key(keys, key)
 }
