@@ -20,7 +20,7 @@ use tbl_rows::hash_of;
 /// A window on a snapshot that keeps what is written through it to itself. A contract sees the
 /// database below, the keys that were read from it in the order of their first reads, and the writes
 /// in the order of their first writes, each with its last row or absence. Its calls search these
-/// lists from the front while they are short, and from the thirty-third key on by the order of keys, so
+/// lists from the front while they are short, and from the sixty-fifth key on by the order of keys, so
 /// that a call costs a logarithm of what was touched. The overlay has no bound.
 #[derive(Drop)]
 pub struct Overlay<'a> {

@@ -11,7 +11,7 @@ use std::collections::BTreeMap;
 
 /// How many keys a list has that is searched from its front: so many are compared sooner than a map is
 /// kept.
-pub(crate) const FEW: usize = 32;
+pub(crate) const FEW: usize = 64;
 
 /// The place of each key of a list, which is found in logarithmic time whatever the keys are.
 #[derive(Drop)]

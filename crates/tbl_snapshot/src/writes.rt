@@ -15,7 +15,7 @@ use aria_base::{Key, Memory, Row};
 use std::alloc::Global;
 use std::marker::Model;
 
-/// How many writes there is room for from the first one on. One has 128 bytes.
+/// How many writes there is room for from the first one on. One is wider than a cache line.
 const FIRST_ROOM: usize = 4;
 
 /// Writes in the order of first writes, each with its last row or absence. A contract sees the list of
