@@ -1,16 +1,17 @@
 -- A list of rows with their keys, and the map that it makes, where a row is set, added or removed.
 use Rattle.std.proofs.Common.{◌≡◌, ℕ, ◌<◌, [], ◌∷◌, ◌++◌, length, Option, Some, None, Bool, cond, true, false, refl, sym, ap, subst, ◌∙◌}
-use Rattle.std.specs.Prelude.{slice_index_or, slice_set}
-use Rattle.std.specs.Option.{IsSome}
+use Rattle.std.specs.Prelude.{slice_index_or, slice_set, option_to_list, MatchOption}
+use Rattle.std.specs.Option.{IsSome, IfSome}
 use Rattle.std.specs.List.{position, filter, swap_remove}
 use Rattle.std.specs.Ordering.{eq_by_cmp}
 use Rattle.std.specs.declared.cmp.Ordering.TheVariants.{Equal}
 use Rattle.std.specs.FinMap as fin
 use Rattle.std.specs.FinMap.Entries.{find-where_key}
 use Rattle.std.proofs.Math.Seq.{map-set_same}
-use Rattle.std.proofs.lemmas.List.Sorted.{IsPermutation-swap_remove}
+use Rattle.std.proofs.lemmas.List.{append-nil}
+use Rattle.std.proofs.lemmas.List.Sorted.{IsPermutation-middle, IsPermutation-swap_remove}
 use Rattle.std.specs.List.{IsDistinct}
-use Rattle.aria_base.specs.Orders.{key_cmp, Cells}
+use Rattle.aria_base.specs.Orders.{key_cmp, Cells, Database}
 use Rattle.aria_base.specs.declared.keys.Key.{Key}
 use Rattle.aria_base.proofs.Orders.{key_cmp_total, key_cmp-IsAntisymmetric, same_key}
 use Rattle.tbl_rows.specs.Pools.{Entries, AllApart}
@@ -39,7 +40,7 @@ set-at es k i e row some is = fin.same_map key_cmp_total key_cmp-IsAntisymmetric
 
 -- ---- a row at a key that has none
 
-apart-single : (e : Key × Cells) → AllApart (e ∷ [])
+pub apart-single : (e : Key × Cells) → AllApart (e ∷ [])
 apart-single e = apart-cons e [] refl nil_apart
 
 pub apart-push : (es : Entries) (k : Key) (row : Cells) → position (is_entry_of k) es ≡ None → AllApart es → AllApart (es ++ (k, row) ∷ [])
@@ -84,6 +85,26 @@ swap_remove-at es k i e apart some is =
 
 pub remove-absent : (es : Entries) (k : Key) → position (is_entry_of k) es ≡ None → fin.from_entries {R = key_cmp} es ≡ fin.remove (fin.from_entries es) k
 remove-absent es k none = sym (remove-none (fin.from_entries es) k (get-absent es k none))
+
+-- ---- the last entry is taken out, if there is one
+
+last-first : (rest : Entries) (e : Key × Cells) → AllApart (rest ++ e ∷ []) → AllApart (e ∷ rest)
+last-first rest e apart = subst (λ es. AllApart (e ∷ es)) (append-nil rest) (apart-permutation _ _ (IsPermutation-middle rest e []) apart)
+
+module _ (es rest : Entries) (apart : AllApart es) where
+  pub taken-apart : (taken : Option (Key × Cells)) → es ≡ rest ++ option_to_list taken → AllApart rest
+  taken-apart None is = subst AllApart (is ∙ append-nil rest) apart
+  taken-apart (Some e) is = apart-tail e rest (last-first rest e (subst AllApart is apart))
+
+  pub taken-is : (m : Database) (taken : Option (Key × Cells)) → fin.from_entries es ≡ m → es ≡ rest ++ option_to_list taken
+      → MatchOption taken (fin.from_entries rest ≡ m) (λ e. m ≡ fin.insert (fin.from_entries rest) e.0 e.1)
+  taken-is m None made is = ap fin.from_entries (sym (is ∙ append-nil rest)) ∙ made
+  taken-is m (Some e) made is = sym made ∙ ap fin.from_entries is
+      ∙ fin.from_entries_push key_cmp_total key_cmp-IsAntisymmetric rest e.0 e.1 (find-head e rest (last-first rest e (subst AllApart is apart)))
+
+  pub taken-gone : (taken : Option (Key × Cells)) → es ≡ rest ++ option_to_list taken → IfSome taken (λ e. fin.get (fin.from_entries {R = key_cmp} rest) e.0 ≡ None)
+  taken-gone None is = tt
+  taken-gone (Some e) is = fin.get-from_entries key_cmp_total rest e.0 ∙ find-head e rest (last-first rest e (subst AllApart is apart))
 
 -- ---- the entries whose keys pass a test
 

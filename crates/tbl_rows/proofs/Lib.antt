@@ -1,5 +1,6 @@
 pub mod Beside
 pub mod Edited
+pub mod Firsts
 pub mod Grown
 pub mod Listed
 pub mod Owned

@@ -1,6 +1,6 @@
 -- Maps that are one map together, as shards are and the buckets of a shard, and to which bucket a key belongs.
 use Rattle.std.specs.Prelude.{◌≡◌, ℕ, ◌+◌, ◌/◌, ◌%◌, ◌^◌, ◌<◌, ◌≤◌, ◌==◌, Bool, nat_lt, if◌then◌else◌, List, [], ◌∷◌, ◌++◌}
-use Rattle.std.specs.Prelude.{length, None, IsSome, slice_index_or}
+use Rattle.std.specs.Prelude.{length, Option, Some, None, IsSome, slice_index_or}
 use Rattle.std.specs.List.{flat_map, IsDistinct}
 use Rattle.std.specs.List.Sorted.{IsPermutation}
 use Rattle.std.specs.Map.{keys_of}
@@ -46,6 +46,11 @@ slot level count key = slot_at level count (hash_of key)
 -- whether a key moves to the next bucket when that is made
 abbrev pub is_moved : ℕ → ℕ → Key → Bool
 is_moved level count key = slot level (count + 1) key == count
+
+-- the map of one row or of none
+abbrev pub only : Option (Key × Cells) → Database
+only None = fin.empty
+only (Some e) = fin.insert fin.empty e.0 e.1
 
 -- what is so of the buckets of every shard
 pub record IsPool (level : ℕ) (buckets : List Database) : Type 0 where

@@ -1,43 +1,45 @@
 // One bucket of a shard: a few rows, in any order.
-ghost use Rattle.std.specs.Prelude.{◌≡◌, ◌^◌, ◌<◌, ◌≤◌, length, map, not, position, IfOk, IfErr, OnOk, OnErr};
-ghost use Rattle.std.specs.List.{filter};
+ghost use Rattle.std.specs.Prelude.{◌≡◌, ◌^◌, ◌<◌, ◌≤◌, None, true, map, not, IfOk, IfErr, OnOk, OnErr};
 ghost use Rattle.std.specs.Option.{option_copied};
-ghost use Rattle.std.specs.Vec.{vec_len, vec_capacity};
-ghost use Rattle.std.specs.Ordering.{eq_by_cmp};
 ghost use Rattle.std.specs.Map.Iter.{deref_pair};
 ghost use Rattle.std.specs.FinMap as fin;
-ghost use Rattle.aria_base.specs.Orders.{key_cmp};
 ghost use Rattle.tbl_rows.specs.Hashes.{hash_of};
-ghost use Rattle.tbl_rows.specs.Pools.{is_moved, Adds};
+ghost use Rattle.tbl_rows.specs.Pools.{beside, is_moved, Adds, IsApart};
 ghost use Rattle.tbl_rows.specs.declared.homes.TheConstants.{LAST_LEVEL};
 
 use crate::entries::Entry;
+use crate::first_rows::FirstRow;
+use crate::more_rows::MoreRows;
 use crate::refusals::Refused;
 use crate::spents::Spent;
 use aria_base::{Duplicate, Key, Memory, Row};
-use std::alloc::{AllocError, Global};
+use std::alloc::Global;
 use std::marker::Model;
-use std::mem;
 
-/// A few rows, which are searched from the front. A contract sees the map of them.
+/// From how many rows on behind its first one a bucket is crowded. By chance hardly one in a billion is, while
+/// buckets that wait for their split have two rows on average.
+const CROWD: usize = 15;
+
+/// A few rows, the first of which lies in the bucket itself: most searches read the bucket and no more. A contract
+/// sees the map of them. Where the first one goes another takes its place.
 #[derive(Drop)]
 pub(crate) struct Bucket {
-    entries: Vec<Entry>,
+    first: FirstRow,
+    more: MoreRows,
 }
 
 impl Model for Bucket {
-    ghost use Rattle.std.specs.FinMap as fin;
     ghost use Rattle.aria_base.specs.Orders.{Database};
     ghost use Rattle.aria_base.specs.Codes.{database_code};
-    ghost use Rattle.tbl_rows.specs.Pools.{AllApart};
+    ghost use Rattle.tbl_rows.specs.Pools.{beside, IsApart};
 
     ghost Value = { Database };
 
     ghost coded = { database_code };
 
-    ghost view = { λ a. fin.from_entries a.entries.items };
+    ghost view = { λ a. beside a.first a.more };
 
-    ghost invariant = { λ a. AllApart a.entries.items };
+    ghost invariant = { λ a. IsApart a.first a.more };
 }
 
 impl Bucket {
@@ -46,15 +48,14 @@ impl Bucket {
         ensures { result ≡ fin.empty }
     {
         Bucket {
-            entries: Vec::new(alloc),
+            first: FirstRow::new(),
+            more: MoreRows::new(alloc),
         }
     }
 
-    /// How many rows it has.
-    pub(crate) fn len(&self) -> usize
-        ensures { result ≡ fin.len self.now }
-    {
-        self.entries.len()
+    /// Whether it has so many rows that no more belong there.
+    pub(crate) fn is_crowded(&self) -> bool {
+        self.more.len() >= CROWD
     }
 
     /// The row at the key of this hash.
@@ -62,9 +63,9 @@ impl Bucket {
         requires { hash ≡ hash_of key.now }
         ensures { option_copied result ≡ fin.get self.now key.now }
     {
-        match place_of(&self.entries, hash, key) {
-            Some(place) => Some(self.entries[place].row()),
-            None => None,
+        match self.first.get(hash, key) {
+            Some(row) => Some(row),
+            None => self.more.get(hash, key),
         }
     }
 
@@ -77,20 +78,19 @@ impl Bucket {
         ensures refused { IfErr result (λ refused. (refused.key ≡ key) × (refused.row ≡ row)) }
         ensures kept { OnErr result (self.new ≡ self.old) }
     {
-        match place_of(&self.entries, hash, &key) {
-            Some(place) => {
-                let entry = &mut self.entries[place];
-                let was = entry.set_row(row);
+        if is_free(&self.first, &self.more, hash, &key) {
+            self.first.set(Entry::new(hash, key, row));
+            return Ok((true, Spent::of_row(None)));
+        }
+        match self.first.replace(hash, &key, row) {
+            Ok(was) => {
                 drop(key);
                 Ok((false, Spent::of_row(Some(was))))
             }
-            None => match make_room(&mut self.entries) {
-                Ok(spent) => {
-                    self.entries.push_reserved(Entry::new(hash, key, row));
-                    Ok((true, spent))
-                }
-                Err(_) => Err(Refused { key, row }),
-            },
+            Err(row) => {
+                let put = self.more.put(hash, key, row)?;
+                Ok(put)
+            }
         }
     }
 
@@ -100,27 +100,23 @@ impl Bucket {
         ensures found { result ≡ fin.contains_key self.old key.now }
         ensures deleted { self.new ≡ fin.remove self.old key.now }
     {
-        match place_of(&self.entries, hash, key) {
-            Some(place) => {
-                drop(self.entries.swap_remove(place));
-                true
-            }
-            None => false,
+        if self.first.delete(hash, key) {
+            fill(&mut self.first, &mut self.more);
+            return true;
         }
+        self.more.delete(hash, key)
     }
 
     /// Adds the rows to a list, in any order.
     pub(crate) fn list<'a>(&'a self, out: &mut Vec<(&'a Key, &'a Row)>) -> Result<(), Memory>
         ensures { OnOk result (Adds self.now (map deref_pair out.old.items) (map deref_pair out.new.items)) }
     {
-        for entry in &self.entries {
-            out.push((entry.key(), entry.row()))?;
-        }
+        self.first.list(out)?;
+        self.more.list(out)?;
         Ok(())
     }
 
-    /// Takes out the rows that belong to the next of so many buckets, as that bucket. Each of the two gets
-    /// room for the rows that it has: most of a table's memory is in its buckets.
+    /// Takes out the rows that belong to the next of so many buckets, as that bucket.
     pub(crate) fn split(&mut self, level: u32, count: usize) -> Result<Bucket, Memory>
         requires level { level ≤ LAST_LEVEL }
         requires least { 2 ^ level ≤ count }
@@ -129,67 +125,41 @@ impl Bucket {
         ensures stayed { OnOk result (self.new ≡ fin.retain_keys self.old (λ q. not (is_moved level count q))) }
         ensures kept { OnErr result (self.new ≡ self.old) }
     {
-        let alloc = *self.entries.allocator();
-        let leaving = count_moved(&self.entries, level, count);
-        let mut stay = Vec::with_capacity(alloc, self.entries.len() - leaving)?;
-        let mut moved = Vec::with_capacity(alloc, leaving)?;
-        for entry in mem::replace(&mut self.entries, Vec::new(alloc)) {
-            if entry.is_moved(level, count) {
-                moved.push_reserved(entry);
-            } else {
-                stay.push_reserved(entry);
-            }
-        }
-        self.entries = stay;
-        Ok(Bucket { entries: moved })
+        let mut more = self.more.split(level, count)?;
+        let mut first = self.first.leave(level, count);
+        fill(&mut self.first, &mut self.more);
+        fill(&mut first, &mut more);
+        Ok(Bucket { first, more })
     }
 }
 
-/// The place of a key's row.
-fn place_of(entries: &Vec<Entry>, hash: u64, key: &Key) -> Option<usize>
+/// Whether there is no first row, and no other one at the key of this hash.
+fn is_free(first: &FirstRow, more: &MoreRows, hash: u64, key: &Key) -> bool
     requires { hash ≡ hash_of key.now }
-    ensures { result ≡ position (λ e. eq_by_cmp key_cmp key.now e.0) entries.now.items }
+    ensures { result ≡ true → (first.now ≡ fin.empty) × (fin.get more.now key.now ≡ None) }
 {
-    entries.iter().position(|entry| entry.is_at(hash, key))
+    first.is_vacant() && more.get(hash, key).is_none()
 }
 
-/// Makes room for one more row, and hands out the block that was too small. A list grows by a quarter, and
-/// not to its double, since a bucket is short and a table has many.
-fn make_room(entries: &mut Vec<Entry>) -> Result<Spent, AllocError>
-    ensures items { entries.new.items ≡ entries.old.items }
-    ensures room { OnOk result (vec_len entries.new < vec_capacity entries.new) }
+/// Makes one of the others the first row where there is none.
+fn fill(first: &mut FirstRow, more: &mut MoreRows)
+    requires { IsApart first.old more.old }
+    ensures same { beside first.new more.new ≡ beside first.old more.old }
+    ensures apart { IsApart first.new more.new }
 {
-    let len = entries.len();
-    if len < entries.capacity() {
-        return Ok(Spent::of_row(None));
+    if first.is_vacant() {
+        match more.take_one() {
+            Some(entry) => first.set(entry),
+            None => {}
+        }
     }
-    let mut more = Vec::with_capacity(*entries.allocator(), len + 1 + len / 4)?;
-    more.append(entries)?;
-    Ok(Spent {
-        row: None,
-        list: Some(mem::replace(entries, more)),
-    })
-}
-
-/// How many of the rows move when the next of so many buckets is made.
-fn count_moved(entries: &Vec<Entry>, level: u32, count: usize) -> usize
-    requires level { level ≤ LAST_LEVEL }
-    requires least { 2 ^ level ≤ count }
-    requires most { count < 2 ^ 32 }
-    ensures { result ≡ length (filter (λ e. is_moved level count e.0) entries.now.items) }
-{
-    entries
-        .iter()
-        .filter(|entry| entry.is_moved(level, count))
-        .count()
 }
 
 impl Duplicate for Bucket {
     fn duplicate(&self, alloc: Global) -> Result<Self, Memory> {
-        let mut entries = Vec::with_capacity(alloc, self.entries.len())?;
-        for entry in &self.entries {
-            entries.push(entry.duplicate(alloc)?)?;
-        }
-        Ok(Bucket { entries })
+        Ok(Bucket {
+            first: self.first.duplicate(alloc)?,
+            more: self.more.duplicate(alloc)?,
+        })
     }
 }

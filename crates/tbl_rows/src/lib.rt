@@ -14,17 +14,19 @@
 //!        Bucket | Bucket | ..    an ordered map: the overflow
 //! ```
 //!
-//! A key's hash tells its shard, and its bucket there: a list of rows, one on average, with their hashes. The
-//! buckets grow one by one, by linear hashing. A put splits one bucket at most, and moves its rows without a
-//! copy; where there is no memory for the split, it is put off. The hash is no secret, so that keys can be
-//! chosen to share a bucket: the rows past those that come by chance go to the overflow, where a search takes
-//! logarithmic time.
+//! A key's hash tells its shard, and its bucket there, which has one row on average: the first lies in the bucket
+//! itself, others in a block of their own, each with its key's hash. The buckets grow one by one, by linear
+//! hashing. A put splits one bucket at most, and moves its rows without a copy; where there is no memory for the
+//! split, it is put off. The hash is no secret, so that keys can be chosen to share a bucket: the rows past those
+//! that come by chance go to the overflow, where a search takes logarithmic time.
 #![tactic(auto)]
 
 mod buckets;
 mod entries;
+mod first_rows;
 mod hashes;
 mod homes;
+mod more_rows;
 mod pools;
 mod refusals;
 mod rows;

@@ -15,13 +15,9 @@ use aria_base::{Duplicate, Key, Memory, Row};
 use std::alloc::Global;
 use std::marker::Model;
 
-/// How many rows a bucket has on average at most, while there is memory for more buckets. A search reads the
-/// bucket and, in most cases, one row.
+/// How many rows a bucket has on average at most, while there is memory for more buckets. Most searches
+/// read the bucket alone.
 const MEAN: usize = 1;
-
-/// From how many rows on a bucket is crowded. By chance hardly one in a billion is, while buckets that wait for
-/// their split have two rows on average.
-const CROWD: usize = 16;
 
 /// Rows in buckets. A contract sees the map of them. The buckets grow one by one, so that no call
 /// moves more than a bucket's rows. `len` counts the rows, and nothing but growth rests on it.
@@ -74,7 +70,7 @@ impl Pool {
         requires { hash ≡ hash_of key.now }
     {
         let bucket = &self.buckets[place_of(self.level, &self.buckets, hash, key)];
-        bucket.len() >= CROWD
+        bucket.is_crowded()
     }
 
     /// Sets the row at the key of this hash. `Refused` means out of memory.

@@ -1,19 +1,22 @@
-use Rattle.std.proofs.Common.{ap, sym, ◌∙◌}
-use Rattle.std.specs.Option.{is_some}
-use Rattle.tbl_rows.proofs.Edited.{get-at, get-absent, apart-swap_remove, swap_remove-at, remove-absent}
+use Rattle.std.proofs.Common.{sym, ◌∙◌}
+use Rattle.tbl_rows.proofs.Beside.{apart-shrunk, apart-removed, near-found, near-removed, far-found, beside-removed}
 use Rattle.tbl_rows.proofs.buckets.Bucket.delete.Goals as goal
 
-pub invariant_of-self : goal.invariant_of-self
-invariant_of-self c = rw c.swap_remove.ensures.items (apart-swap_remove _ _ _ _ (sym c.place_of.ensures ∙ c.in-Some.is) c.swap_remove.ensures.value c.self.invariant)
+pub fill-requires : goal.fill-requires
+fill-requires c = rw c.delete.ensures.deleted (apart-shrunk _ _ _ c.self.invariant)
 
-pub returns-in-Some-clause-found : goal.returns-in-Some-clause-found
-returns-in-Some-clause-found c = rw (← c.self.view_is) (sym (ap is_some (get-at _ _ _ _ (sym c.place_of.ensures ∙ c.in-Some.is) c.swap_remove.ensures.value)))
+pub returns-then-delete-clause-found : goal.returns-then-delete-clause-found
+returns-then-delete-clause-found c = rw (← c.self.view_is) (near-found _ _ _ (sym c.delete.ensures.found ∙ c.if-delete.true))
 
-pub returns-in-Some-clause-deleted : goal.returns-in-Some-clause-deleted
-returns-in-Some-clause-deleted c = rw (← c.self.view_is, c.swap_remove.ensures.items) (swap_remove-at _ _ _ _ c.self.invariant (sym c.place_of.ensures ∙ c.in-Some.is) c.swap_remove.ensures.value)
+pub returns-then-delete-clause-deleted : goal.returns-then-delete-clause-deleted
+returns-then-delete-clause-deleted c = c.fill.ensures.same ∙ rw (← c.self.view_is, c.delete.ensures.deleted)
+    (near-removed _ _ _ c.self.invariant (sym c.delete.ensures.found ∙ c.if-delete.true))
 
-pub returns-in-None-clause-found : goal.returns-in-None-clause-found
-returns-in-None-clause-found c = rw (← c.self.view_is) (sym (ap is_some (get-absent _ _ (sym c.place_of.ensures ∙ c.in-None.is))))
+pub invariant_of-self-2 : goal.invariant_of-self-2
+invariant_of-self-2 c = rw (c.delete.ensures.deleted, c.delete-2.ensures.deleted) (apart-removed _ _ _ c.self.invariant)
 
-pub returns-in-None-clause-deleted : goal.returns-in-None-clause-deleted
-returns-in-None-clause-deleted c = rw (← c.self.view_is) (remove-absent _ _ (sym c.place_of.ensures ∙ c.in-None.is))
+pub returns-clause-found : goal.returns-clause-found
+returns-clause-found c = rw (← c.self.view_is) (c.delete-2.ensures.found ∙ far-found _ _ _ (sym c.delete.ensures.found ∙ c.if-delete.false))
+
+pub returns-clause-deleted : goal.returns-clause-deleted
+returns-clause-deleted c = rw (← c.self.view_is, c.delete.ensures.deleted, c.delete-2.ensures.deleted) (beside-removed _ _ _)

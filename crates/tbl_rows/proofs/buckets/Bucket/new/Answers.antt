@@ -1,5 +1,8 @@
-use Rattle.tbl_rows.proofs.Listed.{nil_apart}
+use Rattle.tbl_rows.proofs.Beside.{IsApart-bare, beside-bare}
 use Rattle.tbl_rows.proofs.buckets.Bucket.new.Goals as goal
 
 pub invariant_of-result : goal.invariant_of-result
-invariant_of-result c = rw c.new.ensures.items nil_apart
+invariant_of-result c = IsApart-bare _ _ c.new.ensures
+
+pub returns : goal.returns
+returns c = beside-bare _ _ c.new.ensures c.new-2.ensures

@@ -1,23 +1,36 @@
-use Rattle.std.proofs.Common.{ap, sym, ◌∙◌}
-use Rattle.std.proofs.Common.{not}
+use Rattle.std.proofs.Common.{not, ap, ◌∙◌}
 use Rattle.std.specs.Option.{is_some}
-use Rattle.tbl_rows.proofs.Edited.{get-at, get-absent, apart-set, set-at, apart-push, push-absent}
+use Rattle.tbl_rows.proofs.Beside.{beside-near, beside-far, apart-put_near, apart-put_far, near-found, far-found}
+use Rattle.tbl_rows.proofs.Firsts.{get-none, added-both}
 use Rattle.tbl_rows.proofs.buckets.Bucket.put.Goals as goal
 
 pub invariant_of-self : goal.invariant_of-self
-invariant_of-self c = rw c.set_row-was.ensures (apart-set _ _ _ c.args.row c.index_mut-entry.ensures.value c.self.invariant)
+invariant_of-self c = rw (c.set.ensures, c.new.ensures) (apart-put_near _ _ _ _ c.self.invariant ((c.is_free.ensures c.if-is_free.true).1))
+
+pub returns-then-is_free-clause-put : goal.returns-then-is_free-clause-put
+returns-then-is_free-clause-put c = rw (← c.self.view_is, c.set.ensures, c.new.ensures) (beside-near _ _ _ _)
+
+pub returns-then-is_free-clause-added : goal.returns-then-is_free-clause-added
+returns-then-is_free-clause-added c =
+    let free = c.is_free.ensures c.if-is_free.true in
+    rw (← c.self.view_is) (added-both _ _ _ (rw free.0 (get-none _)) free.1)
 
 pub invariant_of-self-in-Ok : goal.invariant_of-self-in-Ok
-invariant_of-self-in-Ok c = rw (c.push_reserved.ensures.items, c.make_room.ensures.items, c.new.ensures) (apart-push _ _ _ (sym c.place_of.ensures ∙ c.in-None.is) c.self.invariant)
+invariant_of-self-in-Ok c = rw c.in-Ok.ensures.set (apart-put_near _ _ _ _ c.self.invariant (c.self.invariant _ c.in-Ok.ensures.there))
 
-pub returns-in-Some-clause-put : goal.returns-in-Some-clause-put
-returns-in-Some-clause-put c = rw (← c.self.view_is, c.set_row-was.ensures) (set-at _ _ _ _ _ (sym c.place_of.ensures ∙ c.in-Some.is) c.index_mut-entry.ensures.value)
-
-pub returns-in-Some-clause-added : goal.returns-in-Some-clause-added
-returns-in-Some-clause-added c = rw (← c.self.view_is) (sym (ap (λ row. not (is_some row)) (get-at _ _ _ _ (sym c.place_of.ensures ∙ c.in-Some.is) c.index_mut-entry.ensures.value)))
+pub invariant_of-self-in-Err : goal.invariant_of-self-in-Err
+invariant_of-self-in-Err c = rw (c.in-Err.ensures.kept, c.in_ok-put-in-Err.ensures.put) (apart-put_far _ _ _ _ c.self.invariant c.in-Err.ensures.absent)
 
 pub returns-in-Ok-clause-put : goal.returns-in-Ok-clause-put
-returns-in-Ok-clause-put c = rw (← c.self.view_is, c.push_reserved.ensures.items, c.make_room.ensures.items, c.new.ensures) (push-absent _ _ _ (sym c.place_of.ensures ∙ c.in-None.is))
+returns-in-Ok-clause-put c = rw (← c.self.view_is, c.in-Ok.ensures.set) (beside-near _ _ _ _)
 
 pub returns-in-Ok-clause-added : goal.returns-in-Ok-clause-added
-returns-in-Ok-clause-added c = rw (← c.self.view_is) (sym (ap (λ row. not (is_some row)) (get-absent _ _ (sym c.place_of.ensures ∙ c.in-None.is))))
+returns-in-Ok-clause-added c = rw (← c.self.view_is) (ap not (near-found _ _ _ c.in-Ok.ensures.there))
+
+pub returns-in_ok-put-in-Err-clause-put : goal.returns-in_ok-put-in-Err-clause-put
+returns-in_ok-put-in-Err-clause-put c =
+    rw (← c.self.view_is, c.in-Err.ensures.kept, c.in_ok-put-in-Err.ensures.put, c.in-Err.ensures.back) (beside-far _ _ _ _ c.in-Err.ensures.absent)
+
+pub returns-in_ok-put-in-Err-clause-added : goal.returns-in_ok-put-in-Err-clause-added
+returns-in_ok-put-in-Err-clause-added c = rw (← c.self.view_is) (c.in_ok-put-in-Err.ensures.added
+    ∙ ap not (far-found _ _ _ (ap is_some c.in-Err.ensures.absent)))

@@ -1,6 +1,6 @@
 use Rattle.std.proofs.Common.{◌∙◌}
 use Rattle.std.proofs.lemmas.List.{take_all}
-use Rattle.tbl_rows.proofs.buckets.BucketDuplicate.duplicate.Goals as goal
+use Rattle.tbl_rows.proofs.more_rows.MoreRowsDuplicate.duplicate.Goals as goal
 
 pub invariant_of-result : goal.invariant_of-result
 invariant_of-result c =

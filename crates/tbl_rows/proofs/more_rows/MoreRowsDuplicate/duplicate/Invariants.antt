@@ -1,5 +1,5 @@
 use Rattle.std.proofs.Common.{◌≡◌, take}
-use Rattle.tbl_rows.proofs.buckets.BucketDuplicate.duplicate.Given as goal
+use Rattle.tbl_rows.proofs.more_rows.MoreRowsDuplicate.duplicate.Given as goal
 
 abbrev pub invariant-loop-entry : goal.invariant-loop-entry
 invariant-loop-entry l = l.entries.items ≡ take l.entry-index l.entry-items

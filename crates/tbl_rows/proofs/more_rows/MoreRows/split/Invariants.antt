@@ -3,7 +3,7 @@ use Rattle.std.specs.List.{filter}
 use Rattle.std.specs.Vec.{vec_len, vec_capacity}
 use Rattle.std.specs.Vec.Iter.{into_iter_items}
 use Rattle.tbl_rows.specs.Pools.{is_moved}
-use Rattle.tbl_rows.proofs.buckets.Bucket.split.Given as goal
+use Rattle.tbl_rows.proofs.more_rows.MoreRows.split.Given as goal
 
 abbrev pub invariant-loop-entry : goal.invariant-loop-entry
 invariant-loop-entry l =
