@@ -102,8 +102,10 @@ impl Engine {
             carried,
             batches,
             requests,
-            ..
+            last,
         } = self;
+        // the blocks of the last batch's numbers serve this batch
+        drop(last);
         let total = requests + new.len() as u64;
         let list = number_calls(carried.into_vec(), new, requests)?;
         let (last, judgement) = judge(rt, alloc, &catalog, &tables, &list, config, pace)?;
