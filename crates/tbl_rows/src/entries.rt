@@ -85,11 +85,23 @@ impl Entry {
         bucket_at(level, count + 1, self.hash) == count
     }
 
-    /// Sets the row, and hands out the one that stood there.
+    /// Sets the row, and hands out the one that stood there. Rows of one length change places block and all: the
+    /// values move into the block that stays, and what is handed out lies in the block that came, which was written a
+    /// moment ago and is soon used again.
     pub(crate) fn set_row(&mut self, row: Row) -> Row
-        ensures { self.new ≡ (self.old.0, row) }
+        ensures set { self.new ≡ (self.old.0, row) }
+        ensures was { result ≡ self.old.1 }
     {
-        mem::replace(&mut self.row, fitted(row))
+        let mut new = row.into_vec();
+        let none = Row::from_vec(Vec::new(*new.allocator()));
+        let mut old = mem::replace(&mut self.row, none).into_vec();
+        if old.len() == new.len() {
+            old.as_mut_slice().swap_with_slice(new.as_mut_slice());
+            self.row = Row::from_vec(old);
+            return Row::from_vec(new);
+        }
+        self.row = fitted(Row::from_vec(new));
+        Row::from_vec(old)
     }
 }
 

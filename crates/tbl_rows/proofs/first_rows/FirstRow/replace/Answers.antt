@@ -5,7 +5,7 @@ use Rattle.tbl_rows.proofs.first_rows.FirstRow.replace.Goals as goal
 use Rattle.tbl_rows.proofs.first_rows.FirstRow.replace.Goals.{in-Some+else-is_at, in-None}
 
 pub returns-then-is_at-clause-set : goal.returns-then-is_at-clause-set
-returns-then-is_at-clause-set c = rw (← c.self.view_is, c.in-Some.is, c.set_row.ensures) (only-set _ _ _ (sym c.is_at.ensures ∙ c.if-is_at.true))
+returns-then-is_at-clause-set c = rw (← c.self.view_is, c.in-Some.is, c.set_row.ensures.set) (only-set _ _ _ (sym c.is_at.ensures ∙ c.if-is_at.true))
 
 pub returns-then-is_at-clause-there : goal.returns-then-is_at-clause-there
 returns-then-is_at-clause-there c = rw (← c.self.view_is, c.in-Some.is) (subst IsSome (sym (get-here _ _ (sym c.is_at.ensures ∙ c.if-is_at.true))) refl)
