@@ -9,7 +9,7 @@ use Rattle.input_log.specs.declared.logs.Payload.{Payload}
 use Rattle.checkpoint.specs.declared.heads.Head.{Head}
 use Rattle.image_text.specs.Payloads.{Batch}
 use Rattle.slot_images.specs.Images as images
-use Rattle.slot_images.specs.Images.{Checkpoint, values_in, checkpoint_of, IsBodyFor, Reading, BodyReads}
+use Rattle.slot_images.specs.Images.{Checkpoint, values_in, IsBodyFor, Reading, BodyReads}
 use Rattle.slot_images.proofs.Once.{body_once}
 use Rattle.store_files.specs.Openings.{Opened, NoGate, Damage, Taken, opened_of}
 use Rattle.store_files.specs.Holdings.{Holds}

@@ -1,7 +1,5 @@
 -- There are no four files that read as nothing.
 use Rattle.std.proofs.Common.{◌≡◌, ◌⊎◌, inl, inr, refl, ℕ, ◌+◌, List, [], ◌∷◌, length}
-use Rattle.checkpoint.specs.declared.heads.Head.{Head}
-use Rattle.image_text.specs.Bodies.{Values}
 use Rattle.image_text.specs.Payloads.{Batch}
 use Rattle.input_log.specs.Layout.{Log, Ends, Breaks}
 use Rattle.input_log.specs.declared.logs.Payload.{Payload}

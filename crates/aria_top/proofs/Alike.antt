@@ -43,7 +43,8 @@ bench_alone : (kind : Load) (settings : Bench) → bench_by kind settings ≡ be
 bench_alone load.Ycsb settings = refl
 bench_alone load.Tpcc settings = refl
 
-nodes_alone : (settings : Nodes) (left : Option (List ℕ)) → option_map (nodes.out_of settings) left ≡ option_map (nodes.out_of (record settings { nodes = 1 })) left
+nodes_alone : (settings : Nodes) (left : Option (List ℕ)) → option_map (nodes.out_of settings) left ≡ option_map
+    (nodes.out_of (record settings { nodes = 1 })) left
 nodes_alone settings None = refl
 nodes_alone settings (Some text) = refl
 

@@ -14,7 +14,7 @@ use Rattle.script_course.proofs.Turns.{front_all}
 use Rattle.disk_model.proofs.Spans.{still_none}
 use Rattle.script_course.specs.Causes.{IsReadCause}
 use Rattle.script_course.specs.Courses.{Out, status_of}
-use Rattle.script_course.specs.Served.{Completes, Finishes, FinishesCut, ToldWhere}
+use Rattle.script_course.specs.Served.{Completes, Finishes, FinishesCut}
 use Rattle.script_course.specs.declared.statuses.TheConstants.{DONE}
 use Rattle.script_course.specs.declared.stops.Stop.{Stop}
 use Rattle.script_course.specs.declared.stops.Stop.TheVariants as stop

@@ -24,7 +24,7 @@ use Rattle.nodes_command.specs.Outs as nodes
 use Rattle.run_commands.specs.Outs.{IsInRange}
 use Rattle.workloads.specs.Laws.{WordsAreWithin}
 use Rattle.aria_top.specs.Tasks as tasks
-use Rattle.aria_top.specs.Tasks.{command_in, task_by, task_in}
+use Rattle.aria_top.specs.Tasks.{task_by, task_in}
 use Rattle.aria_top.specs.declared.tasks.CommandTask.{CommandTask}
 
 -- ---- where a reader reads something, this holds of it

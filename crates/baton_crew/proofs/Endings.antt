@@ -1,20 +1,20 @@
 -- Where one seat has all shares, nothing ready and no slot, every item was taken by it once, and each slot is at home for good.
-use Rattle.std.proofs.Common.{◌≡◌, ◌≢◌, ℕ, zero, suc, ◌+◌, ◌<◌, ◌≤◌, ⊎_elim, Bool, true, false, List, [], ◌∷◌, length, get_or, sum_by, cond, subst, sym, refl, ap, ◌∙◌, arith}
-use Rattle.std.specs.Prelude.{nat_lt, nat_eq, ◌&&◌}
+use Rattle.std.proofs.Common.{◌≡◌, ◌≢◌, ℕ, zero, suc, ◌+◌, ◌<◌, ◌≤◌, ⊎_elim, Bool, true, false, List, [], ◌∷◌, cond, subst, sym, refl, ap, ◌∙◌, arith}
+use Rattle.std.specs.Prelude.{nat_lt}
 use Rattle.std.proofs.lemmas.Bool.{cases_eq, cases_lt, true_from_ne_false}
 use mathlib.Core.Option.{Option, some, none}
 use lib.ListN.{get_elem?}
 use Rattle.atomic_table.specs.Table.{State, Final, Seen}
 use Rattle.aria_base.proofs.Shares.{sum_by-alone}
 use Rattle.aria_base.specs.Shares.{all_shares}
-use Rattle.work_claim.specs.Rule.{times, once_below}
+use Rattle.work_claim.specs.Rule.{times}
 use Rattle.work_claim.specs.Seats.{IsEachOnce}
-use Rattle.baton_crew.specs.Courses.{Course, IsCourse}
-use Rattle.baton_crew.specs.Rule.{gone, opens, word_of, is_taken, is_ready, home_at, Waits, Kept, KeptAt, Holds, Idle}
+use Rattle.baton_crew.specs.Courses.{Course}
+use Rattle.baton_crew.specs.Rule.{opens, word_of, is_taken, is_ready, Kept, KeptAt}
 use Rattle.baton_crew.specs.declared.rules.View.{View}
 use Rattle.baton_crew.proofs.Counts.{times-cons}
 use Rattle.baton_crew.proofs.Seats.{share_of, taken_of, ready_of, none_there}
-use Rattle.baton_crew.proofs.Words.{taken_within, ready_is, left_number, is_below, not_below}
+use Rattle.baton_crew.proofs.Words.{taken_within, ready_is, is_below, not_below}
 
 -- none of the list passes
 count-none : (f : ℕ → Bool) (ks : List ℕ) → ((q : ℕ) → 1 ≤ times q ks → f q ≡ false) → Rattle.std.specs.Prelude.count_by f ks ≡ 0

@@ -1,15 +1,15 @@
 -- The rule holds when the board is made.
-use Rattle.std.proofs.Common.{◌≡◌, ◌≢◌, ℕ, zero, suc, ◌+◌, ◌-◌, ◌<◌, ◌≤◌, ⊎_elim, Bool, true, false, List, [], ◌∷◌, ◌++◌, map, length, sum_by, cond, subst, sym, refl, ap, ◌∙◌, arith}
-use Rattle.std.specs.Prelude.{nat_lt, nat_eq, ◌&&◌}
+use Rattle.std.proofs.Common.{◌≡◌, ◌≢◌, ℕ, zero, suc, ◌+◌, ◌-◌, ◌<◌, ◌≤◌, ⊎_elim, Bool, true, false, List, [], ◌∷◌, map, length, sum_by, cond, sym, refl, ap, ◌∙◌, arith}
+use Rattle.std.specs.Prelude.{nat_eq, ◌&&◌}
 use Rattle.std.proofs.lemmas.Bool.{cases_lt, true≢false, false_from_ne_true}
 use mathlib.Core.Option.{Option, some, none}
 use lib.ListN.{get_elem?}
 use Rattle.atomic_table.specs.Table.{opening}
 use Rattle.atomic_table.proofs.Lists.{at_map}
-use Rattle.aria_base.proofs.Shares.{Each, each-push}
+use Rattle.aria_base.proofs.Shares.{each-push}
 use Rattle.work_claim.specs.Rule.{times}
 use Rattle.baton_crew.specs.Courses.{Course, IsCourse}
-use Rattle.baton_crew.specs.Rule.{gone, opens, word_of, is_taken, is_ready, home_at, Waits, Kept, KeptAt, Holds, Idle, first_turn, first_ready, first_view}
+use Rattle.baton_crew.specs.Rule.{gone, opens, word_of, is_taken, is_ready, home_at, Kept, Holds, Idle, first_turn, first_ready, first_view}
 use Rattle.baton_crew.specs.declared.rules.View.{View}
 use Rattle.baton_crew.proofs.Words.{left_number, is_below, not_below, taken_within}
 use Rattle.baton_crew.proofs.Passes.{gap}

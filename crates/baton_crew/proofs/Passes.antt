@@ -1,22 +1,21 @@
 -- A seat that passes a slot on keeps the rule, whether another item waits for the slot or none does.
-use Rattle.std.proofs.Common.{◌≡◌, ◌≢◌, ℕ, zero, suc, ◌+◌, ◌-◌, ◌%◌, ◌^◌, ◌<◌, ◌≤◌, ◌⊎◌, inl, inr, ⊎_elim, Bool, true, false, List, [], ◌∷◌, ◌++◌, map, length, drop, get_or, set, sum_by, cond, eqb, subst, sym, refl, ap, ◌∙◌, arith, length-set, append-nil, mod-eq_of_lt, get_or-set_other}
+use Rattle.std.proofs.Common.{◌≡◌, ◌≢◌, ℕ, zero, suc, ◌+◌, ◌-◌, ◌%◌, ◌^◌, ◌<◌, ◌≤◌, ◌⊎◌, inl, inr, ⊎_elim, Bool, true, false, List, [], ◌∷◌, length, drop, get_or, set, sum_by, cond, eqb, subst, sym, refl, ap, ◌∙◌, arith, length-set, mod-eq_of_lt, get_or-set_other}
 use Rattle.std.specs.Prelude.{nat_lt, nat_eq, ◌&&◌}
 use Rattle.std.proofs.lemmas.Bool.{cases_eq, cases_lt, eq-eqb, ne_eqb, true≢false, false_from_ne_true}
-use Rattle.std.proofs.lemmas.Bool.Decides.{nat_tests}
 use Rattle.std.proofs.Math.Nat.{add-mod_right}
 use mathlib.Core.Option.{Option, some, none}
 use lib.ListN.{get_elem?}
-use Rattle.atomic_table.specs.Table.{State, Me, Act, gives, Allows, rest, put_back}
+use Rattle.atomic_table.specs.Table.{State, Me, gives, Allows, rest, put_back}
 use Rattle.atomic_table.proofs.Lists.{at_set, set_here, set_else}
-use Rattle.aria_base.proofs.Shares.{Each, each-set, sum_by-set, sum_by-at, sum_by-at_two}
+use Rattle.aria_base.proofs.Shares.{each-set, sum_by-set, sum_by-at, sum_by-at_two}
 use Rattle.work_claim.specs.Rule.{times}
 use Rattle.baton_crew.specs.Courses.{Course, IsCourse, IsNext}
 use Rattle.baton_crew.specs.Rule.{gone, opens, word_of, is_taken, is_ready, home_at, Waits, Kept, KeptAt, Holds, Idle, with_passed}
 use Rattle.baton_crew.specs.declared.rules.View.{View}
-use Rattle.baton_crew.proofs.Counts.{times-cons, times-here, times-append, count-some, count-same, count-less}
+use Rattle.baton_crew.proofs.Counts.{times-cons, times-append, count-some, count-same, count-less}
 use Rattle.baton_crew.proofs.Homes.{there_below}
 use Rattle.baton_crew.proofs.Seats.{taken_of, ready_of, none_there}
-use Rattle.baton_crew.proofs.Words.{one_if, left_number, is_below, not_below, ready_is, unready_is, word_here, word_else, taken_within}
+use Rattle.baton_crew.proofs.Words.{one_if, left_number, is_below, not_below, word_here, word_else, taken_within}
 
 abbrev pub turned_on : ℕ → ℕ → (ℕ → ℕ) → ℕ → ℕ
 turned_on k j turn q = cond (eqb q k) j (turn q)

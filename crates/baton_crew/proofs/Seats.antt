@@ -1,14 +1,13 @@
 -- Split and join keep the rule: they change two views, and neither words nor homes nor turns.
-use Rattle.std.proofs.Common.{◌≡◌, ◌≢◌, ℕ, zero, suc, ◌+◌, ◌/◌, ◌<◌, ◌≤◌, ⊎_elim, List, [], ◌∷◌, ◌++◌, length, set, sum_by, subst, sym, refl, ap, ◌∙◌, arith, Some, None}
+use Rattle.std.proofs.Common.{◌≡◌, ◌≢◌, ℕ, zero, suc, ◌+◌, ◌/◌, ◌<◌, ◌≤◌, ⊎_elim, List, [], ◌∷◌, length, set, subst, sym, refl, ap, ◌∙◌, arith, Some, None}
 use Rattle.std.proofs.lemmas.Bool.{cases_lt}
 use mathlib.Core.Option.{some}
-use lib.ListN.{get_elem?}
-use Rattle.atomic_table.specs.Table.{State, Splits, Joins}
+use Rattle.atomic_table.specs.Table.{Splits, Joins}
 use Rattle.atomic_table.proofs.Lists.{set_else}
-use Rattle.aria_base.proofs.Shares.{Each, each-set, each-push, sum_by-set_two, sum_by-set_push}
+use Rattle.aria_base.proofs.Shares.{each-set, each-push, sum_by-set_two, sum_by-set_push}
 use Rattle.work_claim.specs.Rule.{times}
 use Rattle.baton_crew.specs.Courses.{Course}
-use Rattle.baton_crew.specs.Rule.{Kept, KeptAt, Holds, Idle, left_half, right_half, sum_of, spent_view}
+use Rattle.baton_crew.specs.Rule.{Kept, Holds, Idle, left_half, right_half, sum_of, spent_view}
 use Rattle.baton_crew.specs.declared.rules.View.{View}
 use Rattle.baton_crew.proofs.Counts.{times-append, times-halves}
 

@@ -1,14 +1,13 @@
 -- A seat that takes an item's slots keeps the rule.
-use Rattle.std.proofs.Common.{◌≡◌, ◌≢◌, ℕ, zero, suc, ◌+◌, ◌<◌, ◌≤◌, ⊎_elim, Bool, true, false, List, [], ◌∷◌, ◌++◌, map, length, set, sum_by, cond, eqb, subst, sym, refl, ap, ◌∙◌, arith, length-set, append-nil}
+use Rattle.std.proofs.Common.{◌≡◌, ◌≢◌, ℕ, zero, suc, ◌+◌, ◌<◌, ◌≤◌, ⊎_elim, Bool, true, false, List, [], ◌∷◌, ◌++◌, length, set, sum_by, cond, eqb, subst, sym, refl, ap, ◌∙◌, arith, length-set, append-nil}
 use Rattle.std.proofs.lemmas.Bool.{cases_eq, cases_lt, eq-eqb, ne_eqb}
-use Rattle.std.proofs.lemmas.Bool.Decides.{nat_tests}
 use mathlib.Core.Option.{Option, some, none}
 use lib.ListN.{get_elem?}
-use Rattle.atomic_table.specs.Table.{State, Me, Act, Allows, Valid, homes_after, carried_after}
-use Rattle.aria_base.proofs.Shares.{Each, each-set, sum_by-set, sum_by-at}
+use Rattle.atomic_table.specs.Table.{State, Me, Allows, homes_after}
+use Rattle.aria_base.proofs.Shares.{each-set, sum_by-set, sum_by-at}
 use Rattle.work_claim.specs.Rule.{times}
 use Rattle.baton_crew.specs.Courses.{Course, IsCourse}
-use Rattle.baton_crew.specs.Rule.{gone, opens, word_of, is_taken, is_ready, home_at, Waits, Kept, KeptAt, Holds, Idle, fewer_ready, with_taken, took_at}
+use Rattle.baton_crew.specs.Rule.{gone, word_of, is_taken, is_ready, home_at, Waits, Kept, KeptAt, Holds, Idle, fewer_ready, with_taken, took_at}
 use Rattle.baton_crew.specs.declared.rules.View.{View}
 use Rattle.baton_crew.proofs.Counts.{times-push, count-some}
 use Rattle.baton_crew.proofs.Homes.{there_below, takes_all, pairs, carried-all, homes-else, homes-here, takes-valid}

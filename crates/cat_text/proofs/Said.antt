@@ -1,6 +1,6 @@
 -- What the reader of catalogues tells is what the text says.
-use Rattle.std.proofs.Common.{◌≡◌, ℕ, ◌+◌, ◌≤◌, List, [], ◌∷◌, Option, Some, None, Bool, true, false, cond, refl, ap, sym, ◌∙◌, arith, rules}
-use Rattle.std.specs.Prelude.{IsUtf8, All, Result}
+use Rattle.std.proofs.Common.{◌≡◌, ℕ, ◌+◌, ◌≤◌, List, [], ◌∷◌, Option, Some, None, Bool, true, false, cond, refl, ap, sym, ◌∙◌, rules}
+use Rattle.std.specs.Prelude.{All, Result}
 use Rattle.std.specs.declared.result.Result.TheVariants.{Ok, Err}
 use Rattle.std.specs.Str.{is_utf8}
 use Rattle.std.proofs.lemmas.List.Elements.{All-head, All-tail}
@@ -12,17 +12,16 @@ use Rattle.proc_lang.specs.declared.procs.PathPart.{PathPart}
 use Rattle.proc_lang.specs.Catalogs.{Plan, IsCatalog}
 use Rattle.proc_lang.specs.Typing.{IsWellTyped}
 use Rattle.serde_json.specs.Data.{Data}
-use Rattle.serde_json.specs.Read.{read}
 use Rattle.cat_forms.specs.PlanWalks.{plan_of}
 use Rattle.cat_forms.specs.Texts.{Says, Tells}
-use Rattle.cat_read.specs.Texts.{first_wrong, wrong_from, Refuses}
+use Rattle.cat_read.specs.Texts.{wrong_from, Refuses}
 use Rattle.cat_read.specs.declared.refusals.CatRefused.{CatRefused}
 use Rattle.cat_read.specs.declared.refusals.CatRefused.TheVariants as refused
 use Rattle.script_text.specs.Answers.{Answers}
 use Rattle.cat_read.proofs.Sealings.{wrong_from-typed}
 use Rattle.script_text.specs.declared.refusals.RefusalKind.TheVariants.{Catalog}
 use Rattle.script_text.specs.declared.refusals.CatFault.TheVariants as fault
-use Rattle.cat_text.specs.Texts.{typed_by, shaped_by, read_by, catalog_of, refusal_of}
+use Rattle.cat_text.specs.Texts.{typed_by, shaped_by, catalog_of, refusal_of}
 
 none_wrong : (tables : List Table) (number : ℕ) (procs : List Proc) → All (IsWellTyped tables) procs → wrong_from tables number procs ≡ None
 none_wrong tables number [] typed = refl

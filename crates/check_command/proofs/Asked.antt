@@ -151,5 +151,6 @@ module _ (counts : Counts) where
       let q : ScriptPlace = next_line p in
       keeps_if counts.batches q.reports (Ok (q, deed.Tell)) (by_head q counts q.head (said line)) (λ e. tt) (line_keeps q q.head (said line))
 
-  pub kept_before : (p : ScriptPlace) (line : List ℕ) (after : ScriptPlace) (number : ℕ) → asked p counts line ≡ Ok (after, deed.Keep number) → number ≤ counts.batches
+  pub kept_before : (p : ScriptPlace) (line : List ℕ) (after : ScriptPlace) (number : ℕ) → asked p counts line ≡ Ok (after, deed.Keep number)
+      → number ≤ counts.batches
   kept_before p line after number e = subst (λ (a : Asked). Kept a) e (asked_keeps p line)

@@ -8,7 +8,7 @@ use Rattle.core_machine.specs.declared.events.Event.TheVariants.{Execute, MarkRe
 use Rattle.core_machine.specs.declared.cores.Core.{Core}
 use Rattle.core_machine.specs.Events.{phase_of, tid_in}
 use Rattle.core_machine.specs.Machines.{and_then}
-use Rattle.core_machine.specs.Found.{at_tid, outcome_of, read_at, write_at, finishes_by}
+use Rattle.core_machine.specs.Found.{at_tid, outcome_of, write_at, finishes_by}
 use Rattle.core_machine.specs.declared.phases.Phase.{Phase}
 use Rattle.core_machine.specs.declared.phases.Phase.TheVariants as phase
 use Rattle.core_machine.specs.Phases.{ended}

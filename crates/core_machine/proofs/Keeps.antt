@@ -1,6 +1,6 @@
 -- What holds of the machine after any legal list of events: a sentence over the set of those that have come.
-use Rattle.std.proofs.Common.{◌≡◌, ◌≢◌, ℕ, zero, suc, ◌+◌, ◌-◌, ◌*◌, ◌<◌, ◌≤◌, ◌⊎◌, inl, inr, ⊎_elim, min, List, [], ◌∷◌, length, take, Bool, true, false, cond, Some, None, Option, refl, sym, ap, ◌∙◌, subst, Ordering, arith, Contains}
-use Rattle.std.specs.Prelude.{slice_get, ⊤, is_some, ◌==◌}
+use Rattle.std.proofs.Common.{◌≡◌, ◌≢◌, ℕ, zero, suc, ◌+◌, ◌-◌, ◌<◌, ◌≤◌, ◌⊎◌, inl, inr, ⊎_elim, min, List, [], ◌∷◌, length, take, Bool, true, false, cond, Some, None, Option, refl, sym, ap, ◌∙◌, subst, Ordering, arith, Contains}
+use Rattle.std.specs.Prelude.{slice_get, ⊤, is_some}
 use Rattle.std.specs.Option.{option_map}
 use Rattle.std.specs.Ordering.{eq_by_cmp, is_eq}
 use Rattle.std.specs.Cmp.{IsTotalOrder, tied_itself}
@@ -23,7 +23,7 @@ use Rattle.batch_rules.proofs.Meets.{meeting}
 use Rattle.batch_rules.proofs.Writers.{after_commit_at}
 use Rattle.core_machine.specs.declared.events.Event.{Event}
 use Rattle.core_machine.specs.declared.events.Event.TheVariants.{Execute, MarkRead, MarkWrite, Decide, Install, Turn}
-use Rattle.core_machine.specs.Events.{SoFar, at_first, phase_of, turned, along, all_along, IsSettled, Stands, Asked, IsDue, IsLegal}
+use Rattle.core_machine.specs.Events.{SoFar, at_first, phase_of, turned, along, all_along, Stands, Asked, IsDue, IsLegal}
 use Rattle.core_machine.specs.Machines.{Held, put, and_then, installed, marked, least_told, decide, begun, step, steps, IsCommitted, AreFirst, Commits}
 use Rattle.core_machine.proofs.Told.{LeastOf, one_least, word_tells, AtOne, least_of_keys}
 use Rattle.core_machine.proofs.Listed.{judged_at, judged_has, take_get, get_take, get_below, among_at, at_among, Once, once_writes, found_at, at_found, Holder, least-holder}

@@ -1,19 +1,19 @@
 -- The words of any legal list of mark events are those of the batch's marks.
 use Rattle.std.proofs.Common.{◌≡◌, ℕ, zero, suc, ◌+◌, ◌-◌, ◌*◌, ◌<◌, ◌≤◌, ◌⊎◌, ⊎_elim, inl, inr, List, [], ◌∷◌, length, map, Bool, true, false, cond, Some, None, Option, refl, sym, ap, ◌∙◌, subst, Ordering, arith, Contains}
 use Rattle.std.specs.Prelude.{slice_get, slice_index, slice_index_or, All}
-use Rattle.std.specs.Ordering.{eq_by_cmp, nat_cmp}
+use Rattle.std.specs.Ordering.{nat_cmp}
 use Rattle.std.specs.Cmp.{IsTotalOrder, tied_itself}
 use Rattle.std.specs.FinMap.{FinMap, IsAntisymmetric}
 use Rattle.std.specs.Ordering.{is_eq}
 use Rattle.std.proofs.lemmas.Cmp.{nat_cmp_total}
 use Rattle.std.proofs.lemmas.List.Elements.{All-contains}
 use Rattle.std.proofs.lemmas.Option.{get_or_from_slice_get}
-use Rattle.aria_base.specs.Reserved.{start_of, number_under, AreAbove, AreWords, HasTid, IsMarked, place_of, word_of}
-use Rattle.aria_base.specs.declared.limits.TheConstants.{MOST_REQUESTS, TAGS, TAG_SPAN}
+use Rattle.aria_base.specs.Reserved.{start_of, AreAbove, AreWords, HasTid, IsMarked, place_of}
+use Rattle.aria_base.specs.declared.limits.TheConstants.{MOST_REQUESTS, TAGS}
 use Rattle.aria_base.specs.declared.marks.Mark.{Mark}
 use Rattle.aria_base.proofs.Reserved.{word_of-least, start_above, place_of-write, place_of-read}
 use Rattle.batch_rules.specs.declared.verdicts.Rule.{Rule}
-use Rattle.batch_rules.specs.Numberings.{IsOneToOneOn, HasKeysOf}
+use Rattle.batch_rules.specs.Numberings.{IsOneToOneOn}
 use Rattle.batch_rules.specs.Touches.{is_among}
 use Rattle.batch_rules.specs.Trees.{Tree}
 use Rattle.batch_rules.specs.Batches.{Carrier, Judged, judged, touching, written, on_start}

@@ -1,25 +1,24 @@
 -- The machine in code takes an event as the machine of the definition does.
-use Rattle.std.proofs.Common.{◌≡◌, ◌≢◌, ℕ, zero, suc, ◌+◌, ◌-◌, ◌^◌, ◌<◌, ◌≤◌, ◌⊎◌, ◌↔◌, inl, inr, ⊎_elim, min, List, [], ◌∷◌, ◌++◌, length, map, take, Bool, true, false, cond, Some, None, Option, refl, sym, ap, ◌∙◌, subst, Ordering, arith, Contains, set}
+use Rattle.std.proofs.Common.{◌≡◌, ◌≢◌, ℕ, zero, suc, ◌+◌, ◌-◌, ◌^◌, ◌<◌, ◌≤◌, ◌⊎◌, ◌↔◌, inl, inr, ⊎_elim, List, [], ◌∷◌, ◌++◌, length, map, take, Bool, true, false, cond, Some, None, Option, refl, sym, ap, ◌∙◌, subst, arith, Contains}
 use Rattle.std.proofs.Math.Path.{fun_ext}
 use Rattle.std.specs.Prelude.{slice_get, slice_set, is_some, ◌==◌, ◌&&◌, not, MatchBool}
 use Rattle.std.specs.Option.{option_map}
 use Rattle.std.specs.Ordering.{is_eq}
 use Rattle.std.specs.Cmp.{Equal-is}
 use Rattle.std.specs.BTreeMap.{is_at}
-use Rattle.std.proofs.lemmas.Bool.{cases_eq, cases_lt, eq-eqb, ne_eqb, eqb-true, false≢true}
+use Rattle.std.proofs.lemmas.Bool.{cases_eq, eq-eqb, ne_eqb, eqb-true, false≢true}
 use Rattle.std.proofs.lemmas.List.{append_assoc}
 use Rattle.aria_base.specs.Orders.{key_cmp, Cells, Database}
 use Rattle.aria_base.specs.Reserved.{number_under}
 use Rattle.aria_base.specs.declared.keys.Key.{Key}
 use Rattle.aria_base.specs.declared.calls.Request.{Request}
-use Rattle.aria_base.specs.declared.limits.TheConstants.{MOST_REQUESTS, TAG_SPAN}
+use Rattle.aria_base.specs.declared.limits.TheConstants.{MOST_REQUESTS}
 use Rattle.aria_base.proofs.Orders.{key_cmp_total, key_cmp-IsAntisymmetric}
 use Rattle.proc_lang.specs.Catalogs.{run_of}
 use Rattle.proc_lang.specs.Meaning.{is_done}
 use Rattle.proc_lang.specs.declared.ends.End.{End}
 use Rattle.batch_rules.specs.declared.verdicts.Verdict.{Verdict}
-use Rattle.batch_rules.specs.Verdicts.{finishes}
-use Rattle.batch_rules.specs.Batches.{Carrier, Judged, judged, touching, written, on_start}
+use Rattle.batch_rules.specs.Batches.{Carrier, Judged, judged, touching, written}
 use Rattle.batch_rules.proofs.Judges.{length-judged}
 use Rattle.proc_exec.specs.declared.outcomes.Outcome.{Outcome}
 use Rattle.proc_exec.specs.Outcomes.{outcome_at}
@@ -27,13 +26,13 @@ use Rattle.core_machine.specs.declared.events.Event.{Event}
 use Rattle.core_machine.specs.declared.events.Event.TheVariants.{Execute, MarkRead, MarkWrite, Decide, Install, Turn}
 use Rattle.core_machine.specs.declared.cores.Core.{Core}
 use Rattle.core_machine.specs.declared.decisions.TheConstants.{TAG}
-use Rattle.core_machine.specs.Events.{SoFar, at_first, phase_of, place_in, turned, along, all_along, IsSettled, Stands, Asked, IsDue, IsLegal}
+use Rattle.core_machine.specs.Events.{SoFar, at_first, phase_of, place_in, turned, along, all_along, IsSettled, Stands, Asked, IsLegal}
 use Rattle.core_machine.specs.Machines.{Held, put, and_then, installed, marked, decide, begun, step, steps, AreFirst, IsCommitted}
 use Rattle.core_machine.specs.Found.{at_tid, outcome_of, read_at, write_at, finishes_by}
 use Rattle.core_machine.specs.Kinds.{is_in}
 use Rattle.core_machine.specs.Phases.{ended}
 use Rattle.core_machine.specs.Words.{word_in, ran}
-use Rattle.core_machine.specs.Cores.{Course, unmarked, carrier, after, IsCourse, IsNext, held, has_come, HasTaken, IsTid, CanTake, asks, is_open, AllCame, AllCameOf, SomeLeft, Becomes, Performs, executed, told, verdicts_of, database_of}
+use Rattle.core_machine.specs.Cores.{Course, unmarked, carrier, after, IsCourse, IsNext, held, has_come, HasTaken, asks, is_open, AllCame, SomeLeft, Becomes, Performs, executed, told, verdicts_of, database_of}
 use Rattle.core_machine.proofs.Listed.{judged_at, judged_has, get_below, Once}
 use Rattle.core_machine.proofs.Keeps.{came_cases, came_now, came_before, put_here, put_else, Keeps, known, kept_all_along, at_begin, settled, rows_once}
 use Rattle.core_machine.proofs.Courses.{along_append, legal_append}

@@ -21,8 +21,8 @@ use Rattle.core_machine.specs.declared.refusals.CoreRefused.{CoreRefused}
 use Rattle.core_machine.specs.declared.refusals.CoreRefused.TheVariants as refused
 use Rattle.core_machine.specs.declared.cores.Core.{Core}
 use Rattle.core_machine.specs.declared.decisions.TheConstants.{TAG}
-use Rattle.core_machine.specs.Events.{SoFar, at_first, all_along, phase_of, tid_in, place_in, IsDue, IsLegal, IsSettled}
-use Rattle.core_machine.specs.Machines.{Held, and_then, installed, marked, decide, begun, steps}
+use Rattle.core_machine.specs.Events.{SoFar, at_first, all_along, phase_of, tid_in, place_in, IsDue, IsLegal}
+use Rattle.core_machine.specs.Machines.{Held, installed, marked, decide, begun, steps}
 use Rattle.core_machine.specs.Found.{at_tid, outcome_of, read_at, write_at, finishes_by}
 use Rattle.core_machine.specs.Kinds.{is_in}
 use Rattle.core_machine.specs.Phases.{ended}

@@ -1,6 +1,5 @@
 -- Reservation words by keys, and what is found of requests that ran.
-use Rattle.std.specs.Prelude.{ℕ, ◌-◌, ◌^◌, List, slice_get, Option, Some, None}
-use Rattle.std.specs.declared.cmp.Ordering.{Ordering}
+use Rattle.std.specs.Prelude.{ℕ, ◌-◌, ◌^◌, List, Option, Some, None}
 use Rattle.std.specs.BTreeMap.{get}
 use Rattle.std.specs.Option.{unwrap_or}
 use Rattle.aria_base.specs.Orders.{Cells}

@@ -1,15 +1,14 @@
 -- What the words tell of a request's keys is the least earlier request of which its dependency holds.
-use Rattle.std.proofs.Common.{◌≡◌, refl, sym, ap, ◌∙◌, ℕ, zero, suc, ◌+◌, ◌*◌, ◌-◌, ◌<◌, ◌≤◌, Bool, true, false, cond, List, [], ◌∷◌, take, map, Option, Some, None, All, length, get_or, arith}
-use Rattle.std.specs.Prelude.{⊤, ◌||◌, min, nat_lt, slice_index, slice_index_or}
+use Rattle.std.proofs.Common.{◌≡◌, refl, sym, ap, ◌∙◌, ℕ, zero, suc, ◌+◌, ◌-◌, ◌<◌, ◌≤◌, Bool, true, false, cond, List, [], ◌∷◌, take, Option, Some, None, All, get_or, arith}
+use Rattle.std.specs.Prelude.{⊤, ◌||◌, nat_lt, slice_index_or}
 use Rattle.std.specs.List.{position_from, range_with_len}
 use Rattle.std.specs.Ordering.{nat_cmp}
 use Rattle.std.proofs.lemmas.Bool.{ltb-true, lt-ltb}
 use Rattle.std.proofs.lemmas.List.Elements.{All-head, All-tail}
-use Rattle.aria_base.specs.Reserved.{tid_under}
 use Rattle.batch_rules.specs.Touches.{is_among}
 use Rattle.batch_rules.specs.Verdicts.{meets, least}
 use Rattle.dep_rules.specs.Sheets.{Sheet, IsTid, reads_at, writes_at}
-use Rattle.dep_rules.specs.Words.{Tell, tids_before, place_on, earlier_only, lesser, told, least_of}
+use Rattle.dep_rules.specs.Words.{Tell, tids_before, earlier_only, lesser, told, least_of}
 use Rattle.dep_rules.specs.declared.decisions.Side.TheVariants as side
 
 -- ---- the first place of which a test holds

@@ -1,6 +1,6 @@
 -- Words that stand for the least TIDs of a batch's marks tell the least requests that have each key.
 use Rattle.std.proofs.Common.{◌≡◌, refl, ap, sym, subst, ◌∙◌, ℕ, ◌+◌, ◌*◌, ◌-◌, ◌<◌, ◌≤◌, inl, inr, Bool, true, false, cond, List, [], Option, Some, None, Contains, length, arith}
-use Rattle.std.specs.Prelude.{IsSomeAnd, slice_get, slice_index, slice_index_or}
+use Rattle.std.specs.Prelude.{IsSomeAnd, slice_get, slice_index_or}
 use Rattle.std.specs.Ordering.{nat_cmp}
 use Rattle.std.specs.FinMap.{nat_cmp-IsAntisymmetric}
 use Rattle.std.proofs.lemmas.Bool.{cases_lt}
@@ -8,7 +8,7 @@ use Rattle.std.proofs.lemmas.Cmp.{nat_cmp_total, eq_by_cmp_equiv}
 use Rattle.std.proofs.lemmas.Map.Views.{Contains-from_any, list_any-from_Contains}
 use Rattle.std.proofs.lemmas.Option.{slice_get-get_or}
 use Rattle.aria_base.specs.declared.marks.Mark.{Mark}
-use Rattle.aria_base.specs.Reserved.{StandFor, tid_under, least_tid, place_of, IsMarked, IsLeast}
+use Rattle.aria_base.specs.Reserved.{StandFor, least_tid, place_of, IsMarked, IsLeast}
 use Rattle.aria_base.proofs.Reserved.{IsLeast-least_tid, place_of-write, place_of-read}
 use Rattle.batch_rules.specs.Laws.{IsLeast as IsLeastOf}
 use Rattle.batch_rules.specs.Touches.{is_among}

@@ -1,9 +1,8 @@
 -- A body is read exactly where it is the text of some values.
-use Rattle.std.proofs.Common.{◌≡◌, ◌≢◌, ℕ, zero, suc, ◌+◌, ◌<◌, ◌≤◌, ◌^◌, List, [], ◌∷◌, ◌++◌, length, map, get_or, Option, Some, None, Bool, true, false, cond, refl, ap, subst, sym, ◌∙◌, arith}
+use Rattle.std.proofs.Common.{◌≡◌, ◌≢◌, ℕ, zero, suc, ◌+◌, ◌<◌, ◌≤◌, ◌^◌, List, [], ◌∷◌, ◌++◌, map, get_or, Option, Some, None, Bool, true, false, cond, refl, ap, subst, sym, ◌∙◌, arith}
 use Rattle.std.specs.Prelude.{All, option_map, option_and_then, slice_index, ◌==◌}
-use Rattle.std.specs.Option.{IfSome}
 use Rattle.std.specs.FinMap as fin
-use Rattle.std.proofs.lemmas.List.{append_assoc, append-nil, map-append}
+use Rattle.std.proofs.lemmas.List.{append_assoc}
 use Rattle.std.proofs.lemmas.Grind.{flat_map-append}
 use Rattle.std.proofs.lemmas.List.Elements.{All-head, All-tail, All-nil, All-append, All-map}
 use Rattle.aria_base.specs.Orders.{Cells, Database, key_cmp}
@@ -15,17 +14,17 @@ use Rattle.cat_forms.specs.Texts.{Tells}
 use Rattle.batch_rules.proofs.Lists.{All-unmapped}
 use Rattle.script_text.specs.Cuts.{Lacks}
 use Rattle.script_text.specs.Written.{IsArgs}
-use Rattle.image_text.specs.Lines.{lines_text, written, lines_taken, pushes}
-use Rattle.image_text.specs.Exactly.{line_of_row, exact_row, IsRowOf, IsCallOf}
-use Rattle.image_text.specs.Helds.{line_of_held, exact_held, IsHeldOf}
-use Rattle.image_text.specs.Entries.{Entry, OfRow, OfHeld, line_of, IsEntryOf, entry_of, Taken, nothing, push, take, IsRowHeld, IsRequestHeld, AreHeld}
+use Rattle.image_text.specs.Lines.{lines_text, written, lines_taken}
+use Rattle.image_text.specs.Exactly.{line_of_row, exact_row, IsRowOf}
+use Rattle.image_text.specs.Helds.{line_of_held, exact_held}
+use Rattle.image_text.specs.Entries.{Entry, OfRow, OfHeld, line_of, IsEntryOf, entry_of, Taken, nothing, push, take, IsRowHeld, AreHeld}
 use Rattle.image_text.specs.Fronts.{catalog_text, front_text, front_of, IsNoPiece}
 use Rattle.image_text.specs.Bodies.{Values, entry_lines, body_text, IsBody, AreThose, read_rest, read_body}
-use Rattle.image_text.proofs.LinesTaken.{written_is, items_again, items_read, IsText}
+use Rattle.image_text.proofs.LinesTaken.{written_is, items_again, items_read}
 use Rattle.image_text.proofs.Exactness.{row_written, row_read, row_lacks}
 use Rattle.image_text.proofs.HeldsAgain.{held_written, held_read, held_lacks}
 use Rattle.image_text.proofs.RowsRise.{ascend, entries_again, entries_rise, entry_there, entries_found}
-use Rattle.image_text.proofs.EntriesPushed.{taken_of, entries_in, entries_pushed, grown, IsGrown}
+use Rattle.image_text.proofs.EntriesPushed.{taken_of, entries_in, entries_pushed, grown}
 use Rattle.image_text.proofs.FrontsRead.{front_again, front_read}
 
 -- ---- one entry

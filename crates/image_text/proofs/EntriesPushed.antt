@@ -1,5 +1,5 @@
 -- What entries lead to: the rows among them, which come first and rise, and then the requests.
-use Rattle.std.proofs.Common.{◌≡◌, ℕ, ◌+◌, ◌<◌, List, [], ◌∷◌, ◌++◌, length, map, Option, Some, None, Bool, true, false, cond, refl, ap, subst, sym, ◌∙◌, arith}
+use Rattle.std.proofs.Common.{◌≡◌, ℕ, ◌+◌, ◌<◌, List, [], ◌∷◌, ◌++◌, length, map, Option, Some, None, Bool, true, false, cond, refl, ap, sym, ◌∙◌, arith}
 use Rattle.std.specs.Prelude.{option_and_then, ◌&&◌, ◌==◌}
 use Rattle.std.proofs.lemmas.Bool.{and_parts, and_from, eqb-true}
 use Rattle.std.proofs.lemmas.List.{append_assoc, append-nil}
@@ -8,7 +8,7 @@ use Rattle.aria_base.specs.Orders.{Cells}
 use Rattle.aria_base.specs.declared.keys.Key.{Key}
 use Rattle.aria_base.specs.declared.calls.Request.{Request}
 use Rattle.image_text.specs.Lines.{pushes}
-use Rattle.image_text.specs.Entries.{Entry, OfRow, OfHeld, Taken, nothing, last_key, is_above, push}
+use Rattle.image_text.specs.Entries.{Entry, OfRow, OfHeld, Taken, last_key, is_above, push}
 use Rattle.image_text.proofs.RowsRise.{ascend, last_pushed}
 
 abbrev pub entries_in : List (Key × Cells) → List Request → List Entry

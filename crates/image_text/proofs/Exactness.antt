@@ -1,8 +1,6 @@
 -- What is read exactly is written as its line, and what is written is read exactly.
-use Rattle.std.proofs.Common.{◌≡◌, ℕ, List, Option, Some, None, Bool, true, false, cond, refl, ap, sym, subst, ◌∙◌, arith}
+use Rattle.std.proofs.Common.{◌≡◌, ℕ, List, Option, Some, None, Bool, true, false, cond, refl, ap, sym, ◌∙◌}
 use Rattle.std.specs.Prelude.{Result, Ok, Err, bytes_eq, ok_or}
-use Rattle.std.specs.List.{list_all}
-use Rattle.std.specs.Bool.{IsTrue}
 use Rattle.std.proofs.lemmas.Slice.Eq.{bytes_eq-Decides}
 use Rattle.aria_base.specs.Orders.{Cells}
 use Rattle.aria_base.specs.Schemas.{Fits}
@@ -16,7 +14,7 @@ use Rattle.script_text.specs.declared.items.Item.TheVariants as item
 use Rattle.script_text.specs.declared.refusals.RefusalKind.{RefusalKind}
 use Rattle.script_text.specs.declared.refusals.RefusalKind.TheVariants.{Word, Argument, Byte}
 use Rattle.script_text.specs.Cuts.{Lacks}
-use Rattle.script_text.specs.Fits.{row_fits, row_in, placed_row, fitted_row, row_said, call_of, placed_call, fitted_call, call_said, and_then, table_named, proc_named}
+use Rattle.script_text.specs.Fits.{row_fits, row_in, fitted_row, row_said, call_of, fitted_call, call_said, and_then, table_named, proc_named}
 use Rattle.script_text.specs.Forms.{said, is_printed, line_item}
 use Rattle.script_text.proofs.WrittenAgain.{row_again, call_again}
 use Rattle.script_text.proofs.FitsDecided.{fits_indeed}

@@ -1,6 +1,6 @@
 -- The catalogue that a body begins with is read exactly.
 use Rattle.std.proofs.Common.{◌≡◌, ℕ, zero, suc, ◌+◌, ◌-◌, ◌<◌, ◌≤◌, ◌≢◌, List, [], ◌∷◌, ◌++◌, length, map, take, drop, Option, Some, None, Bool, true, false, cond, refl, ap, subst, sym, ◌∙◌, arith, length-take}
-use Rattle.std.specs.Prelude.{All, option_map, option_and_then, ◌==◌, ◌&&◌, not, bytes_eq, slice_index, Ok}
+use Rattle.std.specs.Prelude.{All, option_map, option_and_then, ◌==◌, not, bytes_eq, Ok}
 use Rattle.std.specs.List.{list_all, concat}
 use Rattle.std.proofs.lemmas.Bool.{and_parts, and_from, eq-eqb, eqb-true, ne_eqb}
 use Rattle.std.proofs.Math.Seq.{take-append_seam, drop-append_seam}

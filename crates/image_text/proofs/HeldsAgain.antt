@@ -1,9 +1,9 @@
 -- The line of a carried request is read exactly.
-use Rattle.std.proofs.Common.{◌≡◌, ℕ, ℤ, pos, negsuc, ◌+◌, ◌<◌, ◌≤◌, ◌^◌, List, [], ◌∷◌, ◌++◌, Option, Some, None, Bool, true, false, cond, refl, ap, sym, ◌∙◌, arith}
-use Rattle.std.specs.Prelude.{◌==◌, ◌&&◌, not, codes, bytes_eq, decimal, option_map, option_and_then, Result, Ok}
+use Rattle.std.proofs.Common.{◌≡◌, ℕ, pos, ◌+◌, ◌<◌, ◌≤◌, ◌^◌, List, [], ◌∷◌, ◌++◌, Option, Some, None, Bool, true, false, cond, refl, ap, sym, ◌∙◌, arith}
+use Rattle.std.specs.Prelude.{◌==◌, not, codes, decimal, option_map, option_and_then, Result, Ok}
 use Rattle.std.specs.List.{list_all}
 use Rattle.std.specs.Char.{is_ascii_digit}
-use Rattle.std.proofs.lemmas.Bool.{and_parts, and_from, ne_eqb}
+use Rattle.std.proofs.lemmas.Bool.{and_parts, and_from}
 use Rattle.std.proofs.lemmas.List.{append_assoc}
 use Rattle.std.proofs.lemmas.Int.{ints}
 use Rattle.std.proofs.lemmas.Grind.{common_steps}
@@ -13,12 +13,12 @@ use Rattle.proc_lang.specs.Catalogs.{Plan, IsCatalog, takes}
 use Rattle.script_text.specs.declared.refusals.RefusalKind.{RefusalKind}
 use Rattle.script_text.specs.Cuts.{Lacks}
 use Rattle.script_text.specs.Fits.{call_said}
-use Rattle.script_text.specs.Numbers.{is_i64, number_of}
+use Rattle.script_text.specs.Numbers.{is_i64}
 use Rattle.script_text.specs.Tokens.{arg_token, spaced}
 use Rattle.script_text.specs.Written.{proc_name}
 use Rattle.script_text.proofs.NumbersAgain.{number_again, are_digits}
-use Rattle.image_text.specs.Exactly.{found, line_of_call, IsCallOf}
-use Rattle.image_text.specs.Helds.{line_of_held, cut, behind_held, with_call, with_q, natural, natural_of, with_parts, parts_of, held_said, exact_held, IsHeldOf}
+use Rattle.image_text.specs.Exactly.{found}
+use Rattle.image_text.specs.Helds.{line_of_held, with_call, with_q, natural, natural_of, with_parts, parts_of, held_said, exact_held, IsHeldOf}
 use Rattle.image_text.proofs.CutsFound.{cut_again}
 use Rattle.image_text.proofs.Exactness.{exactly_again, exactly_read, call_says, call_takes, call_lacks}
 use Rattle.image_text.proofs.NoFeeds.{joined, decimal_lacks}

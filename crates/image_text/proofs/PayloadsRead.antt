@@ -1,20 +1,18 @@
 -- A payload is read exactly where it is the text of some batch.
-use Rattle.std.proofs.Common.{◌≡◌, ℕ, ◌+◌, ◌<◌, ◌≤◌, List, [], ◌∷◌, ◌++◌, length, map, drop, Option, Some, None, Bool, true, false, cond, refl, ap, subst, sym, ◌∙◌, arith}
-use Rattle.std.specs.Prelude.{All, option_map, option_and_then, slice_index, ◌==◌}
+use Rattle.std.proofs.Common.{◌≡◌, ℕ, ◌+◌, ◌<◌, ◌≤◌, List, [], ◌∷◌, ◌++◌, length, drop, Option, Some, None, Bool, true, false, cond, refl, ap, subst, sym, ◌∙◌, arith}
+use Rattle.std.specs.Prelude.{All, slice_index, ◌==◌}
 use Rattle.std.proofs.lemmas.Bool.{eqb-true}
 use Rattle.std.proofs.lemmas.List.{append_assoc, append-nil}
-use Rattle.std.proofs.lemmas.Grind.{common_steps}
 use Rattle.aria_base.specs.declared.calls.Call.{Call}
 use Rattle.aria_base.specs.declared.limits.TheConstants.{MOST_PERCENT}
 use Rattle.batch_rules.specs.declared.verdicts.Rule.{Rule}
 use Rattle.batch_rules.specs.declared.verdicts.Rule.TheVariants.{Plain, Reorder}
 use Rattle.proc_lang.specs.Catalogs.{Plan, IsCatalog, takes}
-use Rattle.script_text.specs.Cuts.{Lacks}
 use Rattle.script_text.specs.Written.{IsArgs}
-use Rattle.image_text.specs.Lines.{lines_text, written, lines_taken, pushes}
+use Rattle.image_text.specs.Lines.{written, pushes}
 use Rattle.image_text.specs.Exactly.{line_of_call, exact_call, IsCallOf}
-use Rattle.image_text.specs.Payloads.{Batch, rule_byte, rule_of, calls_text, payload_text, IsPayload, IsThat, IsCalls, AreCalls, push, take, read_calls}
-use Rattle.image_text.proofs.LinesTaken.{written_is, items_again, items_read, IsText}
+use Rattle.image_text.specs.Payloads.{Batch, rule_byte, rule_of, calls_text, payload_text, IsPayload, IsThat, IsCalls, AreCalls, push, read_calls}
+use Rattle.image_text.proofs.LinesTaken.{written_is, items_again, items_read}
 use Rattle.image_text.proofs.Exactness.{call_written, call_read, call_lacks}
 
 -- ---- calls

@@ -1,7 +1,7 @@
 -- The body of a checkpoint, as a text.
 use Rattle.std.specs.Prelude.{◌≡◌, ℕ, ◌≤◌, List, [], ◌∷◌, ◌++◌, map, All, Option, Some, None, option_map, option_and_then}
 use Rattle.std.specs.FinMap as fin
-use Rattle.aria_base.specs.Orders.{Cells, Database}
+use Rattle.aria_base.specs.Orders.{Database}
 use Rattle.aria_base.specs.declared.calls.Request.{Request}
 use Rattle.proc_lang.specs.Catalogs.{Plan, IsCatalog}
 use Rattle.cat_forms.specs.Texts.{Tells}

@@ -1,5 +1,5 @@
 -- A row or a call read from its line exactly: the line is its one spelling.
-use Rattle.std.specs.Prelude.{◌≡◌, ℕ, if◌then◌else◌, List, Option, Some, None, option_map, bytes_eq, Result, Ok, Err, true}
+use Rattle.std.specs.Prelude.{◌≡◌, ℕ, if◌then◌else◌, List, Option, Some, None, bytes_eq, Result, Ok, Err, true}
 use Rattle.aria_base.specs.Orders.{Cells}
 use Rattle.aria_base.specs.Schemas.{Fits}
 use Rattle.aria_base.specs.declared.keys.Key.{Key}

@@ -1,8 +1,8 @@
 -- Writes that are dealt one after the other, and deals one after the other.
-use Rattle.std.proofs.Common.{◌≡◌, refl, sym, ap, subst, ◌∙◌, ℕ, ◌<◌, List, [], ◌∷◌, ◌++◌, ◌+◌, map, reverse, take, drop, length, get_or, set, true, false, cond, Option, nat_eq, All, filter, ⊎_elim, arith}
+use Rattle.std.proofs.Common.{◌≡◌, refl, sym, ap, subst, ◌∙◌, ℕ, ◌<◌, List, [], ◌∷◌, ◌++◌, ◌+◌, map, reverse, drop, length, get_or, set, true, false, cond, Option, nat_eq, All, ⊎_elim, arith}
 use Rattle.std.specs.Prelude.{if◌then◌else◌, flat_map}
 use Rattle.std.proofs.lemmas.Bool.{cases_eq, eq-eqb, eqb-true}
-use Rattle.std.proofs.lemmas.List.{append-nil, append_assoc, length-append, length-set, length-map, get_or-set_same, get_or-set_other, get_or_default, reverse-append, drop-drop, map-set}
+use Rattle.std.proofs.lemmas.List.{append-nil, append_assoc, length-set, length-map, get_or-set_same, get_or-set_other, get_or_default, reverse-append, drop-drop, map-set}
 use Rattle.std.proofs.Math.ListN.{get_or-map}
 use Rattle.std.proofs.lemmas.List.Elements.{All-get_or, All-map, All-weaker, filter-append, filter_passes}
 use Rattle.std.proofs.lemmas.List.Concat.{flat_map-append}

@@ -5,8 +5,7 @@ use Rattle.std.proofs.Math.Seq.{get_or-append_seam}
 use Rattle.std.proofs.lemmas.List.{append-nil, append_assoc, length-append, length-map, length-set, get_or-set_same, get_or-set_other, get_or_default}
 use Rattle.std.proofs.lemmas.List.{get_or-map as get_or-map_within}
 use Rattle.std.proofs.lemmas.List.Elements.{filter-append}
-use Rattle.tbl_rows.specs.Shards.{Piece, home, bare, IsWhole}
-use Rattle.tbl_rows.specs.declared.homes.TheConstants.{SHARDS}
+use Rattle.tbl_rows.specs.Shards.{Piece, home, IsWhole}
 use Rattle.install_phase.specs.Jobs.{Due, Written, idle_due, with_writes}
 use Rattle.install_phase.specs.Deals.{at_shard, IsDeal, AreOwn, AreDeals}
 use Rattle.install_phase.specs.Hands.{AreAll, AreHanded, AreJobs}

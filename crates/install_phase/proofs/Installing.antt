@@ -1,5 +1,5 @@
 -- Writes that are made shard by shard leave, at each key, what they leave in the whole map.
-use Rattle.std.proofs.Common.{◌≡◌, refl, sym, ap, subst, ◌∙◌, ◌≢◌, ℕ, ◌<◌, List, [], ◌∷◌, ◌++◌, ◌+◌, map, reverse, flat_map, length, get_or, true, false, cond, Option, nat_eq, All}
+use Rattle.std.proofs.Common.{◌≡◌, refl, sym, ap, subst, ◌∙◌, ◌≢◌, ℕ, ◌<◌, List, [], ◌∷◌, ◌++◌, ◌+◌, map, reverse, flat_map, length, get_or, true, false, cond, Option, nat_eq}
 use Rattle.std.specs.Prelude.{if◌then◌else◌}
 use Rattle.std.specs.Ordering.{eq_by_cmp}
 use Rattle.std.specs.FinMap as fin
@@ -7,9 +7,7 @@ use Rattle.std.proofs.Math.ListN.{get_or-map}
 use Rattle.std.proofs.lemmas.Bool.{eqb-false}
 use Rattle.std.proofs.lemmas.List.{length-map, reverse-append}
 use Rattle.std.proofs.lemmas.List.{get_or-map as get_or-map_within}
-use Rattle.std.proofs.lemmas.List.Elements.{All-append}
-use Rattle.std.proofs.lemmas.List.Concat.{flat_map-append}
-use Rattle.aria_base.specs.Orders.{key_cmp, Cells, Database}
+use Rattle.aria_base.specs.Orders.{key_cmp, Database}
 use Rattle.aria_base.specs.declared.keys.Key.{Key}
 use Rattle.aria_base.proofs.Orders.{key_cmp_total, key_cmp-IsAntisymmetric}
 use Rattle.batch_rules.specs.Trees.{set_at}
@@ -25,7 +23,7 @@ use Rattle.tbl_rows.specs.declared.homes.TheConstants.{SHARDS}
 use Rattle.tbl_rows.proofs.Together.{home-below}
 use Rattle.install_phase.specs.Jobs.{Due, Written, idle_due, applied, finished}
 use Rattle.install_phase.specs.Deals.{at_shard}
-use Rattle.install_phase.specs.Hands.{AreAll, AreJobs}
+use Rattle.install_phase.specs.Hands.{AreJobs}
 use Rattle.install_phase.specs.Installs.{after_finishing, after_changes, written}
 
 -- ---- writes, one after the other

@@ -13,16 +13,15 @@ use Rattle.aria_base.specs.declared.keys.Key.{Key}
 use Rattle.aria_base.specs.declared.calls.Request.{Request}
 use Rattle.batch_rules.specs.declared.verdicts.Rule.{Rule}
 use Rattle.batch_rules.specs.declared.verdicts.Verdict.{Verdict}
-use Rattle.batch_rules.specs.Touches.{is_among, keys_of, outside}
-use Rattle.batch_rules.specs.Trees.{trace_of}
+use Rattle.batch_rules.specs.Touches.{keys_of}
 use Rattle.proc_lang.specs.declared.ends.End.{End}
 use Rattle.proc_lang.specs.Catalogs.{Plan, run_of}
-use Rattle.proc_exec.specs.Outcomes.{within_at, within_by, outcome_at}
+use Rattle.proc_exec.specs.Outcomes.{within_at}
 use Rattle.proc_exec.specs.declared.outcomes.Within.{Within}
 use Rattle.node_rules.specs.Messages.{Sets, Holders, Message, Ask, Told, Marks, Least, Fate, pick, told_in, marks_in, least_in, fate_in, of_tid, of_node}
 use Rattle.node_rules.specs.Nets.{Net, tids, all_nodes}
 use Rattle.node_rules.specs.Dues.{Desk, message, has_holders, verdict_here, fate_due, lesser, no_holders, holders_from, least_of, by_sets, holders_on, both}
-use Rattle.node_rules.specs.Dues.{part_at, sets_on, no_sets, told, run_due, marks_of, has_marks, sets_of, least_due, fate_of, is_over}
+use Rattle.node_rules.specs.Dues.{no_sets, told, run_due, marks_of, has_marks, sets_of, least_due, fate_of, is_over}
 use Rattle.node_rules.specs.Newses.{desk_with, of_request, news, news_by}
 use Rattle.node_rules.proofs.Parts.{same_truth}
 use Rattle.node_rules.proofs.Counting.{range_count}

@@ -6,20 +6,19 @@ use Rattle.aria_base.specs.Orders.{key_cmp, Cells, Database}
 use Rattle.aria_base.specs.declared.keys.Key.{Key}
 use Rattle.aria_base.specs.declared.calls.Request.{Request}
 use Rattle.batch_rules.specs.declared.verdicts.Rule.{Rule}
-use Rattle.batch_rules.specs.declared.verdicts.Verdict.{Verdict}
 use Rattle.batch_rules.specs.Touches.{keys_of, outside}
 use Rattle.batch_rules.specs.Trees.{trace_of}
 use Rattle.proc_lang.specs.declared.ends.End.{End}
 use Rattle.proc_lang.specs.Catalogs.{Plan, run_of}
 use Rattle.proc_exec.specs.Outcomes.{within_at, within_by, outcome_at}
 use Rattle.node_rules.specs.Messages.{Ask, Marks, Message}
-use Rattle.node_rules.specs.Nets.{Net, owner, all_nodes, tids}
-use Rattle.node_rules.specs.Dues.{Desk, both, part_at, sets_on, told, run_due, own_requests, fate_of}
+use Rattle.node_rules.specs.Nets.{Net, owner, all_nodes}
+use Rattle.node_rules.specs.Dues.{Desk, both, part_at, sets_on, told, run_due, fate_of}
 use Rattle.node_rules.specs.Worlds.{entry_of, entries_left}
 use Rattle.node_rules.specs.Newses.{first_news}
 use Rattle.node_batch.specs.Letters.{Same, net_of}
 use Rattle.node_batch.specs.OwnRuns.{told_of, rows_of}
-use Rattle.node_batch.specs.Mails.{run_mails, own_mail, own_mails}
+use Rattle.node_batch.specs.Mails.{run_mails, own_mails}
 use Rattle.node_batch.specs.Entries.{entry_by, own_entries}
 use Rattle.node_batch.specs.NodeBatches.{Shows}
 use Rattle.node_batch.specs.declared.node_batches.NodeBatch.{NodeBatch}

@@ -1,6 +1,6 @@
 -- The test of messages decides whether they are equal; and what is fixed for nodes in code is a net.
 use Rattle.std.proofs.Common.{◌≡◌, ℕ, ◌+◌, ◌<◌, List, Bool, true, false, Some, None, Option, refl, sym, ap, ◌∙◌, subst, arith}
-use Rattle.std.specs.Prelude.{◌↔◌, ◌&&◌, ◌%◌, not, eqb, if◌then◌else◌}
+use Rattle.std.specs.Prelude.{◌&&◌, ◌%◌, not, eqb}
 use Rattle.std.specs.Ordering.{eq_by_cmp, int_cmp}
 use Rattle.std.specs.Option.{option_eq}
 use Rattle.std.specs.Cmp.{IsTotalOrder, eq_by_cmp_equiv}
@@ -22,7 +22,7 @@ use Rattle.batch_rules.specs.declared.verdicts.Verdict.TheVariants.{Finish, Wait
 use Rattle.batch_rules.proofs.Maps.{same_key as keys_one}
 use Rattle.proc_lang.specs.Catalogs.{Plan}
 use Rattle.tbl_rows.specs.Shards.{home}
-use Rattle.node_rules.specs.Messages.{Sets, Holders, Content, Ask, Told, Marks, Least, Fate, Message, told_in, marks_in, least_in, fate_in}
+use Rattle.node_rules.specs.Messages.{Sets, Holders, Content, Ask, Told, Marks, Least, Fate, told_in, marks_in, least_in, fate_in}
 use Rattle.node_rules.specs.Nets.{IsNet}
 use Rattle.node_batch.specs.Letters.{net_of}
 use Rattle.node_batch.specs.Sames.{same_key, same_value, same_change, same_sets, same_holders, same_cause, same_verdict, asks_in, same_content}

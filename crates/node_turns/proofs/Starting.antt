@@ -83,7 +83,8 @@ module _ {K V Q A : Type 0} {R : K → K → Ordering} (net : Net R V Q A) where
       ]
 
   turn_mine : (w : World R V Q A) (n : ℕ) (x : Message K V) → Contains (turn net w n).sent x → From w n x
-  turn_mine w n x c = All-contains (From w n) (turn net w n).sent x (turns_mine (length w.started - (w.node n).done) w w n (λ k d lt. inl (get_has w.sent k (slice_index_or w.sent k d) (slice_get-get_or w.sent k d lt)))) c
+  turn_mine w n x c = All-contains (From w n) (turn net w n).sent x
+      (turns_mine (length w.started - (w.node n).done) w w n (λ k d lt. inl (get_has w.sent k (slice_index_or w.sent k d) (slice_get-get_or w.sent k d lt)))) c
 
 module _ {K V Q A : Type 0} {R : K → K → Ordering} (net : Net R V Q A) (is : IsNet net) (start : FinMap R V) where
   pub next_node : (end w : World R V Q A) (n old : ℕ) → IsStarting net start end w n old → n < net.nodes → IsStarting net start end (turn net w n) (n + 1) old

@@ -203,7 +203,8 @@ module _ (start : Database) (end : Definition key_cmp Cells Request End) (w : Wo
     pub more_done : (s1 : Seat) (e : List (Settled Key Request End)) → settled_of s1 ≡ settled_of s0 ++ e ∷ [] → (after : List Seat)
         → after ≡ slice_set w.seats.items n s1 → done_by after n ≡ done_in w n + 1
     more_done s1 e same all seats =
-        let after = ap (λ r. elim r [ None ↦ 0 | Some s ↦ length s.entries.items ]) (ap (λ ss. slice_get ss n) seats ∙ get_set_same w.seats.items n s1 s0 seat) in
+        let after = ap (λ r. elim r [ None ↦ 0 | Some s ↦ length s.entries.items ]) (ap (λ ss. slice_get ss n) seats
+        ∙ get_set_same w.seats.items n s1 s0 seat) in
         let before = done_at start w on.keeps n s0 seat in
         let long = sym (length-map s1.entries.items (λ batch. map entry_of batch.items)) ∙ ap length same ∙ length_push (settled_of s0) e
         ∙ ap (λ k. k + 1) (length-map s0.entries.items (λ batch. map entry_of batch.items)) in
@@ -215,7 +216,8 @@ module _ (start : Database) (end : Definition key_cmp Cells Request End) (w : Wo
       there = get_set_same w.seats.items n s1 s0 seat
 
       kept : AreKept w.catalog w.rule w.nodes start (started_in w) w.requests (sent_in w) w.given.items (slice_set w.seats.items n s1)
-      kept = completed_kept w.catalog w.rule w.nodes start (started_in w) w.requests (sent_in w) w.given.items w.seats.items on.keeps n s0 seat s1 (completed_by s1 new e c)
+      kept = completed_kept w.catalog w.rule w.nodes start (started_in w) w.requests (sent_in w) w.given.items w.seats.items on.keeps n s0 seat s1
+          (completed_by s1 new e c)
 
       abbrev pub next_desk : Desk key_cmp Cells Request
       next_desk = desk_for N (started_in w) n (node_of (sent_in w) s1)

@@ -88,7 +88,8 @@ beside_then : {T : Type 0} (P : T → Type 0) (f g : T → Asked) (r : Result T 
 beside_then P f g (Ok t) p h = h t p
 beside_then P f g (Err why) p h = tt
 
-beside_under : (h : ScriptCatalog) (f g : Plan → Asked) → PrintedHead h → ((plan : Plan) → PrintedPlan plan → Beside (f plan) (g plan)) → Beside (under h f) (under h g)
+beside_under : (h : ScriptCatalog) (f g : Plan → Asked) → PrintedHead h → ((plan : Plan) → PrintedPlan plan → Beside (f plan) (g plan))
+    → Beside (under h f) (under h g)
 beside_under head.Unnamed f g p n = tt
 beside_under (head.Text text) f g p n = tt
 beside_under (head.Ready plan) f g p n = n plan p
@@ -172,7 +173,8 @@ module _ (c : Counts) where
         (beside_if (nat_le n c.batches) (Ok (closed Once, deed.Keep n)) (runs Once c n) (Ok (closed Check, deed.Keep n)) (runs Check (unwaited c) n)
         (refl, record { mode_is = refl; quiet = quiet; head = named; deed = tt; ready = ready }) (runs_beside n ready))
 
-    end_beside : (n : ℕ) (h : ScriptCatalog) → is_ready p.head ≡ is_ready h → Beside (under h (λ plan. ends Once c n)) (under h (λ plan. ends Check (unwaited c) n))
+    end_beside : (n : ℕ) (h : ScriptCatalog) → is_ready p.head ≡ is_ready h
+        → Beside (under h (λ plan. ends Once c n)) (under h (λ plan. ends Check (unwaited c) n))
     end_beside n head.Unnamed is = tt
     end_beside n (head.Text text) is = tt
     end_beside n (head.Ready plan) is = ends_beside n is
@@ -229,7 +231,8 @@ module _ (c : Counts) where
 
   -- ---- a line
 
-  line_beside : (p : ScriptPlace) → p.reports ≡ false → PrintedHead p.head → (h : ScriptCatalog) → p.head ≡ h → (line : Result Item RefusalKind) → IfOk line PrintedItem
+  line_beside : (p : ScriptPlace) → p.reports ≡ false → PrintedHead p.head → (h : ScriptCatalog) → p.head ≡ h → (line : Result Item RefusalKind)
+      → IfOk line PrintedItem
       → Beside (by_head (as_mode mode.Once p) c h line) (by_head (as_mode mode.Check p) (unwaited c) h line)
   line_beside p quiet named head.Unnamed is line said =
       beside_then PrintedItem (at_item (as_mode mode.Once p) c) (at_item (as_mode mode.Check p) (unwaited c)) line said (λ i k. item_beside p quiet named i k)
@@ -250,7 +253,8 @@ module _ (c : Counts) where
   beside_of : (a other : Asked) (r : ScriptPlace × Deed) → a ≡ Ok r → Beside a other → (other ≡ Ok (as_mode mode.Check r.0, r.1)) × Asks r
   beside_of a other r e h = subst (λ (x : Asked). Beside x other) e h
 
-  pub asked_beside : (p : ScriptPlace) → p.mode ≡ mode.Once → p.reports ≡ false → PrintedHead p.head → (line : List ℕ) (r : ScriptPlace × Deed) → asked p c line ≡ Ok r
+  pub asked_beside : (p : ScriptPlace) → p.mode ≡ mode.Once → p.reports ≡ false → PrintedHead p.head → (line : List ℕ) (r : ScriptPlace × Deed)
+      → asked p c line ≡ Ok r
       → (asked (as_mode mode.Check p) (unwaited c) line ≡ Ok (as_mode mode.Check r.0, r.1)) × Asks r
   asked_beside p is quiet named line r e =
       let same : asked p c line ≡ asked (as_mode mode.Once p) c line = λ i. asked (record p { mode = is i }) c line in

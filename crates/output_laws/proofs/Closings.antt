@@ -3,7 +3,7 @@ use Rattle.std.proofs.Common.{◌≡◌, ◌∙◌, sym, ap, subst, refl, Bool, 
 use Rattle.std.specs.Prelude.{⊤, Result, codes}
 use Rattle.cat_text.specs.Texts.{catalog_of}
 use Rattle.proc_lang.specs.Catalogs.{Plan}
-use Rattle.script_places.specs.Places.{Asked, asked, asked_at, at_call, at_catalog, at_end, at_item, at_piece, at_report, at_row, at_settings, behind_text, by_head, calls, closed, closing, ends, found, in_text, is_byte, is_ready, is_unnamed, item_in_text, next_line, puts, read_text, refused_in_text, runs, sets, shut, under, within_text, without_head}
+use Rattle.script_places.specs.Places.{Asked, asked, asked_at, at_report, by_head, calls, closing, next_line, shut, without_head}
 use Rattle.script_places.specs.Places as places
 use Rattle.script_places.specs.declared.deeds.Deed.TheVariants as deed
 use Rattle.script_places.specs.declared.heads.ScriptCatalog.{ScriptCatalog}

@@ -3,7 +3,7 @@ use Rattle.std.specs.Prelude.{◌≡◌, ◌==◌, refl}
 use mathlib.Core.Path.{ap, subst}
 use lib.Dec.{T}
 use Rattle.std.specs.Coded.{Coded}
-use base.Stored.{Gv, gnil, gnum, gcons, num}
+use base.Stored.{Gv, gnil, gnum, num}
 use Rattle.proc_lang.specs.Steps.{Absence, Traps, Fails, Blanks, Step, Let, Read, Put, Del, If, Each, Give, Fail, Steps, NoMore, More}
 use Rattle.proc_lang.specs.TermCodes.{tagged, tag, first, second, third, numbers_code, terms_code, term_code}
 

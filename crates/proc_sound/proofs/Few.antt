@@ -1,23 +1,21 @@
 -- A run makes no more accesses than it may, so that it touches no more keys.
-use Rattle.std.proofs.Common.{◌≡◌, ℕ, ℤ, zero, suc, ◌+◌, ◌-◌, ◌<◌, ◌≤◌, Bool, true, false, nat_lt, List, [], ◌∷◌, ◌++◌, length, map, slice_get, Option, Some, None, Ok, Err, refl, sym, ap, subst, arith, length-append}
+use Rattle.std.proofs.Common.{◌≡◌, ℕ, ℤ, zero, suc, ◌+◌, ◌-◌, ◌<◌, ◌≤◌, Bool, true, false, nat_lt, List, [], ◌∷◌, ◌++◌, length, slice_get, Option, Some, None, Ok, Err, refl, sym, ap, subst, arith, length-append}
 use Rattle.std.specs.Prelude.{⊤, ◌||◌, if◌then◌else◌}
 use Rattle.std.specs.Ordering.{eq_by_cmp}
 use Rattle.std.specs.FinMap as fin
 use Rattle.std.proofs.lemmas.Bool.{ltb-true}
-use Rattle.std.proofs.lemmas.List.{length-map}
 use Rattle.aria_base.specs.Orders.{Cells, Database, key_cmp}
 use Rattle.aria_base.specs.declared.calls.Request.{Request}
 use Rattle.aria_base.specs.declared.keys.Key.{Key}
-use Rattle.aria_base.specs.declared.values.Kind.{Kind}
 use Rattle.aria_base.specs.declared.values.Value.{Value}
 use Rattle.batch_rules.specs.Trees.{Ends, Reads, Writes, Visit, Read, Write, set_at, trace_of, end_of}
-use Rattle.batch_rules.specs.Touches.{Noted, nothing, is_among, keys_of, with_write, noted, all_noted, reads_of, writes_of}
+use Rattle.batch_rules.specs.Touches.{Noted, nothing, is_among, keys_of, with_write, noted, all_noted}
 use Rattle.proc_lang.specs.declared.ends.End.TheVariants as end
-use Rattle.proc_lang.specs.declared.ends.Trap.TheVariants.{Absent, Many}
+use Rattle.proc_lang.specs.declared.ends.Trap.TheVariants.{Many}
 use Rattle.proc_lang.specs.declared.limits.TheConstants.{MOST_ACCESSES, MOST_GIVEN}
 use Rattle.proc_lang.specs.declared.procs.Proc.{Proc}
 use Rattle.proc_lang.specs.Catalogs.{Plan, run_by, run_of}
-use Rattle.proc_lang.specs.Meaning.{Frame, Run, Next, value_of, key_from, row_from, set_to, with, counted, reads, writes, row_or, gives, for_each, step_run, steps_run, done, begun, is_done}
+use Rattle.proc_lang.specs.Meaning.{Frame, Run, Next, value_of, key_from, row_from, with, counted, reads, writes, row_or, gives, for_each, step_run, steps_run, done, begun, is_done}
 use Rattle.proc_lang.specs.Steps.{Absence, Traps, Fails, Blanks, Step, Steps, NoMore, More}
 use Rattle.proc_lang.specs.Steps as step
 use Rattle.proc_lang.specs.Values.{Got, got, both, is_true, tuples_of}

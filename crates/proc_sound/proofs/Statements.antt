@@ -20,9 +20,9 @@ use Rattle.proc_lang.specs.Terms.{Term}
 use Rattle.proc_lang.specs.Steps.{Absence, Traps, Fails, Blanks, Step, Steps, NoMore, More}
 use Rattle.proc_lang.specs.Steps as step
 use Rattle.proc_lang.specs.Values.{Got, got, is_true, tuples_of}
-use Rattle.proc_lang.specs.Meaning.{Frame, Run, value_of, key_from, row_from, step_run, steps_run}
+use Rattle.proc_lang.specs.Meaning.{Run, value_of, key_from, row_from, step_run, steps_run}
 use Rattle.proc_lang.specs.Meaning as plain
-use Rattle.proc_lang.specs.Typing.{Typed, Scope, Set, Reached, Flaw, wanted, same_kind, kind_of, kinds_after, argument_width, agree, keyed, shaped, at_place, passed, tests, goes_over, inside, inside_each, set_in_both, typed_step, typed_steps}
+use Rattle.proc_lang.specs.Typing.{Typed, Scope, Set, Reached, wanted, same_kind, kind_of, kinds_after, argument_width, agree, keyed, shaped, at_place, passed, tests, goes_over, inside, inside_each, typed_step, typed_steps}
 use Rattle.proc_lang.specs.Typing as typing
 use Rattle.proc_sound.specs.Careful.{Sure, Careful, Next, with, and_then, as_int, reads, list_argument, gives, careful_value, careful_key, careful_row, set_one, set_all, blank_all, read_or, find_in, row_or, for_each, careful_step, careful_steps}
 use Rattle.proc_sound.proofs.Lists.{same_kind-decides, IsSet, IsSet-set_in_both}

@@ -1,6 +1,6 @@
 -- The runs of works that are taken tell their keys from their prefixes, and touch few of them.
 use Rattle.std.proofs.Common.{ℕ, zero, suc, ◌≡◌, ◌<◌, ◌≤◌, List, [], ◌∷◌, map, length, slice_get, Bool, true, false, Some, None, Option, refl, subst, sym, ap, arith}
-use Rattle.std.specs.Prelude.{◌&&◌, nat_le, slice_index_or, take, IsSomeAnd}
+use Rattle.std.specs.Prelude.{nat_le, slice_index_or, take, IsSomeAnd}
 use Rattle.std.specs.List.{All, list_all}
 use Rattle.std.proofs.lemmas.Bool.{and_parts, leb-true, ne_eqb}
 use Rattle.std.proofs.lemmas.Grind.{common_steps}
@@ -67,7 +67,8 @@ not_whole plan catalog p fits =
     whole_at [] e = ap (λ table. has_parts table MOST_PARTS) (not_there plan.tables NO_TABLE (omega (arith, catalog.few_tables)))
     whole_at (x ∷ xs) e = e
 
-module _ (plan : Plan) (catalog : IsCatalog plan) (taken : RoutineCall → Bool) (act : ℕ → RoutineCall → List Seen → Action) (db : Database) (list : List NumberedWork)
+module _ (plan : Plan) (catalog : IsCatalog plan) (taken : RoutineCall → Bool) (act : ℕ → RoutineCall → List Seen → Action) (db : Database)
+    (list : List NumberedWork)
     (well : All (λ w. IsWell plan taken act w db) list) (rans : List Ran) (are : rans ≡ map (ran_on (run_of plan) act db) list) where
   pub few-touched : All (λ ran. touch_count ran ≤ MOST_ACTIONS) rans
   few-touched = subst (All (λ ran. touch_count ran ≤ MOST_ACTIONS)) (sym are)

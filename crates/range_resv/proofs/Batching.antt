@@ -29,7 +29,6 @@ use Rattle.range_rules.specs.declared.routines.Work.{Work}
 use Rattle.range_rules.specs.declared.routines.TheConstants.{MOST_WORKS}
 use Rattle.range_rules.specs.Batches.{Outcome, answer_of, depends, numbered}
 use Rattle.range_rules.specs.Courses.{ran_on}
-use Rattle.range_rules.specs.Laws.{LeavesConsistent}
 use Rattle.range_rules.specs.Serials.{is_named, IsSerialAnswer, IsProgress}
 use Rattle.range_rules.proofs.Moving.{few_kept, progress}
 use Rattle.range_rules.proofs.Printed.{is_serial, stays_consistent}

@@ -3,13 +3,12 @@ use Rattle.std.proofs.Common.{◌≡◌, ◌∙◌, sym, ap, subst, refl, ℕ, �
 use Rattle.std.specs.Prelude.{if◌then◌else◌, Option, Some, None, Result, Ok, Err, codes, bytes_eq}
 use Rattle.aria_base.specs.Orders.{Cells}
 use Rattle.aria_base.specs.declared.calls.Arg.{Arg}
-use Rattle.aria_base.specs.declared.keys.Key.{Key}
 use Rattle.aria_base.specs.declared.keys.Part.{Part}
 use Rattle.aria_base.specs.declared.calls.Call.{Call}
 use Rattle.aria_base.specs.declared.limits.TheConstants.{GREATEST_NUMBER, MOST_REQUESTS}
 use Rattle.cat_builtin.specs.Builtins.{builtin_named}
 use Rattle.proc_lang.specs.Catalogs.{Plan}
-use Rattle.script_places.specs.Places.{Asked, asked, asked_at, at_call, at_catalog, at_end, at_item, at_piece, at_report, at_row, at_settings, behind_text, by_head, calls, closed, ends, found, goes_on, has_batches, has_catalog, in_text, is_audit, is_byte, is_check, is_unnamed, item_in_text, next_line, puts, read_text, refused_in_text, runs, sets, under, within_text, without_head}
+use Rattle.script_places.specs.Places.{Asked, asked, asked_at, at_call, at_catalog, at_end, at_item, at_piece, at_report, at_row, at_settings, behind_text, by_head, calls, closed, ends, found, goes_on, has_batches, has_catalog, in_text, is_audit, is_byte, is_check, is_unnamed, next_line, puts, read_text, refused_in_text, runs, sets, under, within_text, without_head}
 use Rattle.script_places.specs.declared.deeds.Deed.{Deed}
 use Rattle.script_places.specs.declared.deeds.Deed.TheVariants as deed
 use Rattle.script_places.specs.declared.heads.ScriptCatalog.{ScriptCatalog}

@@ -1,19 +1,16 @@
 -- A script that is run again over a state that it left before: it keeps batches until it stands where the first run stood.
 use Rattle.std.proofs.Common.{◌≡◌, ◌≢◌, ◌⊎◌, inl, inr, ◌∙◌, sym, ap, subst, refl, ℕ, ◌+◌, ◌<◌, ◌≤◌, ◌==◌, nat_lt, Bool, true, false, List, [], ◌∷◌, ◌++◌, map, Option, arith}
-use Rattle.std.specs.Prelude.{if◌then◌else◌, Result, Ok, Err, filter}
-use Rattle.std.specs.List.{All}
+use Rattle.std.specs.Prelude.{if◌then◌else◌, Result, Ok, Err}
 use Rattle.batch_core.specs.Steps.{State}
 use Rattle.script_course.specs.Courses.{Course, Goes, Stops, behind}
 use Rattle.script_places.proofs.Allowed.{follows}
 use Rattle.script_places.specs.Places.{Asked, asked}
 use Rattle.script_places.specs.declared.deeds.Deed.{Deed}
 use Rattle.script_places.specs.declared.deeds.Deed.TheVariants as deed
-use Rattle.script_places.specs.declared.places.Counts.{Counts}
 use Rattle.script_places.specs.declared.places.ScriptPlace.{ScriptPlace}
-use Rattle.script_text.specs.declared.refusals.RefusalKind.{RefusalKind}
 use Rattle.run_commands.specs.Bases.{counts_of}
 use Rattle.run_commands.specs.Onces.{Doing, behind_batch, done, done_by, on_line, text_of, with_call, with_settings, without_calls}
-use Rattle.run_commands.specs.Passes.{IsBehind, IsHere, Line, Passes, PassesBy, PassesTurns, Turn, held_then, on_turn}
+use Rattle.run_commands.specs.Passes.{Line, Passes, PassesBy, PassesTurns, Turn, held_then, on_turn}
 use Rattle.run_commands.specs.Standing.{runs_batch}
 use Rattle.resume_laws.specs.Resumptions.{answers, answers_by, later_than}
 use Rattle.resume_laws.proofs.Asks.{as_kept, asked_later}
@@ -264,7 +261,8 @@ quiet_goes d place (deed.Call call) q over = ([], refl)
 quiet_goes d place (deed.Set rule percent) q over = ([], refl)
 quiet_goes d place (deed.Keep number) q over = (_, refl)
 
-quiet_count : (d : Doing) (place : ScriptPlace) (asks : Deed) → runs_batch asks ≡ false → IsOver asks → (quiet_next d place asks).state.batches ≡ d.state.batches
+quiet_count : (d : Doing) (place : ScriptPlace) (asks : Deed) → runs_batch asks ≡ false → IsOver asks
+    → (quiet_next d place asks).state.batches ≡ d.state.batches
 quiet_count d place deed.Run q over = absurd cc
 quiet_count d place deed.Nothing q over = refl
 quiet_count d place deed.Tell q over = refl
@@ -315,7 +313,8 @@ kept_catches d t e place (inl h) = inl (ap (λ (x : Doing). kept_next x place) h
 kept_catches d t e place (inr h) = inr (ap (λ (x : Doing). kept_next x place) h)
 
 -- a row may not stand in it, and so it is behind each line
-over_of : (d : Doing) (line : List ℕ) (place : ScriptPlace) (asks : Deed) → asked d.place (counts_of d.state) line ≡ Ok (place, asks) → d.place.rows_ended ≡ true
+over_of : (d : Doing) (line : List ℕ) (place : ScriptPlace) (asks : Deed) → asked d.place (counts_of d.state) line ≡ Ok (place, asks)
+    → d.place.rows_ended ≡ true
     → IsOver asks × (place.rows_ended ≡ true)
 over_of d line place deed.Run e rows = (tt, (follows d.place (counts_of d.state) line place deed.Run e).allows.rows)
 over_of d line place deed.Nothing e rows = (tt, (follows d.place (counts_of d.state) line place deed.Nothing e).allows.rows rows)

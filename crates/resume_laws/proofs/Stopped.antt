@@ -1,11 +1,11 @@
 -- A script whose runs are stopped, and its last run.
-use Rattle.std.proofs.Common.{◌≡◌, ◌≢◌, ◌⊎◌, inl, inr, ◌∙◌, sym, ap, subst, refl, ℕ, Bool, true, false, List, [], ◌∷◌, ◌++◌, map, Option, Some, None, arith}
+use Rattle.std.proofs.Common.{◌≡◌, ◌≢◌, ◌⊎◌, inl, inr, ◌∙◌, sym, ap, subst, refl, ℕ, Bool, true, false, List, [], ◌∷◌, ◌++◌, map, Option, Some, None}
 use Rattle.std.specs.Prelude.{Result, Ok, Err}
 use Rattle.std.proofs.lemmas.List.{append-nil, map-append}
 use Rattle.batch_core.specs.Steps.{State}
 use Rattle.proc_lang.specs.Catalogs.{Plan}
 use Rattle.script_course.proofs.Turns.{behind-behind, behind_nothing, stopped_lines}
-use Rattle.script_course.specs.Courses.{Course, Goes, Stops, behind, told_whole, with_fault, with_last, with_line, with_lines}
+use Rattle.script_course.specs.Courses.{Course, Goes, Stops, behind, with_fault, with_last, with_line, with_lines}
 use Rattle.script_places.specs.Places.{closing}
 use Rattle.script_places.specs.declared.places.ScriptPlace.{ScriptPlace}
 use Rattle.script_text.specs.declared.refusals.RefusalKind.{RefusalKind}
@@ -13,7 +13,7 @@ use Rattle.script_text.specs.Lines.{Scan, last_line, scan}
 use Rattle.script_text.specs.declared.refusals.Refusal.{Refusal}
 use Rattle.run_commands.specs.Onces.{Doing, on_line}
 use Rattle.run_commands.specs.Outs.{no_line}
-use Rattle.run_commands.specs.Passes.{At, Close, Line, Listed, Turn, ending, ending_behind, last, on_close, past, turns_whole}
+use Rattle.run_commands.specs.Passes.{At, Line, Listed, Turn, ending, ending_behind, last, on_close, past, turns_whole}
 use Rattle.run_commands.specs.Resumes.{resumed, turns_over}
 use Rattle.resume_laws.specs.Resumptions.{AreStopped, EndsAlike, EveryStopResumes, MayStop, answers, answers_of, later_than, run_from}
 use Rattle.resume_laws.proofs.Catches.{Caught, EndsIn, Reaches, ReachesBy, catch, caught_same, ends_behind, goes, goes_by, passes_reach}

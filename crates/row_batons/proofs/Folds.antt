@@ -1,5 +1,5 @@
 -- The late fold place by place: what a request finds, what it leaves alone, and that handed rows are enough for its run.
-use Rattle.std.proofs.Common.{◌≡◌, ◌≢◌, ℕ, zero, suc, ◌+◌, ◌<◌, ◌≤◌, ⊎_elim, Bool, true, false, List, [], ◌∷◌, ◌++◌, map, length, take, get_or, cond, Option, Some, None, refl, sym, ap, subst, ◌∙◌, arith, Ordering}
+use Rattle.std.proofs.Common.{◌≡◌, ◌≢◌, ℕ, zero, suc, ◌+◌, ◌<◌, ◌≤◌, Bool, true, false, List, [], ◌∷◌, length, cond, Option, Some, None, refl, sym, ap, ◌∙◌, arith, Ordering}
 use Rattle.std.specs.Prelude.{◌||◌}
 use Rattle.std.specs.Ordering.{eq_by_cmp}
 use Rattle.std.specs.Cmp.{IsTotalOrder}
@@ -8,7 +8,7 @@ use Rattle.std.specs.FinMap.{FinMap, IsAntisymmetric, find, same_map}
 use Rattle.std.specs.Option.{unwrap_or}
 use Rattle.std.proofs.Math.Seq.{take-length}
 use Rattle.std.proofs.lemmas.Cmp.{eq_by_cmp_equiv}
-use Rattle.std.proofs.lemmas.Bool.{cases_lt, true≢false, false_from_ne_true}
+use Rattle.std.proofs.lemmas.Bool.{true≢false, false_from_ne_true}
 use mathlib.Core.Option as std_option
 use mathlib.Core.Option.{none, some, some-injective, some-ne-none}
 use lib.ListN.{get_elem?}
@@ -21,7 +21,7 @@ use Rattle.batch_rules.proofs.Within.{late_map-is, late_keys, late_agree}
 use Rattle.batch_rules.proofs.Installs.{get-apart, not_found}
 use Rattle.batch_rules.proofs.Maps.{same_key, get-overwritten}
 use Rattle.work_claim.specs.Rule.{times}
-use Rattle.baton_crew.specs.Courses.{Course, IsCourse}
+use Rattle.baton_crew.specs.Courses.{IsCourse}
 use Rattle.row_batons.specs.Fallbacks.{row_at, found_at, course_of, IsLaidOut}
 
 there : {A : Type 0} (xs : List A) (i : ℕ) → i < length xs → (x : A) × (get_elem? xs i ≡ some x)

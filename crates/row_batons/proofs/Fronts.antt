@@ -1,18 +1,18 @@
 -- The writes of a window begin with the rows that were laid there, whatever the run writes afterwards.
-use Rattle.std.proofs.Common.{◌≡◌, ◌≢◌, ℕ, zero, suc, ◌+◌, ◌<◌, ◌≤◌, ⊎_elim, Bool, true, false, List, [], ◌∷◌, ◌++◌, map, length, take, drop, drop-cons, get_or, cond, Option, Some, None, refl, sym, ap, subst, ◌∙◌, arith, Ordering, append_assoc, set, length-set}
+use Rattle.std.proofs.Common.{◌≡◌, ◌≢◌, ℕ, zero, suc, ◌+◌, ◌<◌, ◌≤◌, Bool, true, false, List, [], ◌∷◌, ◌++◌, map, length, take, drop, drop-cons, get_or, cond, Option, Some, None, refl, sym, ap, subst, ◌∙◌, arith, Ordering, append_assoc, set, length-set}
 use Rattle.std.specs.Prelude.{◌||◌, if◌then◌else◌}
 use Rattle.std.specs.Ordering.{eq_by_cmp}
 use Rattle.std.specs.Cmp.{IsTotalOrder}
 use Rattle.std.specs.FinMap as fin
 use Rattle.std.specs.FinMap.{FinMap, IsAntisymmetric}
-use Rattle.std.proofs.lemmas.Bool.{cases_eq, true≢false, false_from_ne_true}
+use Rattle.std.proofs.lemmas.Bool.{true≢false, false_from_ne_true}
 use Rattle.std.proofs.lemmas.Cmp.{eq_by_cmp_equiv}
 use Rattle.std.proofs.lemmas.List.{take-append-drop, append-nil, length-map, map-append, length-append}
 use Rattle.std.proofs.Math.Seq.{take-append_seam}
 use mathlib.Core.Option as std_option
-use mathlib.Core.Option.{none, some, some-injective, some-ne-none}
+use mathlib.Core.Option.{none, some}
 use lib.ListN.{get_elem?}
-use Rattle.batch_rules.specs.Trees.{Visit, Read, Write, set_at}
+use Rattle.batch_rules.specs.Trees.{Visit, Read, Write}
 use Rattle.batch_rules.specs.Touches.{Noted, noted, all_noted, with_write, is_among, keys_of, overwritten}
 use Rattle.batch_rules.proofs.Maps.{get-set_at, same_key}
 use Rattle.work_claim.specs.Rule.{times}

@@ -2,7 +2,7 @@
 use Rattle.std.proofs.Common.{◌≡◌, ℕ, suc, ◌+◌, ◌-◌, ◌<◌, ◌≤◌, Bool, true, false, cond, Option, Some, None, List, [], ◌∷◌, ◌++◌, map, length, drop, drop-cons, get_or, is_some, refl, sym, ap, subst, ◌∙◌, arith, All, Ordering, append_assoc}
 use Rattle.std.specs.FinMap as fin
 use Rattle.std.specs.List.Sorted.{IsStrictlySortedBy}
-use Rattle.std.specs.Ordering.{eq_by_cmp, is_eq}
+use Rattle.std.specs.Ordering.{is_eq}
 use Rattle.std.specs.declared.cmp.Ordering.TheVariants.{Less}
 use Rattle.std.specs.List.{AllByRecursion}
 use Rattle.std.proofs.lemmas.List.{get_or-map, length-map}
@@ -11,13 +11,12 @@ use Rattle.std.proofs.lemmas.Simd.{map-map}
 use Rattle.aria_base.specs.Orders.{key_cmp}
 use Rattle.aria_base.specs.declared.keys.Key.{Key}
 use Rattle.aria_base.proofs.Orders.{key_cmp_total}
-use Rattle.batch_rules.specs.Numberings.{HasKeysOf}
 use Rattle.batch_rules.specs.Touches.{is_among}
 use Rattle.dep_rules.specs.Sheets.{Sheet, IsSheet, IsTid, AllBelow, reads_at, writes_at}
 use Rattle.dep_rules.specs.declared.sets.Sets.{Sets}
 use Rattle.fallback_locks.specs.Numbers.{numbers_at, numbers_in, StandFor}
 use Rattle.key_numbering.specs.Numbers.{Numbers, AreNumbers, Keeps, number_in, with_key, with_keys, with_sets}
-use Rattle.key_numbering.proofs.Growing.{Has, either, AreNumbers-empty, AreNumbers-new, one_to_one, reads_among, writes_among, reads_below, writes_below, keeps_key, keeps_keys, keeps_on, keeps_sets, has_key, has_keys, same_number, same_numbers}
+use Rattle.key_numbering.proofs.Growing.{either, AreNumbers-empty, AreNumbers-new, one_to_one, reads_among, writes_among, reads_below, writes_below, keeps_keys, keeps_on, keeps_sets, has_key, has_keys, same_number, same_numbers}
 use Rattle.proc_exec.specs.declared.outcomes.Waiting.{Waiting}
 use Rattle.row_batons.specs.Numbers.{AreNumbersOf, sets_of, with_waiting, read_numbers, write_numbers}
 

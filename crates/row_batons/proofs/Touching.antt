@@ -1,11 +1,11 @@
 -- A slot is touched, once.
-use Rattle.std.proofs.Common.{◌≡◌, ◌≢◌, ℕ, suc, ◌+◌, ◌<◌, ◌≤◌, ⊎_elim, Bool, true, false, cond, eqb, Option, Some, None, List, [], ◌∷◌, ◌++◌, length, get_or, set, refl, sym, ap, subst, ◌∙◌, arith, All, length-set, get_or-set_same, get_or-set_other}
+use Rattle.std.proofs.Common.{◌≡◌, ◌≢◌, ℕ, suc, ◌+◌, ◌<◌, ◌≤◌, ⊎_elim, Bool, true, false, cond, Option, Some, None, List, [], ◌∷◌, ◌++◌, length, get_or, set, refl, sym, ap, subst, ◌∙◌, arith, length-set, get_or-set_same, get_or-set_other}
 use Rattle.std.proofs.lemmas.Bool.{cases_eq, cases_lt, eq-eqb, ne_eqb}
 use Rattle.work_claim.specs.Rule.{times}
 use Rattle.baton_crew.proofs.Counts.{times-push}
 use Rattle.std.proofs.lemmas.List.{get_or_default, get_or_append_left, length-append}
 use Rattle.std.proofs.Math.Seq.{get_or-append_seam}
-use Rattle.row_batons.specs.Layouts.{slot_in, AllTouched, TouchedBefore, StayTouched, IsTouch, AreTouches, AreStamped, AreBelow, AreSlotsOf}
+use Rattle.row_batons.specs.Layouts.{slot_in, AllTouched, TouchedBefore, StayTouched, IsTouch, AreTouches, AreStamped, AreBelow}
 
 pub none_touched : (stamp : ℕ) (stamps : List ℕ) → AreBelow stamp stamps → AreStamped stamp stamps []
 none_touched stamp stamps below = record {

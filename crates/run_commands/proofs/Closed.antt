@@ -42,7 +42,8 @@ shut_by : (p q : ScriptPlace) (b : Bool) → (if b then Ok p else Err kind.Unfin
 shut_by p q true e = let same : p ≡ q = cc in ap (λ (x : ScriptPlace). x.lines) (sym same)
 shut_by p q false e = absurd cc
 
-text_by : (p q : ScriptPlace) (r : Result Plan RefusalKind) → and_then shut (and_then (λ plan. Ok (record p { head = head.Ready plan })) r) ≡ Ok q → q.lines ≡ p.lines
+text_by : (p q : ScriptPlace) (r : Result Plan RefusalKind) → and_then shut (and_then (λ plan. Ok (record p { head = head.Ready plan })) r) ≡ Ok q
+    → q.lines ≡ p.lines
 text_by p q (Ok plan) e = shut_by (record p { head = head.Ready plan }) q (p.open_calls == 0) e
 text_by p q (Err why) e = absurd cc
 
@@ -144,7 +145,8 @@ module _ (h : ScriptCatalog) (b : Base) (each : Bool) (live : Live) (is : b ≡ 
       → HoldsLive first (saved_behind live.checkpoint (drains_of (state_of live)) d saved) disk next
       → HoldsBase first (saved_behind (checkpoint_in b) (drains_of (state_in b)) d saved) disk (plan_in h) (base.Runs next)
   holds_base first saved d next disk like held =
-      subst (λ (p : Plan). HoldsState first (saved_behind (checkpoint_in b) (drains_of (state_in b)) d saved) next.checkpoint disk p (stored_state next) next.store)
+      subst (λ (p : Plan). HoldsState first (saved_behind (checkpoint_in b) (drains_of (state_in b)) d saved) next.checkpoint disk p
+      (stored_state next) next.store)
       (like.plan ∙ named_live)
       (subst (λ (x : Base). HoldsLive first (saved_behind (checkpoint_in x) (drains_of (state_in x)) d saved) disk next) (sym is) held)
 
@@ -157,7 +159,8 @@ module _ (h : ScriptCatalog) (b : Base) (each : Bool) (live : Live) (is : b ≡ 
 
 -- ---- the whole end, by the script before it
 
-module _ (p q : ScriptPlace) (work : Work) (is : closing p ≡ Ok q) (stays : HeadStays p.head q.head) (of : IsOf p.head work.calls.items work.base) (drain : Bool)
+module _ (p q : ScriptPlace) (work : Work) (is : closing p ≡ Ok q) (stays : HeadStays p.head q.head) (of : IsOf p.head work.calls.items work.base)
+    (drain : Bool)
     (first : ℕ) (saved : Saved) (old : History)
     (h : HoldsBase first saved old (plan_in p.head) work.base) where
   same_plan : plan_in q.head ≡ plan_in p.head
@@ -196,7 +199,8 @@ module _ (p q : ScriptPlace) (work : Work) (is : closing p ≡ Ok q) (stays : He
       (held_behind Rest (doing_of q work) (held_in work.base))) same_plan laid)
 
 -- where it is refused
-module _ (p : ScriptPlace) (work : Work) (refusal : Refusal) (at : refusal.line ≡ line_after p.lines) (is : closing p ≡ Err refusal.kind) (drain : Bool) (first : ℕ)
+module _ (p : ScriptPlace) (work : Work) (refusal : Refusal) (at : refusal.line ≡ line_after p.lines) (is : closing p ≡ Err refusal.kind) (drain : Bool)
+    (first : ℕ)
     (saved : Saved) (disk : History)
     (h : HoldsBase first saved disk (plan_in p.head) work.base) where
   pub close_refused : (ga gb : Option (List ℕ)) → AppendsFront ga gb (refusal_text refusal)

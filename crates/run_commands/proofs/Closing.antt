@@ -109,7 +109,13 @@ module _ (plan : Plan) (each : Bool) (line : ℕ) (state : State) (d : Doing) (e
       let went = going_is (drains plan each line state) next ga gb goes in
       let printed_is : over on_turn (drains_of state) d ≡ Goes went.0 Next = drains_are plan each line state d end
       ∙ ap (λ (c : Course State). as_doing d c) went.1.0 in
-      let end_next : IsEnd plan each line next Next = record { plan_is = end.plan_is; each_is = end.each_is; line_is = end.line_is; state_is = refl; calls_none = end.calls_none } in
+      let end_next : IsEnd plan each line next Next = record {
+        plan_is = end.plan_is;
+        each_is = end.each_is;
+        line_is = end.line_is;
+        state_is = refl;
+        calls_none = end.calls_none;
+      } in
       keeps_append on_turn held_then plan (drains_of state) (Listed ∷ []) d held Next went.0 a b b ga gb gc printed_is went.1.1 k
       (subst (λ (s : State). Keeps (PassesTurns (Listed ∷ []) Next s) plan b b gb gc) (sym is)
       (listed_keeps plan each line next Next end_next kept b gb gc result finishes leaves))

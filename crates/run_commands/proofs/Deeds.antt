@@ -38,7 +38,8 @@ pub put_state : (b : Base) (key : Key) (row : Cells) → IsHead b
 put_state (base.Rows tables config) key row h = refl
 put_state (base.Runs live) key row h = absurd h
 
-put_of : (h : ScriptCatalog) (calls : List Call) (b : Base) (key : Key) (row : Cells) → IsHead b → IsReadyWith h (λ plan. Fits plan.tables key row) → IsOf h calls b
+put_of : (h : ScriptCatalog) (calls : List Call) (b : Base) (key : Key) (row : Cells) → IsHead b → IsReadyWith h (λ plan. Fits plan.tables key row)
+    → IsOf h calls b
     → IsOf h calls (put_in b key row)
 put_of head.Unnamed calls b key row before fits of = absurd fits
 put_of (head.Text text) calls b key row before fits of = absurd fits
@@ -151,7 +152,8 @@ no_calls_of head.Unnamed calls b of = (refl, of.1)
 no_calls_of (head.Text text) calls b of = (refl, of.1)
 no_calls_of (head.Ready plan) calls b of = (All-nil (λ (call : Call). takes plan call ≡ true), of.1)
 
-pub close_stands : (place : ScriptPlace) (work next : Work) → MayClose place work → next.calls.items ≡ [] → next.base ≡ work.base → next.replicas ≡ work.replicas
+pub close_stands : (place : ScriptPlace) (work next : Work) → MayClose place work → next.calls.items ≡ [] → next.base ≡ work.base
+    → next.replicas ≡ work.replicas
     → next.each ≡ work.each
     → Stands place next
 close_stands place work next may none b replicas each =
@@ -177,12 +179,14 @@ under_head head.Unnamed calls b ready of = absurd ready
 under_head (head.Text text) calls b ready of = absurd ready
 under_head (head.Ready plan) calls b ready of = of.1
 
-fit_head : (h : ScriptCatalog) (calls : List Call) (b : Base) → IsReadyWith h (λ plan. Unit {0}) → IsOf h calls b → All (λ call. takes (plan_in h) call ≡ true) calls
+fit_head : (h : ScriptCatalog) (calls : List Call) (b : Base) → IsReadyWith h (λ plan. Unit {0}) → IsOf h calls b
+    → All (λ call. takes (plan_in h) call ≡ true) calls
 fit_head head.Unnamed calls b ready of = absurd ready
 fit_head (head.Text text) calls b ready of = absurd ready
 fit_head (head.Ready plan) calls b ready of = of.0
 
-pub may_serve : (place : ScriptPlace) (work : Work) (live : Live) → MayRun place work → IsBegun place.head work.base work.each live → MayServe live work.calls.items
+pub may_serve : (place : ScriptPlace) (work : Work) (live : Live) → MayRun place work → IsBegun place.head work.base work.each live
+    → MayServe live work.calls.items
 may_serve place work live may begun = record {
   fit = subst (λ (plan : Plan). All (λ call. takes plan call ≡ true) work.calls.items) (sym begun.plan)
       (fit_head place.head work.calls.items work.base may.ready may.holds.of_head);

@@ -67,7 +67,14 @@ module _ (start live : Live) (line n i : ℕ) (d : Doing) (end : IsEnd (plan_of 
   Here = record d { state = state_of live }
 
   pub here_end : IsEnd (plan_of live) live.each line (state_of live) Here
-  here_end = record { plan_is = end.plan_is ∙ sym like.plan; each_is = end.each_is ∙ sym like.each; line_is = end.line_is; state_is = refl; calls_none = end.calls_none }
+  here_end = record {
+    plan_is = end.plan_is ∙ sym like.plan;
+    each_is = end.each_is ∙ sym like.each;
+    line_is = end.line_is;
+    state_is = refl;
+    calls_none =
+        end.calls_none;
+  }
 
   -- nothing more is done
   pub keeps_here : (first : ℕ) (saved : Saved) (steps : List Turn) (disk : History) (g : Option (List ℕ)) → HoldsLive first saved disk live

@@ -197,5 +197,6 @@ module _ (checkpoint : ℕ) where
   pub none_saved : (n : ℕ) (d : Doing) (saved : Saved) → (length d.state.waiting == 0) ≡ true → saved_behind checkpoint (replicate n Drain) d saved ≡ saved
   none_saved n d saved none = none_over (saved_then checkpoint) (λ s e. saved_still checkpoint s e e refl) n d saved none
 
-  pub saved_listed : (steps : List Turn) (d : Doing) (saved : Saved) → saved_behind checkpoint (steps ++ Listed ∷ []) d saved ≡ saved_behind checkpoint steps d saved
+  pub saved_listed : (steps : List Turn) (d : Doing) (saved : Saved)
+      → saved_behind checkpoint (steps ++ Listed ∷ []) d saved ≡ saved_behind checkpoint steps d saved
   saved_listed steps d saved = over_listed (saved_then checkpoint) (λ s e. saved_still checkpoint s e e refl) steps d saved

@@ -142,7 +142,8 @@ calls_short p plan call is few =
     (Err kind.Batch)
     (λ room. subst (λ (h : ScriptCatalog). length (line_of_call (plan_in h) call) ≤ LONGEST_LINE) (sym is) few) (λ full. tt)
 
-call_short : (p : ScriptPlace) (proc : List ℕ) (args : List Arg) → 3 + length proc + weight arg_token args ≤ LONGEST_LINE → IfOk (at_call p proc args) IsShortThere
+call_short : (p : ScriptPlace) (proc : List ℕ) (args : List Arg) → 3 + length proc + weight arg_token args ≤ LONGEST_LINE
+    → IfOk (at_call p proc args) IsShortThere
 call_short p proc args few = under_short p.head (λ plan. cond (has_batches p.mode) (and_then (calls p) (placed_call plan proc args)) (Err kind.Site))
     (λ plan is. either_ok IsShortThere (has_batches p.mode) (and_then (calls p) (placed_call plan proc args)) (Err kind.Site)
     (λ may. then_ok (λ call. length (call_line plan.procs call) ≤ LONGEST_LINE) IsShortThere (calls p) (placed_call plan proc args)
@@ -205,7 +206,8 @@ text_line_short p counts text (Err why) short =
     either_ok IsShortThere (is_byte why) (Err why) (and_then (λ ready. Err why) (read_text p text)) (λ byte. tt)
     (λ other. then_ok (λ ready. Unit {0}) IsShortThere (λ ready. Err why) (read_text p text) (any_ok (read_text p text)) (λ ready any. tt))
 
-line_short : (p : ScriptPlace) (counts : Counts) (h : ScriptCatalog) (line : Result Item RefusalKind) → IfOk line IsShortItem → IfOk (by_head p counts h line) IsShortThere
+line_short : (p : ScriptPlace) (counts : Counts) (h : ScriptCatalog) (line : Result Item RefusalKind) → IfOk line IsShortItem
+    → IfOk (by_head p counts h line) IsShortThere
 line_short p counts head.Unnamed line short = then_ok IsShortItem IsShortThere (at_item p counts) line short (item_short p counts)
 line_short p counts (head.Text text) line short = text_line_short (without_head p) counts text line short
 line_short p counts (head.Ready plan) line short = then_ok IsShortItem IsShortThere (at_item p counts) line short (item_short p counts)

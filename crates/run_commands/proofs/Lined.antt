@@ -1,5 +1,5 @@
 -- A line over a store: what the script that goes on holds behind it.
-use Rattle.std.proofs.Common.{◌≡◌, ◌≢◌, ◌∙◌, sym, ap, subst, refl, ℕ, ◌+◌, ◌==◌, false, List, [], ◌∷◌, Option, Some, None, IfSome}
+use Rattle.std.proofs.Common.{◌≡◌, ◌≢◌, ◌∙◌, sym, ap, subst, refl, ℕ, ◌+◌, false, List, [], ◌∷◌, Option, Some, None, IfSome}
 use Rattle.std.specs.Prelude.{Result, Ok, Err, IfOk}
 use Rattle.aria_base.specs.declared.calls.Call.{Call}
 use Rattle.aria_store.specs.Stands.{Kept, added}
@@ -199,7 +199,8 @@ module _ (place : ScriptPlace) (work : Work) (live : Live) (begun : IsBegun plac
         subst (λ (x : Saved). Stays first x new Script (running_of place n)) (saved_next saved before same calls) (record {
           plan = refl;
           checkpoint = ap checkpoint_in b ∙ is.checkpoint ∙ begun.checkpoint;
-          holds = subst (λ (x : Base). HoldsState first after (checkpoint_in x) new (plan_in place.head) (told_by (store_in x) (state_in x)) (store_in x)) (sym b)
+          holds = subst (λ (x : Base). HoldsState first after (checkpoint_in x) new (plan_in place.head) (told_by (store_in x) (state_in x)) (store_in x))
+              (sym b)
               (subst (λ (p : Plan). HoldsState first after next.checkpoint new p (stored_state next) next.store) (is.plan ∙ begun.plan) held);
         })
 
@@ -237,7 +238,8 @@ done_goes d (deed.Call call) bytes e = not_both bytes _ _ (sym e)
 done_goes d (deed.Set rule percent) bytes e = not_both bytes _ _ (sym e)
 done_goes d (deed.Keep number) bytes e = not_both bytes _ _ (sym e)
 
-module _ (place after : ScriptPlace) (work : Work) (stands : Stands place work) (counts : Counts) (same : counts ≡ counts_of (state_in work.base)) (line : List ℕ)
+module _ (place after : ScriptPlace) (work : Work) (stands : Stands place work) (counts : Counts) (same : counts ≡ counts_of (state_in work.base))
+    (line : List ℕ)
     (asks : Deed)
     (is : asked place counts line ≡ Ok (after, asks)) where
   abbrev From : Running

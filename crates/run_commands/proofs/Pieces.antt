@@ -83,7 +83,8 @@ module _ (first : ℕ) where
     piece_kept (Some all) None piece after next b c gb gc result taken serves none same k l = absurd taken
     piece_kept (Some all) (Some text) piece after next b c gb gc result taken serves none same k l =
         let here : KeepsTurns first (saved_over (turns (scan feed piece)) script saved) (turns_whole (scan (scan feed piece).feed text)) next b c gb gc result =
-        subst (λ (f : Feed). KeepsTurns first (saved_over (turns (scan feed piece)) script saved) (turns_whole (scan f text)) next b c gb gc result) (sym same) l in
+        subst (λ (f : Feed). KeepsTurns first (saved_over (turns (scan feed piece)) script saved) (turns_whole (scan f text)) next b c gb gc result)
+        (sym same) l in
         let both = kept_then first saved (turns (scan feed piece)) (turns_whole (scan (scan feed piece).feed text)) script a b ga gb next c gc
         (over_scan piece gb (Ok next.doing) serves) k result here in
         subst (λ (t : List ℕ). KeepsTurns first saved (turns_whole (scan feed t)) script a c ga gc result) (sym taken)

@@ -419,7 +419,8 @@ module _ (settings : Run) (files : ℕ → List ℕ) (live : Live) (each : live.
       → IfSome left (λ text. StandsOver settings files (Found c later) text old new ga gb)
   stands_opened c later is checkpoint fresh opened h =
       let d = start_is settings live c later each is in
-      let AsSo : ℕ → Doing → Type 0 = λ k e. IfSome left (λ text. LeavesAll mid new (IsLeft k (turns_over settings.drain e text) e (saved_first files c later))) in
+      let AsSo : ℕ → Doing → Type 0 =
+      λ k e. IfSome left (λ text. LeavesAll mid new (IsLeft k (turns_over settings.drain e text) e (saved_first files c later))) in
       let own = subst (λ (e : Doing). AsSo live.checkpoint e) d h in
       all_some left (subst (λ (k : ℕ). AsSo k (start_over settings c later)) checkpoint own)
       (λ text ran. just_ran settings files c later text old mid new ga gb (opening_left settings files c later text old mid fresh opened) ran)
@@ -554,7 +555,8 @@ module _ (drain : Bool) (first : ℕ) (saved : Saved) (live : Live) (a : History
           → IfSome left (λ text. Keeps (PassesTurns (turns_over drain (over live) text) (over live) (stored_state live)) (plan_of live) a z ga gc)
       keeps_at gc d s c serves h =
           let is = script_told live script told_on ga gm d s c serves in
-          keeps_over drain first saved live a ga gm holds left z gc (at_given live script told_on ga gm d serves) (subst (λ (x : Running). Behind x gc) is h holds)
+          keeps_over drain first saved live a ga gm holds left z gc (at_given live script told_on ga gm d serves)
+          (subst (λ (x : Running). Behind x gc) is h holds)
 
       pub laid_at : script.doing ≡ over live → script.store ≡ live.store → script.checkpoint ≡ live.checkpoint
           → Serves (Goes (at_text script.doing.state.batches) script) ga gm (Ok told_on) → LaidBehind told_on

@@ -362,7 +362,8 @@ module _ (first : ℕ) where
         kept_then (Ok last) l = record {
           keeps = keeps_both l.keeps;
           left = left_all l.left;
-          stays = subst (λ (x : Saved). Stays first x c script last) (sym saved_is) (stays_then (saved_over more next Here) Here b c script next last k.stays l.stays);
+          stays = subst (λ (x : Saved). Stays first x c script last) (sym saved_is)
+              (stays_then (saved_over more next Here) Here b c script next last k.stays l.stays);
           held = l.held ∙ sym behind_is;
           refused = λ e. absurd cc;
         }
@@ -393,7 +394,8 @@ module _ (first : ℕ) (saved : Saved) (line : List ℕ) (lines left : List (Lis
       → LeadsTurns first (saved_over (Line line ∷ []) script saved) (map Line lines) next b gb saved (map Line left) script a ga
   lead_line next serves k = λ new given result rest.
       subst (λ (l : List (List ℕ)). KeepsTurns first saved (map Line l) script a new ga given result) (sym is)
-      (kept_then first saved (Line line ∷ []) (map Line lines) script a b ga gb next new given (one_over line script.doing ga gb (Ok next.doing) serves) k result
+      (kept_then first saved (Line line ∷ []) (map Line lines) script a b ga gb next new given (one_over line script.doing ga gb (Ok next.doing) serves) k
+      result
       rest)
 
   pub cut_line : (why : Stop) → ServesCut (on_line script.doing line) ga gb why → KeepsTurns first saved (Line line ∷ []) script a b ga gb (Err why)

@@ -6,7 +6,7 @@ use Rattle.std.specs.Io.KnownBytes.{Appends}
 use Rattle.std.proofs.KnownBytes.{Appends-trans}
 use Rattle.aria_base.specs.Streams.{AppendsFront}
 use Rattle.script_course.specs.Courses.{Course, Goes, Stops, Out, printed, out_behind, ended}
-use Rattle.script_course.specs.Served.{IsGoing, Reaches, ReachesCut, Finishes, FinishesCut, ToldWhere, Tells, Comes, Completes}
+use Rattle.script_course.specs.Served.{IsGoing, Reaches, ReachesCut, Finishes, FinishesCut, Tells, Comes, Completes}
 use Rattle.script_course.specs.declared.stops.Stop.{Stop}
 use Rattle.script_course.specs.declared.stops.Stop.TheVariants as stop
 use Rattle.script_course.proofs.Turns.{front_longer, front_behind}

@@ -8,7 +8,7 @@ use Rattle.std.proofs.lemmas.List.{take-append-drop}
 use Rattle.std.proofs.Math.Seq.{take-length, take-append_seam, take-append-add}
 use Rattle.aria_base.specs.Streams.{AppendsFront}
 use Rattle.script_text.specs.declared.refusals.Refusal.{Refusal}
-use Rattle.script_course.specs.Courses.{Course, Goes, Stops, printed, behind, with_fault, with_line, with_lines, with_last}
+use Rattle.script_course.specs.Courses.{Course, Goes, Stops, printed, behind, with_fault, with_line, with_lines}
 use Rattle.answer_text.specs.Refusals.{refusal_text}
 use Rattle.script_course.specs.Served.{Serves, ServesCut, IsStopped, Leads}
 use Rattle.script_course.specs.declared.stops.Stop.{Stop}

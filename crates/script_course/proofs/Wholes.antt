@@ -7,14 +7,13 @@ use Rattle.std.proofs.KnownBytes.{Appends-trans, Appends-nil, Consumes-trans}
 use Rattle.aria_base.specs.Streams.{AppendsFront}
 use Rattle.script_text.specs.declared.refusals.Refusal.{Refusal}
 use Rattle.script_text.specs.Lines.{Feed, Scan, scan, last_line}
-use Rattle.script_text.specs.Laws.{lead}
 use Rattle.script_text.proofs.Scans.{cut, scan-faulted}
 use Rattle.script_course.specs.Courses.{Course, Goes, Stops, printed, behind, with_fault, with_line, with_lines, with_last, with_scan, told, told_whole}
 use Rattle.answer_text.specs.Refusals.{refusal_text}
 use Rattle.script_course.specs.Served.{Serves, ServesCut, Reaches, ReachesCut, ToldWhere, Tells, IsSoFar, Comes}
 use Rattle.script_course.specs.declared.stops.Stop.{Stop}
 use Rattle.script_course.specs.declared.stops.Stop.TheVariants as stop
-use Rattle.script_course.proofs.Turns.{front_longer, front_behind, front_none, behind_nothing, serves_behind, with_lines-behind, stopped_lines, printed_lines, printed_line, printed_fault, with_line-behind}
+use Rattle.script_course.proofs.Turns.{front_longer, front_behind, front_none, behind_nothing, with_lines-behind, stopped_lines, printed_lines, printed_line, printed_fault, with_line-behind}
 
 module _ {R : Type 0} where
   fault-behind : (a : List ℕ) (c : Course R) (fault : Option Refusal) → with_fault (behind a c) fault ≡ behind a (with_fault c fault)

@@ -18,15 +18,15 @@ use Rattle.aria_base.specs.declared.values.Kind.TheVariants as kind
 use Rattle.proc_lang.specs.Catalogs.{Plan, takes}
 use Rattle.cat_builtin.specs.Builtins.{builtin_named}
 use Rattle.cat_text.specs.Texts.{catalog_of}
-use Rattle.script_text.specs.Fits.{and_then, is_kind, are_kinds, fits_table, row_fits, row_in, placed_row, table_named, call_of, placed_call, proc_named, with_percent, settings_by, placed_settings, rule_named}
+use Rattle.script_text.specs.Fits.{and_then, are_kinds, fits_table, row_fits, row_in, placed_row, table_named, call_of, placed_call, proc_named, with_percent, settings_by, placed_settings, rule_named}
 use Rattle.script_text.specs.Forms.{said}
 use Rattle.script_text.specs.declared.items.Item.{Item}
 use Rattle.script_text.specs.declared.items.Item.TheVariants as item
 use Rattle.script_text.specs.declared.refusals.CatFault.TheVariants.{Long}
 use Rattle.script_text.specs.declared.refusals.RefusalKind.{RefusalKind}
 use Rattle.script_text.specs.declared.refusals.RefusalKind.TheVariants.{Site, Name, Argument, Batch, Gap, Numbers, Catalog, Unfinished}
-use Rattle.script_places.specs.Places.{Asked, asked, asked_at, by_head, in_text, item_in_text, within_text, behind_text, read_text, refused_in_text, goes_on, is_byte, at_item, at_catalog, found, at_piece, at_row, puts, at_call, calls, at_end, ends, runs, closed, at_settings, sets, rule_of, at_report, under, next_line, without_head, is_check, is_audit, is_unnamed, has_batches, has_catalog, shut, closing, closed_by}
-use Rattle.script_places.specs.Follows.{Follows, Allows, HeadStays, IsReadyWith, Stays}
+use Rattle.script_places.specs.Places.{Asked, asked, by_head, in_text, item_in_text, behind_text, read_text, refused_in_text, is_byte, at_item, at_catalog, found, at_piece, at_row, puts, at_call, calls, at_end, ends, runs, closed, at_settings, sets, rule_of, at_report, under, next_line, without_head, is_check, is_audit, is_unnamed, has_batches, has_catalog, shut, closing, closed_by}
+use Rattle.script_places.specs.Follows.{Follows, Allows, HeadStays, IsReadyWith}
 use Rattle.script_places.specs.declared.deeds.Deed.{Deed}
 use Rattle.script_places.specs.declared.deeds.Deed.TheVariants as deed
 use Rattle.script_places.specs.declared.heads.ScriptCatalog.{ScriptCatalog}
@@ -151,7 +151,8 @@ unnamed (head.Text text) next a e = tt
 unnamed (head.Ready plan) next true e = absurd cc
 unnamed (head.Ready plan) next false e = absurd cc
 
-found_follows : (p : ScriptPlace) (counts : Counts) (plan : Option Plan) (r : ScriptPlace × Deed) → ((next : ScriptCatalog) → HeadStays p.head next) → found p plan ≡ Ok r
+found_follows : (p : ScriptPlace) (counts : Counts) (plan : Option Plan) (r : ScriptPlace × Deed) → ((next : ScriptCatalog) → HeadStays p.head next)
+    → found p plan ≡ Ok r
     → Says p counts r
 found_follows p counts None r first e = absurd cc
 found_follows p counts (Some plan) r first e = is_this p counts (record p { head = head.Ready plan }, deed.Nothing) r e
@@ -222,7 +223,8 @@ call_follows p counts proc args r e =
       ]
     ]
 
-settings_follow : (p : ScriptPlace) (counts : Counts) (name : List ℕ) (percent : ℤ) (r : ScriptPlace × Deed) → at_settings p name percent ≡ Ok r → Says p counts r
+settings_follow : (p : ScriptPlace) (counts : Counts) (name : List ℕ) (percent : ℤ) (r : ScriptPlace × Deed) → at_settings p name percent ≡ Ok r
+    → Says p counts r
 settings_follow p counts name percent r e =
     elim (stands p.head (λ plan. cond (has_batches p.mode && p.open_calls == 0) (and_then (sets p) (placed_settings name percent)) (Err Site)) r e) [
       | there plan is may ↦ elim (branch Asked (has_batches p.mode && p.open_calls == 0) (and_then (sets p) (placed_settings name percent)) (Err Site)
@@ -250,7 +252,8 @@ neither : (a b : Bool) → (a || b) ≡ false → (a ≡ false) × (b ≡ false)
 neither true b e = absurd cc
 neither false b e = (refl, e)
 
-runs_follow : (p : ScriptPlace) (counts : Counts) (n : ℕ) (plan : Plan) (r : ScriptPlace × Deed) → p.head ≡ head.Ready plan → counts.batches < n → runs p counts n ≡ Ok r
+runs_follow : (p : ScriptPlace) (counts : Counts) (n : ℕ) (plan : Plan) (r : ScriptPlace × Deed) → p.head ≡ head.Ready plan → counts.batches < n
+    → runs p counts n ≡ Ok r
     → Says p counts r
 runs_follow p counts n plan r is above e =
     elim (branch Asked (not (is_check p.mode) && nat_lt MOST_REQUESTS (counts.waiting + p.open_calls)) (Err Batch)
@@ -279,7 +282,8 @@ runs_follow p counts n plan r is above e =
           ]
     ]
 
-ends_follow : (p : ScriptPlace) (counts : Counts) (n : ℕ) (plan : Plan) (r : ScriptPlace × Deed) → p.head ≡ head.Ready plan → ends p counts n ≡ Ok r → Says p counts r
+ends_follow : (p : ScriptPlace) (counts : Counts) (n : ℕ) (plan : Plan) (r : ScriptPlace × Deed) → p.head ≡ head.Ready plan → ends p counts n ≡ Ok r
+    → Says p counts r
 ends_follow p counts n plan r is e =
     elim (branch Asked (nat_lt (counts.batches + 1) n) (Err (Gap n (counts.batches + 1)))
     (cond (nat_le n counts.batches) (Ok (closed p, deed.Keep n)) (runs p counts n)) (Ok r) e) [
@@ -324,7 +328,8 @@ item_follows p counts (item.Settings name percent) r e = settings_follow p count
 -- ---- behind a catalogue's text: the place without its head, and then with the catalogue
 
 -- what follows on the place with another head follows on it, where its own head was no catalogue
-allows_from : (p : ScriptPlace) (h : ScriptCatalog) (counts : Counts) (after : ScriptPlace) (d : Deed) → Allows (record p { head = h }) counts after d → Allows p counts after d
+allows_from : (p : ScriptPlace) (h : ScriptCatalog) (counts : Counts) (after : ScriptPlace) (d : Deed) → Allows (record p { head = h }) counts after d
+    → Allows p counts after d
 allows_from p h counts after deed.Nothing a = record { calls = a.calls; rows = a.rows }
 allows_from p h counts after deed.Tell a = record { calls = a.calls; rows = a.rows }
 allows_from p h counts after (deed.Put key row) a = record { fits = a.fits; calls = a.calls; rows = a.rows }
@@ -333,7 +338,8 @@ allows_from p h counts after (deed.Set rule percent) a = record { within = a.wit
 allows_from p h counts after (deed.Keep number) a = a
 allows_from p h counts after deed.Run a = record { ready = a.ready; calls = a.calls; rows = a.rows; room = a.room; batches = a.batches; requests = a.requests }
 
-from_head : (p : ScriptPlace) (h : ScriptCatalog) (counts : Counts) (r : ScriptPlace × Deed) → HeadStays p.head r.0.head → Says (record p { head = h }) counts r → Says p counts r
+from_head : (p : ScriptPlace) (h : ScriptCatalog) (counts : Counts) (r : ScriptPlace × Deed) → HeadStays p.head r.0.head
+    → Says (record p { head = h }) counts r → Says p counts r
 from_head p h counts r first s = record { mode_stays = s.mode_stays; head_stays = first; allows = allows_from p h counts r.0 r.1 s.allows }
 
 was_text : (h next : ScriptCatalog) (text : List ℕ) → h ≡ head.Text text → HeadStays h next
@@ -384,14 +390,18 @@ module _ (p : ScriptPlace) (counts : Counts) (text : List ℕ) (is_text : p.head
   refused_follows : (why : RefusalKind) (r : ScriptPlace × Deed) → refused_in_text (without_head p) text why ≡ Ok r → Says p counts r
   refused_follows why r e = elim (branch Asked (is_byte why) (Err why) (and_then (λ ready. Err why) (read_text (without_head p) text)) (Ok r) e) [
     | on_yes byte such ↦ absurd cc
-    | on_no other such ↦ elim (step ScriptPlace (ScriptPlace × Deed) (λ ready. Err why) (read_text (without_head p) text) r such) [ stepped place read last ↦ absurd cc ]
+    | on_no other such ↦ elim (step ScriptPlace (ScriptPlace × Deed) (λ ready. Err why) (read_text (without_head p) text) r such) [
+      | stepped place read last ↦
+          absurd cc
+    ]
   ]
 
   in_text_follows : (line : Result Item RefusalKind) (r : ScriptPlace × Deed) → in_text (without_head p) counts text line ≡ Ok r → Says p counts r
   in_text_follows (Ok i) r e = item_in_follows i r e
   in_text_follows (Err why) r e = refused_follows why r e
 
-line_follows : (p : ScriptPlace) (counts : Counts) (h : ScriptCatalog) (line : Result Item RefusalKind) (r : ScriptPlace × Deed) → p.head ≡ h → by_head p counts h line ≡ Ok r
+line_follows : (p : ScriptPlace) (counts : Counts) (h : ScriptCatalog) (line : Result Item RefusalKind) (r : ScriptPlace × Deed) → p.head ≡ h
+    → by_head p counts h line ≡ Ok r
     → Says p counts r
 line_follows p counts head.Unnamed line r is e = elim (step Item (ScriptPlace × Deed) (at_item p counts) line r e) [
   | stepped i said last ↦
@@ -416,7 +426,8 @@ from_next p counts after deed.Run a = record { ready = a.ready; calls = a.calls;
 next_follows : (p : ScriptPlace) (counts : Counts) (r : ScriptPlace × Deed) → Says (next_line p) counts r → Says p counts r
 next_follows p counts r s = record { mode_stays = s.mode_stays; head_stays = s.head_stays; allows = from_next p counts r.0 r.1 s.allows }
 
-pub follows : (p : ScriptPlace) (counts : Counts) (line : List ℕ) (after : ScriptPlace) (asks : Deed) → asked p counts line ≡ Ok (after, asks) → Follows p counts after asks
+pub follows : (p : ScriptPlace) (counts : Counts) (line : List ℕ) (after : ScriptPlace) (asks : Deed) → asked p counts line ≡ Ok (after, asks)
+    → Follows p counts after asks
 follows p counts line after asks e =
     let q : ScriptPlace = next_line p in
     let r : ScriptPlace × Deed = (after, asks) in

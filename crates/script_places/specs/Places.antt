@@ -1,7 +1,7 @@
 -- What a line of a script asks for at its place, or why it is refused. The refusals of one line come in this order: a byte that no
 -- line has; the text of a catalogue that this line ends; no form; no place; no name; what does not fit; the room of a batch.
 use Rattle.std.specs.Prelude.{ℕ, ℤ, ◌+◌, Bool, true, false, not, ◌&&◌, ◌||◌, ◌==◌, nat_le, nat_lt, if◌then◌else◌, List, [], ◌++◌}
-use Rattle.std.specs.Prelude.{length, Option, Some, None, Result, Ok, Err, ok_or, codes, bytes_eq}
+use Rattle.std.specs.Prelude.{length, Option, Some, None, Result, Ok, Err, codes, bytes_eq}
 use Rattle.aria_base.specs.Orders.{Cells}
 use Rattle.aria_base.specs.declared.keys.Key.{Key}
 use Rattle.aria_base.specs.declared.keys.Part.{Part}

@@ -1,25 +1,23 @@
 -- A line of tokens says what these stand for.
-use Rattle.std.proofs.Common.{◌≡◌, ℕ, zero, suc, ◌+◌, ◌<◌, ◌≤◌, List, [], ◌∷◌, ◌++◌, length, map, get_or, Option, Some, None, Bool, true, false, cond, refl, ap, sym, ◌∙◌, arith, rules}
-use Rattle.std.specs.Prelude.{All, not, ◌&&◌, ◌||◌, ◌==◌, nat_le, flat_map, codes, bytes_eq, ok_or, Result, Ok, Err}
+use Rattle.std.proofs.Common.{◌≡◌, ℕ, zero, suc, ◌+◌, ◌<◌, ◌≤◌, List, [], ◌∷◌, ◌++◌, length, map, Option, Some, None, Bool, true, false, cond, refl, ap, sym, ◌∙◌, arith, rules}
+use Rattle.std.specs.Prelude.{All, not, ◌&&◌, nat_le, codes, ok_or, Result, Ok, Err}
 use Rattle.std.specs.List.{list_all}
-use Rattle.std.proofs.lemmas.Bool.{and_parts, and_from, le-leb}
+use Rattle.std.proofs.lemmas.Bool.{le-leb}
 use Rattle.std.proofs.lemmas.List.{append_assoc, append-nil}
 use Rattle.std.proofs.lemmas.List.Concat.{flat_map-append}
 use Rattle.std.proofs.lemmas.List.Elements.{All-head, All-tail, All-append}
-use Rattle.std.proofs.lemmas.List.Sums.{AllPass-from_list_all}
 use Rattle.std.proofs.lemmas.Grind.{common_steps}
-use Rattle.aria_base.specs.Texts.{is_word, is_in_word, begins_word}
+use Rattle.aria_base.specs.Texts.{is_word, is_in_word}
 use Rattle.aria_base.specs.declared.keys.Part.{Part}
 use Rattle.aria_base.specs.declared.values.Value.{Value}
 use Rattle.aria_base.specs.declared.calls.Arg.{Arg}
 use Rattle.script_text.specs.declared.items.Item.{Item}
 use Rattle.script_text.specs.declared.items.Item.TheVariants as item
-use Rattle.script_text.specs.declared.refusals.RefusalKind.{RefusalKind}
 use Rattle.script_text.specs.declared.refusals.RefusalKind.TheVariants.{Byte, Word}
 use Rattle.script_text.specs.Cuts.{tokens}
-use Rattle.script_text.specs.Tokens.{part_token, value_token, arg_token, spaced, all_of, part_of, value_of, arg_of}
-use Rattle.script_text.specs.Forms.{is_printed, item_of, row_of, row_after, with_row, tx_of, with_tx, said, line_item}
-use Rattle.script_text.specs.Written.{IsPart, IsValue, IsArg, is_alike}
+use Rattle.script_text.specs.Tokens.{part_token, value_token, arg_token, spaced, all_of, value_of, arg_of}
+use Rattle.script_text.specs.Forms.{is_printed, item_of, row_after, with_row, said, line_item}
+use Rattle.script_text.specs.Written.{IsPart, IsValue}
 use Rattle.script_text.proofs.Places.{all_weaker, all_joined}
 use Rattle.script_text.proofs.TokensAgain.{IsToken, is_plain, plain_token, tokens_again, printed_again}
 use Rattle.script_text.proofs.TokensRead.{IsWhole, all_of_again, all_mapped, part_again, value_again, arg_again, part_is_token, value_is_token, arg_is_token, part_no_sign}

@@ -1,12 +1,11 @@
 -- Bytes are read as a text exactly where they are one.
-use Rattle.std.proofs.Common.{◌≡◌, ℕ, ◌<◌, ◌≤◌, List, length, get_or, Option, Some, None, not, Bool, true, false, cond, refl, ap, sym, ◌∙◌, arith, rules}
+use Rattle.std.proofs.Common.{◌≡◌, ℕ, ◌<◌, ◌≤◌, List, length, get_or, Option, Some, None, not, Bool, true, false, cond, refl, ap, sym, ◌∙◌, rules}
 use Rattle.std.specs.List.{list_all, position}
-use Rattle.std.specs.Prelude.{nat_le, ◌&&◌}
+use Rattle.std.specs.Prelude.{nat_le}
 use Rattle.std.proofs.lemmas.Bool.{le-leb, lt-leb, not-true, and_from}
 use Rattle.std.proofs.lemmas.List.Quantifiers.{position-Some}
 use Rattle.std.proofs.lemmas.List.Folds.{list_all_at}
 use Rattle.std.proofs.lemmas.List.Sums.{list_all-from_AllPass}
-use Rattle.std.proofs.lemmas.Grind.{common_steps}
 use Rattle.aria_base.specs.Texts.{IsText, may_hold}
 use Rattle.aria_base.specs.declared.limits.TheConstants.{LONGEST_TEXT}
 use Rattle.script_text.specs.Tokens.{fit_text}

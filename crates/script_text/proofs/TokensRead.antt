@@ -1,15 +1,15 @@
 -- What a token is printed of is what it stands for.
 use Rattle.std.proofs.Common.{◌≡◌, ◌≢◌, ℕ, suc, ℤ, pos, negsuc, ◌+◌, ◌-◌, ◌<◌, ◌≤◌, ◌^◌, List, [], ◌∷◌, ◌++◌, length, map, take, drop, get_or, Option, Some, None, Bool, true, false, cond, refl, ap, sym, ◌∙◌, arith, rules}
-use Rattle.std.specs.Prelude.{All, not, ◌&&◌, ◌||◌, ◌==◌, nat_le, option_map, option_and_then, codes, bytes_eq, Result, Ok, Err, OnOk}
+use Rattle.std.specs.Prelude.{All, not, ◌||◌, ◌==◌, nat_le, option_map, option_and_then, codes, bytes_eq, Result, Ok, Err, OnOk}
 use Rattle.std.specs.List.{list_all, slice_split, join_with_byte}
 use Rattle.std.specs.Char.{is_ascii_digit}
 use Rattle.std.specs.Fmt.{decimal, signed_decimal}
-use Rattle.std.proofs.lemmas.Bool.{and_parts, and_from, not-true, eq-eqb, le-leb}
+use Rattle.std.proofs.lemmas.Bool.{and_parts, and_from, eq-eqb, le-leb}
 use Rattle.std.proofs.lemmas.Int.{ints}
 use Rattle.std.proofs.lemmas.List.{append_assoc, append-nil}
 use Rattle.std.proofs.lemmas.List.Elements.{All-head, All-tail, All-map}
 use Rattle.std.proofs.lemmas.List.Splits.{slice_split_none, slice_split_at}
-use Rattle.std.proofs.lemmas.List.Sums.{AllPass-from_list_all, list_all-from_AllPass}
+use Rattle.std.proofs.lemmas.List.Sums.{list_all-from_AllPass}
 use Rattle.std.proofs.lemmas.Fmt.{decimal_nonempty}
 use Rattle.std.proofs.lemmas.Grind.{common_steps}
 use Rattle.aria_base.specs.Texts.{IsText, may_hold}
@@ -22,9 +22,9 @@ use Rattle.aria_base.specs.declared.calls.Arg.{Arg}
 use Rattle.aria_base.specs.declared.calls.Arg.TheVariants as arg
 use Rattle.script_text.specs.Cuts.{Lacks}
 use Rattle.script_text.specs.Numbers.{is_i64, number_of}
-use Rattle.script_text.specs.Tokens.{behind, tuple_token, list_token, part_token, value_token, arg_token, all_after, all_of, before_last, fit_text, fit_tuple, tuple_of, same_lengths, fit_list, tuples_of, text_behind, list_behind, part_of, value_of, arg_of}
+use Rattle.script_text.specs.Tokens.{behind, tuple_token, list_token, part_token, value_token, arg_token, all_after, all_of, before_last, fit_tuple, tuple_of, same_lengths, fit_list, tuples_of, text_behind, part_of, value_of, arg_of}
 use Rattle.script_text.specs.Written.{IsPart, IsValue, IsTuple, IsArg, is_alike}
-use Rattle.script_text.proofs.NumbersAgain.{AreDigits, are_digits, number_again}
+use Rattle.script_text.proofs.NumbersAgain.{are_digits, number_again}
 use Rattle.script_text.proofs.Places.{all_weaker, all_joined}
 use Rattle.script_text.proofs.Splits.{lacks_all}
 use Rattle.script_text.proofs.TokensAgain.{IsToken, is_plain, plain_token, text_token}

@@ -1,9 +1,8 @@
 -- What is written of a row or a call reads and fits as the same.
-use Rattle.std.proofs.Common.{◌≡◌, ℕ, ℤ, ◌+◌, ◌<◌, ◌≤◌, List, [], ◌∷◌, ◌++◌, length, map, Option, Some, None, Bool, true, false, cond, refl, ap, sym, ◌∙◌, arith}
-use Rattle.std.specs.Prelude.{All, ◌&&◌, ◌==◌, nat_le, Result, Ok, Err, codes}
+use Rattle.std.proofs.Common.{◌≡◌, ℕ, ℤ, ◌+◌, ◌<◌, ◌≤◌, List, [], ◌∷◌, length, Option, Some, None, Bool, true, false, cond, refl, ap, sym, ◌∙◌, arith}
+use Rattle.std.specs.Prelude.{◌==◌, Result, Ok, Err}
 use Rattle.std.specs.List.{list_all, slice_get}
-use Rattle.std.specs.Option.{IsSomeAnd}
-use Rattle.std.proofs.lemmas.Bool.{and_parts, and_from, eqb-true, eq-eqb}
+use Rattle.std.proofs.lemmas.Bool.{and_parts, and_from, eqb-true}
 use Rattle.std.proofs.lemmas.List.Sums.{AllPass-from_list_all}
 use Rattle.std.proofs.lemmas.Grind.{common_steps}
 use Rattle.aria_base.specs.Orders.{Cells}
@@ -14,11 +13,11 @@ use Rattle.aria_base.specs.declared.calls.Arg.{Arg}
 use Rattle.aria_base.specs.declared.calls.Arg.TheVariants as arg
 use Rattle.aria_base.specs.declared.calls.Call.{Call}
 use Rattle.aria_base.specs.declared.schemas.Table.{Table}
-use Rattle.proc_lang.specs.Catalogs.{Plan, IsCatalog, table_fits, proc_fits, takes, fits_proc, args_fit, arg_fits, is_between}
+use Rattle.proc_lang.specs.Catalogs.{Plan, IsCatalog, table_fits, proc_fits, takes, fits_proc, args_fit, arg_fits}
 use Rattle.proc_lang.specs.declared.procs.ArgKind.{ArgKind}
 use Rattle.proc_lang.specs.declared.procs.ArgKind.TheVariants as kind
 use Rattle.proc_lang.specs.declared.procs.Proc.{Proc}
-use Rattle.script_text.specs.Fits.{fits_table, row_fits, row_in, placed_row, fitted_row, row_said, call_of, placed_call, fitted_call, call_said, and_then}
+use Rattle.script_text.specs.Fits.{fits_table, row_fits, row_said, call_said}
 use Rattle.script_text.specs.Tokens.{same_lengths}
 use Rattle.script_text.specs.Written.{table_name_or, table_name, proc_name_or, proc_name, row_line, call_line, IsParts, IsCells, IsArgs, is_alike}
 use Rattle.script_text.proofs.FitsDecided.{fits_again}

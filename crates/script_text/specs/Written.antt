@@ -13,7 +13,6 @@ use Rattle.aria_base.specs.declared.calls.Arg.{Arg}
 use Rattle.aria_base.specs.declared.calls.Arg.TheVariants as arg
 use Rattle.aria_base.specs.declared.calls.Call.{Call}
 use Rattle.aria_base.specs.declared.schemas.Table.{Table}
-use Rattle.proc_lang.specs.Catalogs.{Plan}
 use Rattle.proc_lang.specs.declared.procs.Proc.{Proc}
 use Rattle.script_text.specs.Numbers.{is_i64}
 use Rattle.script_text.specs.Tokens.{part_token, value_token, arg_token, spaced, same_lengths}

@@ -1,7 +1,6 @@
 -- A batch that is too large is one of those that are run.
 use Rattle.std.proofs.Common.{◌≡◌, subst, refl, ℕ, zero, suc, ◌+◌, ◌<◌, ◌≤◌, Bool, true, false, cond, List, [], ◌∷◌, length, arith}
 use Rattle.std.specs.Prelude.{Result, Ok, Err, nat_lt, nat_le}
-use Rattle.std.proofs.lemmas.Bool.{leb-true}
 use Rattle.aria_base.specs.Orders.{Database}
 use Rattle.aria_base.specs.declared.calls.Call.{Call}
 use Rattle.aria_base.specs.declared.limits.TheConstants.{MOST_REQUESTS}
@@ -10,7 +9,7 @@ use Rattle.proc_lang.specs.declared.ends.End.{End}
 use Rattle.aria_base.specs.declared.calls.Request.{Request}
 use Rattle.std.specs.Prelude.{Option, Some, None}
 use Rattle.serial_check.specs.Lines.{batch_line, end_line, kept_line, state_line, end_state_line}
-use Rattle.serial_check.specs.Reports.{◌>>=◌, Ran, after, answer, answer_lines, answered, batch, batches, begun, closed, drained, ended, expect, expect_all, expect_end, failing, finding, finding_of, is_drained, is_line, kept, list_of, listing, may_list, or_failing, order_at, pass, ran_at, replies, reply, row_lines, run, run_from, stands, told_at, told_order, whole}
+use Rattle.serial_check.specs.Reports.{◌>>=◌, Ran, after, answer, answer_lines, answered, batch, batches, begun, closed, drained, ended, expect, expect_all, expect_end, failing, finding, finding_of, is_drained, is_line, kept, list_of, listing, may_list, or_failing, order_at, pass, ran_at, replies, reply, row_lines, run, run_from, stands, told_at, whole}
 use Rattle.serial_check.specs.declared.findings.Flaw.{Flaw}
 use Rattle.serial_check.specs.declared.findings.Flaw.TheVariants as flawed
 use Rattle.serial_check.specs.declared.standings.Reading.{Reading}

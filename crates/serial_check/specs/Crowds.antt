@@ -1,5 +1,5 @@
 -- Which batches of a script are run, and that one that is too large is one of them.
-use Rattle.std.specs.Prelude.{◌≤◌, ◌+◌, ℕ, nat_le, if◌then◌else◌, List, [], ◌∷◌, length}
+use Rattle.std.specs.Prelude.{◌≤◌, ◌+◌, ℕ, nat_le, if◌then◌else◌, List, [], ◌∷◌}
 use Rattle.aria_base.specs.declared.calls.Call.{Call}
 use Rattle.serial_check.specs.declared.findings.Finding.{Finding}
 use Rattle.serial_check.specs.declared.findings.Finding.TheVariants.{Crowded, Fails, Holds}

@@ -3,7 +3,6 @@ use Rattle.std.proofs.Common.{◌≡◌, ◌∙◌, sym, ap, subst, refl, ℕ, �
 use Rattle.std.specs.Prelude.{Result, Ok, Err, IfErr, IfOk, IfSome}
 use Rattle.std.specs.Io.KnownBytes.{Appends}
 use Rattle.std.specs.Option.{IsSomeAnd}
-use Rattle.std.proofs.KnownBytes.{Appends-trans}
 use Rattle.aria_base.specs.Faults.{Rose}
 use Rattle.aria_base.specs.Streams.{AppendsFront}
 use Rattle.aria_base.specs.declared.limits.TheConstants.{GREATEST_NUMBER}
@@ -21,7 +20,7 @@ use Rattle.input_log.specs.Layout.{log_of}
 use Rattle.proc_lang.specs.Catalogs.{Plan, run_of}
 use Rattle.run_commands.specs.Onces.{listed}
 use Rattle.run_commands.specs.Outs.{is_each}
-use Rattle.script_course.proofs.Turns.{front_behind, front_longer}
+use Rattle.script_course.proofs.Turns.{front_longer}
 use Rattle.script_course.specs.Causes.{IsCause}
 use Rattle.script_course.specs.Courses.{Goes, Out, out_behind}
 use Rattle.script_course.specs.Served.{Finishes, Serves}

@@ -69,7 +69,8 @@ module _ (plan : Plan) (lines : ℕ) (c : Counts) where
 
   -- ---- a skipped line changes the count of lines alone
 
-  skip_said : (h : ScriptCatalog) (p : ScriptPlace) (l : Result Item RefusalKind) → l ≡ Ok item.Skip → by_head (behind_head h p) c h l ≡ Ok (behind_head h p, deed.Nothing)
+  skip_said : (h : ScriptCatalog) (p : ScriptPlace) (l : Result Item RefusalKind) → l ≡ Ok item.Skip
+      → by_head (behind_head h p) c h l ≡ Ok (behind_head h p, deed.Nothing)
   skip_said head.Unnamed p l is = ap (λ (x : Result Item RefusalKind). and_then (at_item (behind_head head.Unnamed p) c) x) is
   skip_said (head.Text text) p l is = ap (λ (x : Result Item RefusalKind). in_text (without_head (behind_head (head.Text text) p)) c text x) is
   skip_said (head.Ready given) p l is = ap (λ (x : Result Item RefusalKind). and_then (at_item (behind_head (head.Ready given) p) c) x) is
@@ -159,7 +160,8 @@ module _ (plan : Plan) (lines : ℕ) (c : Counts) where
   none_asked p (Ok (item.Settings name percent)) r e is = absurd cc
   none_asked p (Err why) r e is = absurd cc
 
-  pub first_asked : (none : Plan) (h : ScriptCatalog) (p after : ScriptPlace) (line : List ℕ) (asks : Deed) → Gives none h plan → opens_by false (said line) ≡ true
+  pub first_asked : (none : Plan) (h : ScriptCatalog) (p after : ScriptPlace) (line : List ℕ) (asks : Deed) → Gives none h plan
+      → opens_by false (said line) ≡ true
       → asked (behind_head h p) c line ≡ Ok (after, asks) → IsAskedTo plan lines (before_batches plan lines) c line after asks
   first_asked none head.Unnamed p after line asks gives e is = absurd (none_asked (next_line p) (said line) (after, asks) e is)
   first_asked none (head.Text text) p after line asks gives e is =

@@ -188,13 +188,15 @@ pub record IsAsked (p : ScriptPlace) (c : Counts) (line : List ℕ) (after : Scr
   pub of_head : IsOfHead asks
   pub place_is : after ≡ in_head after
 
-is_asked : (p after : ScriptPlace) (c : Counts) (line : List ℕ) (asks : Deed) (given : Asked) → given ≡ Ok (after, asks) → Takes given (asked (as_once p) c line)
+is_asked : (p after : ScriptPlace) (c : Counts) (line : List ℕ) (asks : Deed) (given : Asked) → given ≡ Ok (after, asks)
+    → Takes given (asked (as_once p) c line)
     → IsAsked p c line after asks
 is_asked p after c line asks given is t =
     let taken : Taken (after, asks) (asked (as_once p) c line) = subst (λ (a : Asked). Takes a (asked (as_once p) c line)) is t in
     record { asked_once = taken.asked_once; of_head = taken.of_head; place_is = taken.place_is }
 
-pub head_asked : (p after : ScriptPlace) (c : Counts) (line : List ℕ) (asks : Deed) → p ≡ in_head p → asked p c line ≡ Ok (after, asks) → IsAsked p c line after asks
+pub head_asked : (p after : ScriptPlace) (c : Counts) (line : List ℕ) (asks : Deed) → p ≡ in_head p → asked p c line ≡ Ok (after, asks)
+    → IsAsked p c line after asks
 head_asked p after c line asks at is =
     is_asked p after c line asks (asked p c line) is
     (subst (λ (q : ScriptPlace). Takes (asked q c line) (asked (as_once q) c line)) (sym at) (takes_line c p line))

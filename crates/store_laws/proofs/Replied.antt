@@ -137,7 +137,8 @@ later_more n m text answered less =
     ∙ ap (λ (l : List (ℕ × List ℕ)). later_than n answered ++ l) (one_later n m text less)
 
 module _ (plan : Plan) (each : Bool) where
-  pub replies_later : (n : ℕ) (state : State) (later : List Batch) → n ≤ state.batches → later_than n (replies plan each state later) ≡ replies plan each state later
+  pub replies_later : (n : ℕ) (state : State) (later : List Batch) → n ≤ state.batches
+      → later_than n (replies plan each state later) ≡ replies plan each state later
   replies_later n state [] le = refl
   replies_later n state (batch ∷ later) le =
       let on : nat_lt n (state.batches + 1) ≡ true = grind (arith, nat_tests, le) in

@@ -90,7 +90,8 @@ pub record RunsTo (lines : List (List ℕ)) (d e : Doing) (printed : List ℕ) (
   pub answered : answers (map Line lines) e ≡ answers (map Line lines) d
   pub like : EndsLike last end
 
-run_then : (line : List ℕ) (lines : List (List ℕ)) (d next : Doing) (q after : ScriptPlace) (bytes printed : List ℕ) (last : Doing) → on_line d line ≡ Goes bytes next
+run_then : (line : List ℕ) (lines : List (List ℕ)) (d next : Doing) (q after : ScriptPlace) (bytes printed : List ℕ) (last : Doing)
+    → on_line d line ≡ Goes bytes next
     → on_line (record d { place = q }) line ≡ Goes bytes (record next { place = after }) → over on_turn (map Line (line ∷ lines)) d ≡ Goes printed last
     → ((more : List ℕ) → over on_turn (map Line lines) next ≡ Goes more last → RunsTo lines next (record next { place = after }) more last)
     → RunsTo (line ∷ lines) d (record d { place = q }) printed last
@@ -119,7 +120,8 @@ module _ (plan : Plan) where
       → RunsTo lines d (runs_as count d) printed last
 
   -- where `run` takes the first of them
-  then_batches : (line : List ℕ) (lines : List (List ℕ)) (count : ℕ) (d last : Doing) (q : ScriptPlace) (printed : List ℕ) (c : Course Doing) → on_line d line ≡ c
+  then_batches : (line : List ℕ) (lines : List (List ℕ)) (count : ℕ) (d last : Doing) (q : ScriptPlace) (printed : List ℕ) (c : Course Doing)
+      → on_line d line ≡ c
       → AreAsked plan count d q line
       → BatchesOver lines → over on_turn (map Line (line ∷ lines)) d ≡ Goes printed last → RunsTo (line ∷ lines) d (record d { place = q }) printed last
   then_batches line lines count d last q printed (Stops bytes) is each rest goes =

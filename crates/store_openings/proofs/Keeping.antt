@@ -25,7 +25,7 @@ use Rattle.proc_lang.specs.declared.ends.End.{End}
 use Rattle.serving.proofs.Storing.{batches_behind}
 use Rattle.serving.specs.Deliveries.{IsUntold}
 use Rattle.serving.specs.Lives.{IsRunnable, plan_of, state_of}
-use Rattle.serving.specs.Stored.{Holds, HoldsTurned, IsHeld, IsLogging, MayRenew, ReopensBy, crowded, crowded_from, handed_in, is_stale, stale_by, state_at, state_behind, told_by, turned, turned_by}
+use Rattle.serving.specs.Stored.{IsHeld, IsLogging, MayRenew, ReopensBy, crowded, crowded_from, handed_in, is_stale, stale_by, state_at, state_behind, told_by, turned, turned_by}
 use Rattle.serving.specs.declared.batches.Delivery.{Delivery}
 use Rattle.serving.specs.declared.batches.Delivery.TheVariants as delivery
 use Rattle.serving.specs.declared.lives.Live.{Live}

@@ -9,7 +9,7 @@ use Rattle.disk_model.specs.Histories.{History, MayLeave, LeavesAll, current}
 use Rattle.image_text.specs.Payloads.{Batch}
 use Rattle.input_log.specs.Layout.{Log, Ends, Breaks, log_of}
 use Rattle.input_log.specs.declared.logs.Payload.{Payload}
-use Rattle.proc_lang.specs.Catalogs.{Plan, run_of, takes}
+use Rattle.proc_lang.specs.Catalogs.{Plan, takes}
 use Rattle.serving.specs.Lives.{plan_of, state_of}
 use Rattle.serving.specs.Stored.{ReopensBy, crowded, state_behind}
 use Rattle.serving.specs.declared.lives.Live.{Live}

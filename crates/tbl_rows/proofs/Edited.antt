@@ -102,7 +102,8 @@ module _ (es rest : Entries) (apart : AllApart es) where
   taken-is m (Some e) made is = sym made ∙ ap fin.from_entries is
       ∙ fin.from_entries_push key_cmp_total key_cmp-IsAntisymmetric rest e.0 e.1 (find-head e rest (last-first rest e (subst AllApart is apart)))
 
-  pub taken-gone : (taken : Option (Key × Cells)) → es ≡ rest ++ option_to_list taken → IfSome taken (λ e. fin.get (fin.from_entries {R = key_cmp} rest) e.0 ≡ None)
+  pub taken-gone : (taken : Option (Key × Cells)) → es ≡ rest ++ option_to_list taken
+      → IfSome taken (λ e. fin.get (fin.from_entries {R = key_cmp} rest) e.0 ≡ None)
   taken-gone None is = tt
   taken-gone (Some e) is = fin.get-from_entries key_cmp_total rest e.0 ∙ find-head e rest (last-first rest e (subst AllApart is apart))
 

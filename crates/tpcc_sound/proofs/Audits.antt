@@ -1,5 +1,5 @@
 -- What an audit finds where the oldest open order of a district is open no longer.
-use Rattle.std.proofs.Common.{◌≡◌, refl, sym, ap, subst, ◌∙◌, ℕ, zero, suc, ◌+◌, ℤ, pos, ◌+ℤ◌, ◌-ℤ◌, Bool, true, false, ◌&&◌}
+use Rattle.std.proofs.Common.{◌≡◌, refl, sym, ap, subst, ◌∙◌, ℕ, zero, suc, ◌+◌, ℤ, pos, ◌+ℤ◌, ◌-ℤ◌, Bool, true, false}
 use Rattle.std.proofs.Common.{if◌then◌else◌, List, [], ◌∷◌}
 use Rattle.std.proofs.Common.{◌++◌, map, length, Option, Some, None, true≢false, arith}
 use Rattle.std.specs.Int.{int_max, int_min}
@@ -14,13 +14,12 @@ use Rattle.std.proofs.lemmas.Map.Views.{tells_apart}
 use Rattle.tpcc_audit.specs.declared.conditions.Condition.TheVariants as condition
 use Rattle.tpcc_audit.specs.declared.facts.District.{District}
 use Rattle.tpcc_audit.specs.declared.facts.DistrictRow.{DistrictRow}
-use Rattle.tpcc_audit.specs.declared.facts.WarehouseRow.{WarehouseRow}
 use Rattle.tpcc_audit.specs.declared.facts.Fact.{Fact}
 use Rattle.tpcc_audit.specs.declared.findings.Audit.{Audit}
 use Rattle.tpcc_audit.specs.declared.findings.Audit.TheVariants.{Holds, Fails}
 use Rattle.tpcc_audit.specs.Books.{greatest, least, total, warehouses, districts, paid_to, same, order_of, due_of, open_of, line_of}
 use Rattle.tpcc_audit.specs.Books.{tally_of, or_nothing}
-use Rattle.tpcc_audit.specs.Conditions.{either, first, compared, amount, agrees_if_any, numbers, reach, span, gaps, lines, at_district}
+use Rattle.tpcc_audit.specs.Conditions.{either, first, compared, amount, agrees_if_any, numbers, reach, span, gaps, lines}
 use Rattle.tpcc_audit.specs.Conditions.{at_districts}
 use Rattle.tpcc_audit.specs.Conditions.{at_warehouses, finding}
 use Rattle.tpcc_sound.proofs.Rising.{rises, least-first, greatest-behind, span-enough, less-is}

@@ -1,7 +1,7 @@
 -- A payment leaves sound rows, statement by statement.
 use Rattle.std.proofs.Common.{◌≡◌, refl, sym, ap, subst, ◌∙◌, ℕ, ℤ, pos, ◌+ℤ◌, Bool, true, false, if◌then◌else◌, arith}
 use Rattle.std.proofs.Common.{List, [], ◌∷◌, map, take, Option, Some, None, Ok, Err}
-use Rattle.std.specs.Prelude.{codes, slice_set, slice_index_or}
+use Rattle.std.specs.Prelude.{slice_set, slice_index_or}
 use Rattle.std.specs.FinMap as fin
 use Rattle.aria_base.specs.Orders.{Cells, Database}
 use Rattle.aria_base.specs.Schemas.{IsConsistent}
@@ -15,7 +15,7 @@ use Rattle.aria_base.specs.declared.values.Value.TheVariants as value
 use Rattle.batch_rules.specs.Touches.{map_after}
 use Rattle.batch_rules.specs.Trees.{set_at}
 use Rattle.cat_builtin.specs.Warehouses as table
-use Rattle.cat_builtin.specs.Warehouses.{warehouse, district, w_tax, w_ytd, d_tax, d_ytd, d_next_o_id, read_warehouse, read_district}
+use Rattle.cat_builtin.specs.Warehouses.{warehouse, district, w_tax, w_ytd, d_tax, d_ytd, d_next_o_id, read_district}
 use Rattle.cat_builtin.specs.Payments as sale
 use Rattle.cat_builtin.specs.Words.{Reg, Eq, more, int}
 use Rattle.proc_lang.specs.declared.ends.End.TheVariants as end

@@ -1,8 +1,8 @@
 -- What the rows of order entry tell where one of them is changed, and where an open order is removed.
-use Rattle.std.proofs.Common.{◌≡◌, refl, sym, ap, subst, ◌∙◌, ℕ, zero, suc, ◌+◌, ℤ, pos, Bool, true, false, cond, not, ◌&&◌, eqb, arith}
+use Rattle.std.proofs.Common.{◌≡◌, refl, sym, ap, subst, ◌∙◌, ℕ, zero, suc, ◌+◌, ℤ, Bool, true, false, cond, not, ◌&&◌, eqb, arith}
 use Rattle.std.proofs.Common.{if◌then◌else◌}
-use Rattle.std.proofs.Common.{List, [], ◌∷◌, map, length, Option, Some, None, true≢false}
-use Rattle.std.specs.Prelude.{int_lt, slice_set}
+use Rattle.std.proofs.Common.{List, [], ◌∷◌, map, length, Option, Some, None}
+use Rattle.std.specs.Prelude.{int_lt}
 use Rattle.std.specs.FinMap as fin
 use Rattle.std.specs.FinMap.Entries as list
 use Rattle.std.specs.List.{filter, filter_map, list_all, cons_option, AllByRecursion}
@@ -12,7 +12,7 @@ use Rattle.std.proofs.lemmas.Cmp.{int_eq_equiv}
 use Rattle.std.proofs.lemmas.Map.Lookups.{exact_signed}
 use Rattle.std.proofs.lemmas.Map.Views.{tells_apart}
 use Rattle.aria_base.proofs.Orders.{key_cmp_total}
-use Rattle.aria_base.specs.Kinds.{part_kind, value_kind}
+use Rattle.aria_base.specs.Kinds.{part_kind}
 use Rattle.aria_base.specs.Orders.{key_cmp, Cells, Database}
 use Rattle.aria_base.specs.Schemas.{Fits, IsConsistent}
 use Rattle.aria_base.specs.declared.keys.Key.{Key}
@@ -26,7 +26,7 @@ use Rattle.tpcc_audit.specs.declared.facts.Fact.{Fact}
 use Rattle.tpcc_audit.specs.declared.facts.Fact.TheVariants as fact
 use Rattle.tpcc_audit.specs.declared.facts.DistrictRow.{DistrictRow}
 use Rattle.tpcc_audit.specs.declared.facts.WarehouseRow.{WarehouseRow}
-use Rattle.tpcc_audit.specs.Books.{warehouse_row, district_row, paid_within, same, order_of, due_of, open_of, line_of, total}
+use Rattle.tpcc_audit.specs.Books.{warehouse_row, district_row, paid_within, order_of, due_of, open_of, line_of, total}
 use Rattle.tpcc_audit.specs.Facts.{part_at, column_at, district_at, fact_of, facts_of}
 use Rattle.tpcc_routines.specs.Answers.{key_at, prefix_at, is_number_part, are_numbers, is_row_under, is_behind, last_of, are_rows}
 use Rattle.tpcc_routines.specs.Answers.{are_rows_behind}

@@ -1,6 +1,6 @@
 -- What a row that is put does to the tallies of districts and to what was paid to warehouses.
 use Rattle.std.proofs.Common.{◌≡◌, refl, sym, ap, ◌∙◌, Bool, true, false, cond, true≢false, if◌then◌else◌, ℤ, pos, ◌+ℤ◌, arith}
-use Rattle.std.proofs.Common.{List, [], ◌∷◌, map, Option, Some, None, is_none}
+use Rattle.std.proofs.Common.{List, [], ◌∷◌, Option, Some, None, is_none}
 use Rattle.std.specs.Ordering.{int_eq}
 use Rattle.std.specs.FinMap as fin
 use Rattle.std.specs.FinMap.Entries as list

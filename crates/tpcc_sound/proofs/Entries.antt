@@ -1,5 +1,5 @@
 -- The rows of a map in order: with another row in the place of one, without one, and those that pass a test.
-use Rattle.std.proofs.Common.{◌≡◌, refl, sym, ap, subst, ◌∙◌, Bool, true, false, cond, not, ◌&&◌, T, List, [], ◌∷◌, ◌++◌, map, Option}
+use Rattle.std.proofs.Common.{◌≡◌, refl, sym, ap, subst, ◌∙◌, Bool, true, false, cond, not, ◌&&◌, T, List, [], ◌∷◌, Option}
 use Rattle.std.proofs.Common.{Some, None, is_none, is_eq, is_lt}
 use Rattle.std.proofs.Common.{Ordering, Less, Equal, Greater, true≢false}
 use Rattle.std.specs.List.{filter, AllByRecursion}

@@ -13,11 +13,10 @@ use Rattle.cat_builtin.specs.Warehouses as table
 use Rattle.tpcc_audit.specs.declared.findings.Audit.{Audit}
 use Rattle.tpcc_audit.specs.declared.findings.Audit.TheVariants as audit
 use Rattle.tpcc_audit.specs.Conditions.{audited}
-use Rattle.tpcc_audit.specs.Facts.{part_at}
 use Rattle.tpcc_routines.specs.declared.findings.Soundness.{Soundness}
 use Rattle.tpcc_routines.specs.declared.findings.Soundness.TheVariants.{Sound, Fails}
 use Rattle.tpcc_routines.specs.Routines.{d_next_o_id, order_number}
-use Rattle.tpcc_routines.specs.Sound.{district_of, AreNumbered, IsSound, is_next, is_early, line_finding, lines_finding, after_audit, soundness}
+use Rattle.tpcc_routines.specs.Sound.{district_of, IsSound, is_next, is_early, line_finding, lines_finding, after_audit, soundness}
 use Rattle.tpcc_sound.proofs.Entries.{Rows, ties, tied, each-entry}
 
 -- ---- a row that is found is one of the rows

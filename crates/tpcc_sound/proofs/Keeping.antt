@@ -1,11 +1,11 @@
 -- The routines leave sound rows.
 use Rattle.std.proofs.Common.{◌≡◌, refl, sym, ap, subst, ◌∙◌, ℕ, zero, suc, ◌+◌, ℤ, pos, ◌+ℤ◌, Bool, true, false, cond, ◌&&◌, eqb, if◌then◌else◌}
-use Rattle.std.proofs.Common.{List, [], ◌∷◌, map, length, Option, Some, None, true≢false}
+use Rattle.std.proofs.Common.{List, [], ◌∷◌, Option, Some, None, true≢false}
 use Rattle.std.specs.FinMap as fin
 use Rattle.std.specs.List.{AllByRecursion}
 use Rattle.std.proofs.lemmas.Bool.{and_parts, eqb-true, eq-eqb}
 use Rattle.aria_base.proofs.Orders.{key_cmp_total, key_cmp-IsAntisymmetric}
-use Rattle.aria_base.specs.Orders.{key_cmp, Cells, Database}
+use Rattle.aria_base.specs.Orders.{Cells, Database}
 use Rattle.aria_base.specs.Schemas.{Fits, IsConsistent}
 use Rattle.aria_base.specs.declared.keys.Key.{Key}
 use Rattle.cat_builtin.specs.Warehouses as table
@@ -16,19 +16,18 @@ use Rattle.range_rules.specs.Walks.{Walk, follow}
 use Rattle.range_rules.specs.declared.routines.RoutineCall.{RoutineCall}
 use Rattle.tpcc_audit.specs.declared.facts.District.{District}
 use Rattle.tpcc_audit.specs.Facts.{part_at, fact_of, facts_of, district_at}
-use Rattle.tpcc_audit.specs.Facts.{column_at}
 use Rattle.tpcc_audit.specs.declared.facts.Fact.TheVariants as fact
 use Rattle.tpcc_audit.specs.Conditions.{finding}
 use Rattle.tpcc_load.specs.declared.districts.TheConstants.{DISTRICTS_EACH}
 use Rattle.tpcc_routines.specs.declared.calls.Delivery.{Delivery}
-use Rattle.tpcc_routines.specs.Answers.{key_at, prefix_at, are_numbers, is_customer, is_number_part, is_row_under, is_behind, last_of}
+use Rattle.tpcc_routines.specs.Answers.{key_at, prefix_at, are_numbers, is_customer, is_row_under, is_behind, last_of}
 use Rattle.tpcc_routines.specs.Answers.{are_rows, are_rows_behind}
-use Rattle.tpcc_routines.specs.Routines.{traps, in_range, on_number, within, on_row, need, find_all, with_number, gives, order_number}
+use Rattle.tpcc_routines.specs.Routines.{traps, in_range, on_number, within, on_row, need, find_all, with_number, order_number}
 use Rattle.tpcc_routines.specs.Routines.{each_dated, with_balance}
 use Rattle.tpcc_routines.specs.Routines.{credited, with_dates, dated, carried, with_carrier, closed, oldest, deliver, deliveries, delivery}
 use Rattle.tpcc_routines.specs.Routines.{walk_of, status_by}
 use Rattle.tpcc_routines.specs.Routines.{delivery_by, level_by, c_balance, o_c_id, ol_amount}
-use Rattle.tpcc_routines.specs.Sound.{IsSound, AreNumbered, district_of}
+use Rattle.tpcc_routines.specs.Sound.{IsSound, district_of}
 use Rattle.tpcc_sound.proofs.Audits.{closed-holds}
 use Rattle.tpcc_sound.proofs.Closing.{facts-stay, line-fact, column-stays, still-there, closed-consistent, closed-facts, numbers_of}
 use Rattle.tpcc_sound.proofs.Ending.{Ends, run_keeps, quiet_ends}
@@ -187,7 +186,8 @@ each_dated-ends w d o date sum before (line ∷ lines) next right ends db good t
     let next_db = fin.insert db line.0 v in
     let still = changed-good db line.0 v there.0.0 good there.0.1 (line-fact line.0 v there.0.0 (sym of)) (line_fits w d o date line.0 line.1 one)
     (ap (λ t. eqb t 1) (sym of)) in
-    within-ends IsGood (sum +ℤ ol_amount line.1) (λ sum. each_dated date sum lines next) next_db (λ sum. each_dated-ends w d o date sum (Some (last_of p line.0)) lines next parts.1 ends next_db still
+    within-ends IsGood (sum +ℤ ol_amount line.1) (λ sum. each_dated date sum lines next) next_db
+    (λ sum. each_dated-ends w d o date sum (Some (last_of p line.0)) lines next parts.1 ends next_db still
     (all-still db line.0 v lines there.1))
 
 with_balance-ends : (at : District) (o c : ℤ) (customer : Cells) (balance : ℤ) (next : ℤ → Walk) → is_customer customer ≡ true

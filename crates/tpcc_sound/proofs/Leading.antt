@@ -1,21 +1,19 @@
 -- Runs of procedures, statement by statement: what holds of the rows where a run is done.
-use Rattle.std.proofs.Common.{◌≡◌, refl, sym, ap, subst, ◌∙◌, ℕ, ◌+◌, ℤ, Bool, true, false, nat_lt, true≢false, if◌then◌else◌}
-use Rattle.std.proofs.Common.{List, [], ◌∷◌, ◌++◌, length, slice_get, Option, Some, None, Ok, Err}
+use Rattle.std.proofs.Common.{◌≡◌, refl, sym, ap, ◌∙◌, ℕ, ◌+◌, Bool, true, false, nat_lt, true≢false, if◌then◌else◌}
+use Rattle.std.proofs.Common.{List, [], ◌∷◌, ◌++◌, length, Option, Some, None, Ok, Err}
 use Rattle.std.specs.Prelude.{Result}
 use Rattle.std.specs.FinMap as fin
 use Rattle.aria_base.specs.Orders.{Cells, Database}
-use Rattle.aria_base.specs.declared.calls.Request.{Request}
 use Rattle.aria_base.specs.declared.keys.Key.{Key}
 use Rattle.aria_base.specs.declared.values.Value.{Value}
-use Rattle.batch_rules.specs.Trees.{Tree, Ends, Reads, Writes, set_at, end_of, left_by}
+use Rattle.batch_rules.specs.Trees.{Ends, Reads, Writes, set_at, end_of, left_by}
 use Rattle.batch_rules.specs.Touches.{map_after}
 use Rattle.proc_lang.specs.declared.ends.Trap.{Trap}
 use Rattle.proc_lang.specs.declared.ends.Trap.TheVariants.{Many}
 use Rattle.proc_lang.specs.declared.ends.End.{End}
 use Rattle.proc_lang.specs.declared.ends.End.TheVariants as end
 use Rattle.proc_lang.specs.declared.limits.TheConstants.{MOST_ACCESSES, MOST_GIVEN}
-use Rattle.proc_lang.specs.Values.{Got, got, both, is_true}
-use Rattle.proc_lang.specs.Steps.{Absence, Traps, Fails, Blanks}
+use Rattle.proc_lang.specs.Values.{Got, both}
 use Rattle.proc_lang.specs.Meaning.{Frame, Run, Next, set_to, with, counted, reads, writes, read_or, gives, set_all, is_done}
 
 -- a result without a trap

@@ -1,12 +1,12 @@
 -- What a new order does to sound rows: the district's next number, the order, its entry among the open ones, and its lines one by one.
 use Rattle.std.proofs.Common.{◌≡◌, refl, sym, ap, subst, ◌∙◌, ℕ, suc, ◌+◌, ◌<◌, ℤ, pos, ◌+ℤ◌, ◌-ℤ◌, ◌≤ℤ◌, Bool, true, false, cond, ◌&&◌, eqb, true≢false}
-use Rattle.std.proofs.Common.{if◌then◌else◌, List, [], ◌∷◌, map, length, Option, Some, None, is_none, nat_abs, nat_le, arith}
+use Rattle.std.proofs.Common.{if◌then◌else◌, List, [], ◌∷◌, map, length, Option, Some, None, nat_le, arith}
 use Rattle.std.specs.Prelude.{int_le, ◌<ℤ◌}
 use Rattle.std.proofs.lemmas.Cmp.{int_eq_equiv}
 use Rattle.std.specs.Int.{int_max, int_min}
 use Rattle.std.specs.List.{filter_map, fold}
 use Rattle.std.specs.FinMap as fin
-use Rattle.std.proofs.lemmas.Bool.{eq-eqb, eqb-true}
+use Rattle.std.proofs.lemmas.Bool.{eq-eqb}
 use Rattle.std.proofs.lemmas.Int.{ints, clamps}
 use Rattle.aria_base.proofs.Orders.{key_cmp_total}
 use Rattle.aria_base.specs.Kinds.{part_kind}
@@ -29,15 +29,15 @@ use Rattle.tpcc_audit.specs.declared.findings.Audit.{Audit}
 use Rattle.tpcc_audit.specs.declared.findings.Audit.TheVariants.{Holds, Fails}
 use Rattle.tpcc_audit.specs.declared.tallies.Tally.{Tally}
 use Rattle.tpcc_audit.specs.Books.{same, greatest, least, greater, lesser, or_nothing, order_of, open_of, tally_of, paid_to, with_order, with_open, with_line, counted, paid_behind}
-use Rattle.tpcc_audit.specs.Conditions.{compared, agrees_if_any, reach, numbers, span, gaps, lines, amount, at_district}
+use Rattle.tpcc_audit.specs.Conditions.{compared, agrees_if_any, reach, numbers, span, lines, amount, at_district}
 use Rattle.tpcc_audit.specs.Facts.{part_at, column_at, district_at, fact_of, facts_of}
 use Rattle.tpcc_routines.specs.Answers.{key_at}
 use Rattle.tpcc_routines.specs.Routines.{d_next_o_id, order_number}
-use Rattle.tpcc_routines.specs.Sound.{AreNumbered, IsSound, district_of}
+use Rattle.tpcc_routines.specs.Sound.{AreNumbered, district_of}
 use Rattle.tpcc_sound.proofs.Audits.{AllHold, fails-not, either-parts, either-holds, compared-is, compared-holds, same-is}
 use Rattle.tpcc_sound.proofs.Counting.{tally-new, paid-new, tally-changed, paid-changed, tally-other, paid-other, same-Some}
-use Rattle.tpcc_sound.proofs.Entries.{Rows, ties, tied, ties-self}
-use Rattle.tpcc_sound.proofs.Points.{HoldsOf, holds-of, holds-each, sound-each, warehouse_of, district_at_key}
+use Rattle.tpcc_sound.proofs.Entries.{ties, tied, ties-self}
+use Rattle.tpcc_sound.proofs.Points.{HoldsOf, holds-of, warehouse_of, district_at_key}
 
 -- ---- one district's tally
 
@@ -126,7 +126,8 @@ module _ (told : Fact → Option ℤ) (db : Database) (k : Key) (row : Cells) (n
     below-greatest : (x : ℤ) (xs : List ℤ) → filter_map told (facts_of db) ≡ x ∷ xs → n ≤ℤ fold int_max x xs
     below-greatest x xs all =
         let g = fold int_max x xs in
-        let le = holds-of told (within_finding g) db (subst (λ l. AllHold (map (within_finding g) l)) (sym all) (all-within g x xs (omega (arith, ints)))) k row n
+        let le = holds-of told (within_finding g) db (subst (λ l. AllHold (map (within_finding g) l)) (sym all) (all-within g x xs (omega (arith, ints)))) k
+        row n
         found is in
         at (int_le n g) refl le
       where
@@ -207,7 +208,11 @@ other-district db at k row consistent found of other = at_test (same at (distric
   where
     at_test : (b : Bool) → same at (district_at k.parts) ≡ b → same at (district_at k.parts) ≡ false
     at_test true is =
-        let e : k ≡ district_key at = λ i. record { table = of i; parts = sym (two-parts k.parts at (district-kinds k row (consistent k row found) of) is) i } in
+        let e : k ≡ district_key at = λ i. record {
+          table = of i;
+          parts =
+              sym (two-parts k.parts at (district-kinds k row (consistent k row found) of) is) i;
+        } in
         absurd (true≢false (sym (ties-at k (district_key at) e) ∙ other))
       where
         ties-at : (a b : Key) → a ≡ b → ties a b ≡ true
@@ -338,7 +343,8 @@ module _ (db0 : Database) (at : District) (tax ytd o n : ℤ) (consistent : IsCo
 
   paid-kept : (w : ℤ) → paid_to w (facts_of counted_db) ≡ paid_to w (facts_of db0)
   paid-kept w =
-      paid-changed w (pos 0) db0 (district_key at) numbered_row (three tax ytd o) (λ t. sym (plus-none (paid_behind w (fact_of (district_key at, numbered_row)) t)))
+      paid-changed w (pos 0) db0 (district_key at) numbered_row (three tax ytd o)
+      (λ t. sym (plus-none (paid_behind w (fact_of (district_key at, numbered_row)) t)))
       there
       ∙ plus-none (paid_to w (facts_of db0))
 

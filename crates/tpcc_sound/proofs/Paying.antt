@@ -1,5 +1,5 @@
 -- What a payment does to sound rows: the amount of a warehouse and that of one of its districts are raised alike.
-use Rattle.std.proofs.Common.{◌≡◌, refl, sym, ap, subst, ◌∙◌, ℕ, ◌+◌, ℤ, pos, ◌+ℤ◌, ◌-ℤ◌, Bool, true, false, cond, ◌&&◌, eqb, true≢false}
+use Rattle.std.proofs.Common.{◌≡◌, refl, sym, ap, subst, ◌∙◌, ℕ, ◌+◌, ℤ, pos, ◌+ℤ◌, Bool, true, false, cond, eqb, true≢false}
 use Rattle.std.proofs.Common.{if◌then◌else◌, List, [], ◌∷◌, map, Option, Some, None, nat_le, arith}
 use Rattle.std.specs.Prelude.{◌<ℤ◌}
 use Rattle.std.specs.Ordering.{int_eq, int_cmp}
@@ -24,17 +24,17 @@ use Rattle.tpcc_audit.specs.declared.facts.District.{District}
 use Rattle.tpcc_audit.specs.declared.facts.Fact.TheVariants as fact
 use Rattle.tpcc_audit.specs.declared.findings.Audit.TheVariants.{Holds}
 use Rattle.tpcc_audit.specs.declared.tallies.Tally.{Tally}
-use Rattle.tpcc_audit.specs.Books.{same, tally_of, paid_to, paid_behind}
+use Rattle.tpcc_audit.specs.Books.{tally_of, paid_to}
 use Rattle.tpcc_audit.specs.Conditions.{amount, at_district}
 use Rattle.tpcc_audit.specs.Facts.{part_at, district_at, fact_of, facts_of}
 use Rattle.tpcc_routines.specs.Answers.{key_at}
 use Rattle.tpcc_routines.specs.Routines.{d_next_o_id, order_number}
-use Rattle.tpcc_routines.specs.Sound.{AreNumbered, district_of}
+use Rattle.tpcc_routines.specs.Sound.{AreNumbered}
 use Rattle.tpcc_sound.proofs.Audits.{compared-is, compared-holds}
 use Rattle.tpcc_sound.proofs.Counting.{tally-changed, paid-changed, tally-other, paid-other, same-Some}
 use Rattle.tpcc_sound.proofs.Entries.{ties, tied, ties-self}
 use Rattle.tpcc_sound.proofs.Points.{HoldsOf, warehouse_of, district_at_key}
-use Rattle.tpcc_sound.proofs.Ordering.{three, district_key, row_of, put-cases, apart-tables, get-apart, numbered-put, other-district}
+use Rattle.tpcc_sound.proofs.Ordering.{three, district_key, row_of, put-cases, apart-tables, get-apart, numbered-put}
 
 -- ---- a row that no audit looks at
 
@@ -180,7 +180,8 @@ module _ (db0 : Database) (at : District) (w_tax w_ytd d_tax d_ytd next a : ℤ)
           ∙ sym (plus-none (paid_to v (facts_of db0))))
           ∙ each.amounts k row of was
 
-      district_on : (c : Condition) (k : Key) (row : Cells) → k.table ≡ table.districts → fin.get paid_db k ≡ Some row → (b : Bool) → ties k (district_key at) ≡ b
+      district_on : (c : Condition) (k : Key) (row : Cells) → k.table ≡ table.districts → fin.get paid_db k ≡ Some row → (b : Bool)
+          → ties k (district_key at) ≡ b
           → at_district c (district_at_key k row) (tally_of (district_at k.parts) (facts_of paid_db)) ≡ Holds
       district_on c k row of found true is =
           let here = tied k (district_key at) is in

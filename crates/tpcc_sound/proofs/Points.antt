@@ -1,5 +1,5 @@
 -- Whether rows are sound, row by row.
-use Rattle.std.proofs.Common.{◌≡◌, refl, sym, ap, subst, ◌∙◌, ℕ, ℤ, pos, Bool, true, false, cond, true≢false, eqb, if◌then◌else◌}
+use Rattle.std.proofs.Common.{◌≡◌, refl, sym, ap, subst, ◌∙◌, ℕ, Bool, true, false, cond, true≢false, eqb, if◌then◌else◌}
 use Rattle.std.proofs.Common.{List, [], ◌∷◌, ◌++◌, map, Option, Some, None, is_none}
 use Rattle.std.specs.List.{filter_map, cons_option, AllByRecursion}
 use Rattle.std.specs.FinMap as fin
@@ -19,7 +19,7 @@ use Rattle.tpcc_audit.specs.declared.facts.Fact.TheVariants as fact
 use Rattle.tpcc_audit.specs.declared.findings.Audit.{Audit}
 use Rattle.tpcc_audit.specs.declared.findings.Audit.TheVariants.{Holds}
 use Rattle.tpcc_audit.specs.Books.{warehouse_row, district_row, paid_to, tally_of}
-use Rattle.tpcc_audit.specs.Conditions.{amount, at_district, at_districts, at_warehouses, first}
+use Rattle.tpcc_audit.specs.Conditions.{amount, at_district, at_districts, at_warehouses}
 use Rattle.tpcc_audit.specs.Facts.{part_at, column_at, district_at, fact_of, facts_of}
 use Rattle.tpcc_routines.specs.Sound.{AreNumbered, IsSound}
 use Rattle.tpcc_sound.proofs.Audits.{AllHold, all-hold, first-holds, parted, joined}

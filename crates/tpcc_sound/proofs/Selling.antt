@@ -1,6 +1,6 @@
 -- A new order leaves sound rows, statement by statement.
-use Rattle.std.proofs.Common.{◌≡◌, refl, sym, ap, subst, ◌∙◌, ℕ, suc, ◌+◌, ◌<◌, ℤ, pos, ◌+ℤ◌, Bool, true, false, not, ◌&&◌, eqb, true≢false}
-use Rattle.std.proofs.Common.{if◌then◌else◌, List, [], ◌∷◌, ◌++◌, map, length, take, Option, Some, None, Ok, Err, arith}
+use Rattle.std.proofs.Common.{◌≡◌, refl, sym, ap, subst, ◌∙◌, ℕ, suc, ◌+◌, ◌<◌, ℤ, pos, ◌+ℤ◌, Bool, true, false, not, ◌&&◌, eqb}
+use Rattle.std.proofs.Common.{if◌then◌else◌, List, [], ◌∷◌, map, length, take, Option, Some, None, Ok, Err, arith}
 use Rattle.std.specs.Prelude.{codes, slice_set, slice_index_or}
 use Rattle.std.proofs.Common.{lit<, length-set, get_or-set_same, get_or-set_other}
 use Rattle.std.specs.List.{list_all}
@@ -12,7 +12,6 @@ use Rattle.aria_base.specs.Orders.{Cells, Database}
 use Rattle.aria_base.specs.Schemas.{IsConsistent}
 use Rattle.aria_base.specs.declared.calls.Arg.TheVariants as arg
 use Rattle.aria_base.specs.declared.calls.Request.{Request}
-use Rattle.aria_base.specs.declared.keys.Key.{Key}
 use Rattle.aria_base.specs.declared.keys.Part.TheVariants as part
 use Rattle.aria_base.specs.declared.values.Kind.TheVariants as kind
 use Rattle.aria_base.specs.declared.values.Value.{Value}

@@ -1,6 +1,6 @@
 -- Works one after the other leave sound rows.
-use Rattle.std.proofs.Common.{◌≡◌, refl, sym, ap, subst, ◌∙◌, ℕ, Bool, true, false, cond, ◌==◌, List, [], ◌∷◌, Option, Some, None, is_none, true≢false, arith, lit≤}
-use Rattle.std.specs.List.{All, find, filter_map, cons_option}
+use Rattle.std.proofs.Common.{◌≡◌, refl, sym, ap, subst, ◌∙◌, ℕ, Bool, true, false, cond, ◌==◌, List, [], ◌∷◌, Option, Some, None, is_none, true≢false, lit≤}
+use Rattle.std.specs.List.{All, find, cons_option}
 use Rattle.std.proofs.lemmas.List.Elements.{All-nil, All-cons, All-head, All-tail}
 use Rattle.aria_base.specs.Orders.{Database}
 use Rattle.aria_base.specs.Schemas.{IsConsistent}

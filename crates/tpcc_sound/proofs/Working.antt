@@ -5,7 +5,6 @@ use Rattle.aria_base.specs.Orders.{Database}
 use Rattle.aria_base.specs.Schemas.{IsConsistent}
 use Rattle.aria_base.specs.declared.calls.Arg.{Arg}
 use Rattle.aria_base.specs.declared.calls.Arg.TheVariants as arg
-use Rattle.aria_base.specs.declared.calls.Call.{Call}
 use Rattle.proc_lang.specs.declared.procs.ArgKind.TheVariants as kind
 use Rattle.batch_rules.specs.Touches.{map_after}
 use Rattle.cat_builtin.specs.Tpcc.{tpcc}
@@ -34,7 +33,8 @@ order-args (arg.Int w ∷ arg.Int d ∷ arg.Int c ∷ arg.Int e ∷ arg.List lin
     absurd (true≢false (sym (and_parts (arg_fits (kind.List 3) (arg.List lines)) false fits).1))
 order-args _ fits = let no : ⊥ = cc in absurd no
 
-payment-args : (args : List Arg) → args_fit payment.payment.args args ≡ true → (w : ℤ) × (d : ℤ) × (cw : ℤ) × (cd : ℤ) × (by : ℤ) × (id : ℤ) × (amount : ℤ) × (date : ℤ)
+payment-args : (args : List Arg) → args_fit payment.payment.args args ≡ true → (w : ℤ) × (d : ℤ) × (cw : ℤ) × (cd : ℤ) × (by : ℤ) × (id : ℤ) × (amount : ℤ)
+    × (date : ℤ)
     × (args ≡ arg.Int w ∷ arg.Int d ∷ arg.Int cw ∷ arg.Int cd ∷ arg.Int by ∷ arg.Int id ∷ arg.Int amount ∷ arg.Int date ∷ [])
 payment-args (arg.Int w ∷ arg.Int d ∷ arg.Int cw ∷ arg.Int cd ∷ arg.Int by ∷ arg.Int id ∷ arg.Int amount ∷ arg.Int date ∷ []) fits =
     (w, d, cw, cd, by, id, amount, date, refl)

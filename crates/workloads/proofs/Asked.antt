@@ -2,7 +2,6 @@
 use Rattle.std.proofs.Common.{◌≡◌, ◌≤◌, ◌*◌, ◌+◌, true, false, cond, ℕ, Bool, Option, Some, None, List, [], ◌∷◌, refl, sym, ap, ◌∙◌, subst, arith}
 use Rattle.std.specs.Prelude.{⊤, nat_le, ◌&&◌, find, option_and_then, option_map, bytes_eq}
 use Rattle.std.proofs.lemmas.Bool.{and_parts}
-use Rattle.std.proofs.lemmas.Grind.{common_steps}
 use Rattle.command_words.specs.Lines.{Line, text_in}
 use Rattle.command_words.specs.Options as option
 use Rattle.command_words.specs.Settings.{amount_of, accesses_of, stock_of, workload_of, once_of, init_of, run_of, replay_of, bench_of, mix_of, nodes_of}
@@ -18,7 +17,7 @@ use Rattle.command_words.specs.declared.settings.Mix.{Mix}
 use Rattle.command_words.specs.declared.settings.Load.TheVariants as kind
 use Rattle.command_words.specs.declared.settings.Stock.{Stock}
 use Rattle.command_words.specs.declared.settings.Workload.{Workload}
-use Rattle.workloads.specs.Generators.{IsWithin, of_kind, generator_of}
+use Rattle.workloads.specs.Generators.{IsWithin, of_kind}
 use Rattle.workloads.specs.Laws.{IsAmount, IsAsked, IsMixAsked}
 
 -- ---- options of values

@@ -4,7 +4,7 @@ use Rattle.std.specs.Io.KnownBytes.{Appends}
 use Rattle.aria_base.specs.Streams.{AppendsFront}
 use Rattle.aria_top.specs.Out.{out_for}
 use Rattle.aria_top.specs.Tasks.{task_in}
-use Rattle.aria_top.proofs.Asked.{leaves_asked, leaves_refused, leaves_untouched, nothing_yet, out_asked, out_refused, sees_asked, told_asked}
+use Rattle.aria_top.proofs.Asked.{leaves_asked, leaves_untouched, nothing_yet, out_asked, sees_asked, told_asked}
 use Rattle.aria_top.proofs.top_call.aria.Goals as goal
 
 pub returns-in-Ok-Some-clause-answered : goal.returns-in-Ok-Some-clause-answered

@@ -20,7 +20,8 @@ few-touched (s ∷ ss) a =
     omega (arith, rest, All-head (λ s. touch_count s ≤ MOST_ACCESSES) s ss a, sum_by-cons touch_count s ss)
 
 pub number_touches-requires-clause-touched : goal.number_touches-requires-clause-touched
-number_touches-requires-clause-touched g c κs within = omega (arith, few-touched (map sets_of c.args.list.now) c.requires.touched, length-map c.args.list.now sets_of, c.requires.few)
+number_touches-requires-clause-touched g c κs within = omega
+    (arith, few-touched (map sets_of c.args.list.now) c.requires.touched, length-map c.args.list.now sets_of, c.requires.few)
 
 pub reserve-requires-clause-keys : goal.reserve-requires-clause-keys
 reserve-requires-clause-keys g c κs within =

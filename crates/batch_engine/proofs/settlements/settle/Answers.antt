@@ -57,7 +57,8 @@ returns g c judged =
     let size : c.len-size.result ≡ length verdicts = search rules in
     let rows = c.in_ok-installed.ensures ∙ (λ i. after_changes 1 start (counted i) (c.deref-4.ensures.value i))
     ∙ rows-are tree rule start list changes verdicts changes_are judged.verdicts in
-    let late = settling.late-is tree rule start percent list c.in_ok-installed.installed c.in_ok-after.after.tables c.in_ok-runs.runs.waiting.items c.len-size.result fates
+    let late = settling.late-is tree rule start percent list c.in_ok-installed.installed c.in_ok-after.after.tables c.in_ok-runs.runs.waiting.items
+    c.len-size.result fates
     rows waiting (size ∙ ap length judged.verdicts ∙ length-map _ (λ d. d.verdict)) c.in_ok-after.ensures.late in
     let listed : c.deref.result.now ≡ list = c.deref.ensures.value in
     let numbers = c.in_ok-numbers.ensures ∙ ap (map (λ q. q.q)) listed in
@@ -90,7 +91,8 @@ run_late-requires-clause-numbered g c κs within =
     ∙ ap (tids_among 1) c.deref-2.ensures.value in
     let sets = map sets_in c.args.judgement.outcomes.items in
     let long = length-map c.args.judgement.outcomes.items sets_in ∙ c.requires.outcomes in
-    let waiting : c.in_ok-runs.runs.waiting.items ≡ waiting_among c.args.list.items sets c.args.judgement.verdicts.items = c.in_ok-runs.ensures.waiting ∙ ap (waiting_among c.args.list.items sets) c.deref-3.ensures.value in
+    let waiting : c.in_ok-runs.runs.waiting.items ≡ waiting_among c.args.list.items sets c.args.judgement.verdicts.items = c.in_ok-runs.ensures.waiting
+    ∙ ap (waiting_among c.args.list.items sets) c.deref-3.ensures.value in
     subst (λ ts. StandFor c.args.numbered.now ts c.in_ok-runs.runs.waiting.items) (sym tids)
     (subst (StandFor c.args.numbered.now (tids_among 1 c.args.judgement.verdicts.items)) (sym waiting)
     (stands c.args.numbered.now c.args.list.items sets c.args.judgement.verdicts.items long c.requires.verdicts c.requires.numbered))

@@ -1,5 +1,4 @@
-use Rattle.std.proofs.Common.{◌≡◌, ◌∙◌, ℕ, suc, sym, ap, ◌<◌, ◌+◌, ◌-◌, ◌≤◌, arith, length, map, List, [], Vec, Global, refl}
-use Rattle.std.proofs.lemmas.List.{get_or-map, length-map}
+use Rattle.std.proofs.Common.{◌≡◌, ◌∙◌, ℕ, suc, sym, ap, ◌<◌, ◌+◌, ◌-◌, ◌≤◌, arith, List, [], refl}
 use Rattle.baton_crew.proofs.Running.{within, slots_taken, rows_taken, seat_still, start, item_within, touched_key, rows_key, nexts_key, hand_after, apart_after}
 use Rattle.baton_crew.proofs.items.run_item.Goals as goal
 

@@ -1,5 +1,4 @@
-use Rattle.std.proofs.Common.{◌≡◌, ◌∙◌, ℕ, suc, ◌+◌, ◌-◌, sym, subst, ap, arith, map, List, [], ◌∷◌, ◌++◌, ◌<◌, ◌≤◌}
-use Rattle.std.proofs.lemmas.List.{map-append}
+use Rattle.std.proofs.Common.{◌≡◌, ◌∙◌, ℕ, suc, ◌+◌, ◌-◌, sym, subst, ap, arith, List, [], ◌∷◌, ◌++◌, ◌<◌, ◌≤◌}
 use Rattle.baton_crew.specs.Plans.{AreFirsts, AreNexts}
 use Rattle.baton_crew.proofs.Found.{touched_below, firsts_more, nexts_more}
 use Rattle.baton_crew.proofs.plans.queues.Goals as goal

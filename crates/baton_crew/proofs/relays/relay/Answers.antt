@@ -1,6 +1,5 @@
-use Rattle.std.proofs.Common.{◌≡◌, ◌∙◌, ◌<◌, ◌≤◌, ℕ, List, sym, ap, arith, length, map, subst}
+use Rattle.std.proofs.Common.{◌≡◌, ◌∙◌, ◌<◌, ◌≤◌, ℕ, List, sym, ap, arith, subst}
 use Rattle.aria_base.specs.Shares.{all_shares}
-use Rattle.baton_crew.specs.Hands.{HasShares, HasEnded}
 use Rattle.work_claim.specs.Seats.{IsEachOnce}
 use Rattle.work_crew.specs.Gathered.{AreGiven, places}
 use Rattle.work_crew.proofs.Fills.{given_by}
@@ -72,4 +71,5 @@ returns-clause-given g c =
     c.in_ok-table.ensures.counts.0 c.in_ok-table.ensures.counts.1 c.in_ok-nexts.ensures.nexts
     c.in_ok-table.ensures.seat.0 c.in_ok-table.ensures.seat.1 c.in_ok-words.ensures.ready c.new.ensures.items) in
     subst (λ n. AreGiven (g.W.Course.gives c.args.work.now) n c.in_ok-outputs.outputs.items) c.items.ensures
-    (given_by (g.W.Course.gives c.args.work.now) c.in_ok-seat.field-0.done.items ended.at_board.is.given _ c.in_ok-outputs.outputs.items c.in_ok-outputs.ensures)
+    (given_by (g.W.Course.gives c.args.work.now) c.in_ok-seat.field-0.done.items ended.at_board.is.given _ c.in_ok-outputs.outputs.items
+    c.in_ok-outputs.ensures)

@@ -17,7 +17,8 @@ loop-done-preserved c =
     let below = All-rest (λ (d : Done). d.place < length c.loop-done.lates.items) _ _ _ left kept.4 in (
       tt,
       tt,
-      ap (λ t. installed (λ (d : Done). d.rows) t rest) c.in_ok-put_changes.ensures ∙ sym (ap (installed (λ (d : Done). d.rows) c.loop-done.tables) left) ∙ kept.2,
+      ap (λ t. installed (λ (d : Done). d.rows) t rest) c.in_ok-put_changes.ensures ∙ sym (ap (installed (λ (d : Done). d.rows) c.loop-done.tables) left)
+          ∙ kept.2,
       ap (λ s. filled s rest) c.put.ensures ∙ sym (ap (filled c.loop-done.lates.items) left) ∙ kept.3,
       λ k d in_. let low = below k d in_ in omega (arith, low, len),
     )

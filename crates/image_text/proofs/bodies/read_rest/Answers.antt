@@ -1,6 +1,6 @@
 use Rattle.std.proofs.Common.{◌≡◌, Option, Some, ap, sym, subst, ◌∙◌}
 use Rattle.image_text.specs.Lines.{lines_taken}
-use Rattle.image_text.specs.Entries.{Taken, nothing, take, AreHeld}
+use Rattle.image_text.specs.Entries.{Taken, take, AreHeld}
 use Rattle.image_text.proofs.BodiesRead.{rest_found}
 use Rattle.image_text.proofs.bodies.read_rest.Goals as goal
 

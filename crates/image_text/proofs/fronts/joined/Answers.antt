@@ -1,4 +1,4 @@
-use Rattle.std.proofs.Common.{◌≡◌, List, ℕ, ◌++◌, false, ap, sym, ◌∙◌}
+use Rattle.std.proofs.Common.{◌≡◌, List, ℕ, false, ap, sym, ◌∙◌}
 use Rattle.image_text.specs.Fronts.{joined_from}
 use Rattle.image_text.proofs.FrontsRead.{no_feed, next_piece}
 use Rattle.image_text.proofs.fronts.joined.Goals as goal

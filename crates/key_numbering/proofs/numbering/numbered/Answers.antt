@@ -1,9 +1,9 @@
-use Rattle.std.proofs.Common.{◌≡◌, ◌≤◌, ap, sym, subst, ◌∙◌, length, map, arith}
+use Rattle.std.proofs.Common.{◌≡◌, ◌≤◌, ap, sym, subst, ◌∙◌, map, arith}
 use Rattle.std.specs.FinMap as fin
 use Rattle.dep_rules.specs.Sheets.{Sheet}
 use Rattle.key_numbering.specs.Numbers.{Keeps, number_in, with_sets}
 use Rattle.key_numbering.proofs.Growing.{keeps_sets, one_to_one}
-use Rattle.key_numbering.proofs.Settling.{is_settled, read_lists, write_lists, numbered_lists, all_reads_below, all_writes_below, as_many}
+use Rattle.key_numbering.proofs.Settling.{is_settled, numbered_lists, all_reads_below, all_writes_below, as_many}
 use Rattle.key_numbering.proofs.numbering.numbered.Goals as goal
 
 pub settle_all-requires-clause-places : goal.settle_all-requires-clause-places

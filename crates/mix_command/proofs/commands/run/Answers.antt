@@ -1,7 +1,6 @@
 use Rattle.std.proofs.Common.{◌≡◌, ◌∙◌, ◌+◌, ℕ, ap, sym, arith}
-use Rattle.tpcc_load.specs.declared.settings.Tpcc.{Tpcc}
 use Rattle.workloads.specs.Generators.{orders_of}
-use Rattle.mix_command.specs.Courses.{Stage, behind, first_stage, stage_after, works_at}
+use Rattle.mix_command.specs.Courses.{Stage, behind, first_stage, works_at}
 use Rattle.mix_command.specs.Turns.{stage_of}
 use Rattle.mix_command.proofs.Bounds.{batches-are, stage-more, stage-none}
 use Rattle.mix_command.proofs.commands.run.Goals as goal

@@ -27,13 +27,15 @@ pub judge-requires-clause-few : goal.judge-requires-clause-few
 judge-requires-clause-few g c κs within =
     let act = g.R.Routine.act c.args.routines.now in
     let rans : c.in_ok-rans.rans.items ≡ map (ran_on (run_of c.args.catalog.now) act c.args.tables) c.args.list.now = search rules in
-    few-touched c.args.catalog.now c.requires.catalog (g.R.Routine.taken c.args.routines.now) act c.args.tables c.args.list.now c.requires.well _ (c.deref.ensures.value ∙ rans)
+    few-touched c.args.catalog.now c.requires.catalog (g.R.Routine.taken c.args.routines.now) act c.args.tables c.args.list.now c.requires.well _
+    (c.deref.ensures.value ∙ rans)
 
 pub judge-requires-clause-apart : goal.judge-requires-clause-apart
 judge-requires-clause-apart g c κs within =
     let act = g.R.Routine.act c.args.routines.now in
     let rans : c.in_ok-rans.rans.items ≡ map (ran_on (run_of c.args.catalog.now) act c.args.tables) c.args.list.now = search rules in
-    are-apart c.args.catalog.now c.requires.catalog (g.R.Routine.taken c.args.routines.now) act c.args.tables c.args.list.now c.requires.well _ (c.deref.ensures.value ∙ rans)
+    are-apart c.args.catalog.now c.requires.catalog (g.R.Routine.taken c.args.routines.now) act c.args.tables c.args.list.now c.requires.well _
+    (c.deref.ensures.value ∙ rans)
 
 pub returns : goal.returns
 returns g c =

@@ -1,5 +1,4 @@
 use Rattle.std.proofs.Common.{◌≡◌, ap, ◌∙◌, subst, ℕ, List}
-use Rattle.aria_base.specs.declared.marks.Mark.{Mark}
 use Rattle.aria_base.specs.Reserved.{StandFor}
 use Rattle.dep_rules.specs.Sheets.{AreMarksOf}
 use Rattle.dep_rules.specs.Words.{Tell}

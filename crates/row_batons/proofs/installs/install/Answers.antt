@@ -1,4 +1,4 @@
-use Rattle.std.proofs.Common.{◌≡◌, ◌∙◌, ap, sym, arith, length}
+use Rattle.std.proofs.Common.{◌≡◌, ◌∙◌, ap, sym}
 use Rattle.row_batons.proofs.Installing.{made, shorter}
 use Rattle.row_batons.proofs.installs.install.Goals as goal
 

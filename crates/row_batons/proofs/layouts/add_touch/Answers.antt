@@ -1,7 +1,6 @@
 use Rattle.std.proofs.Common.{◌≡◌, ◌≤◌, sym, subst, set}
-use Rattle.work_claim.specs.Rule.{times}
-use Rattle.row_batons.specs.Layouts.{AreStamped, StayTouched}
-use Rattle.row_batons.proofs.Touching.{touched_now, still_touched, stamped_now}
+use Rattle.row_batons.specs.Layouts.{AreStamped}
+use Rattle.row_batons.proofs.Touching.{stamped_now}
 use Rattle.row_batons.proofs.layouts.add_touch.Goals as goal
 
 pub returns-clause-stamped : goal.returns-clause-stamped

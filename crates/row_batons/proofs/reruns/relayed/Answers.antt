@@ -1,6 +1,6 @@
 use denote.Param.Send.{sendable}
 use Rattle.std.proofs.Crossing.{crosses}
-use Rattle.std.proofs.Common.{◌≡◌, ◌∙◌, ℕ, ap, sym, refl, arith, subst, List, map, length}
+use Rattle.std.proofs.Common.{◌≡◌, ◌∙◌, ℕ, ap, sym, refl, subst, List}
 use Rattle.tbl_snapshot.proofs.snapshots.Snapshot.TheSendSync as snapshot
 use Rattle.proc_exec.proofs.outcomes.Waiting.TheSendSync as one
 use Rattle.aria_base.proofs.keys.Key.TheSendSync as key

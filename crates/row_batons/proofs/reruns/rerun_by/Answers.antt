@@ -1,4 +1,4 @@
-use Rattle.std.proofs.Common.{◌≡◌, ◌∙◌, ℕ, ap, sym, subst, map, length}
+use Rattle.std.proofs.Common.{◌≡◌, ◌∙◌, ℕ, ap, sym, subst, length}
 use Rattle.aria_base.specs.Orders.{key_cmp}
 use Rattle.proc_exec.specs.Limits.{touchable}
 use Rattle.row_batons.specs.Fallbacks.{IsLaidOut, touches_in}

@@ -1,5 +1,5 @@
 use Rattle.std.proofs.Common.{◌≡◌, ◌∙◌, ap, sym, arith, length}
-use Rattle.row_batons.proofs.Slotting.{one_request, all_same_length, list_there, many_there}
+use Rattle.row_batons.proofs.Slotting.{one_request, all_same_length}
 use Rattle.row_batons.specs.Layouts.{with_slots}
 use Rattle.row_batons.proofs.slots.slots_of.Goals as goal
 

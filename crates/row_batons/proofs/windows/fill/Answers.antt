@@ -1,8 +1,7 @@
-use Rattle.std.proofs.Common.{◌≡◌, ◌∙◌, ◌+◌, ap, sym, refl, arith, subst, ◌<◌, ℕ, drop, take, List, map}
-use Rattle.std.proofs.Math.Seq.{take-length}
+use Rattle.std.proofs.Common.{◌≡◌, ◌∙◌, ◌+◌, ap, sym, refl, arith, subst, ◌<◌, ℕ, take, List, map}
 use Rattle.atomic_table.proofs.Lists.{at_index}
 use Rattle.aria_base.proofs.Orders.{key_cmp_total, key_cmp-IsAntisymmetric}
-use Rattle.row_batons.specs.Windows.{laid, AreAt}
+use Rattle.row_batons.specs.Windows.{AreAt}
 use Rattle.row_batons.proofs.Laid.{fill_step}
 use Rattle.row_batons.proofs.Fronts.{laid_behind}
 use Rattle.row_batons.proofs.windows.fill.Goals as goal

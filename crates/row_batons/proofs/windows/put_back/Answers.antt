@@ -1,4 +1,4 @@
-use Rattle.std.proofs.Common.{◌≡◌, ◌∙◌, sym, ap, length, arith}
+use Rattle.std.proofs.Common.{◌≡◌, ◌∙◌, sym, ap, arith}
 use Rattle.row_batons.proofs.Fronts.{one_back}
 use Rattle.row_batons.proofs.windows.put_back.Goals as goal
 

@@ -1,4 +1,4 @@
-use Rattle.std.proofs.Common.{◌≡◌, ◌∙◌, ◌≤◌, ℕ, ap, map, take, length, arith}
+use Rattle.std.proofs.Common.{◌≡◌, ◌∙◌, ◌≤◌, ℕ, ap, map, take, arith}
 use Rattle.aria_base.proofs.Orders.{key_cmp_total, key_cmp-IsAntisymmetric}
 use Rattle.row_batons.proofs.Fronts.{enough_writes, front_rows}
 use Rattle.row_batons.proofs.windows.rows_back.Goals as goal

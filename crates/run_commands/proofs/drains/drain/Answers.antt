@@ -66,7 +66,8 @@ returns-then-waiting-eq0-clause-holds g c = λ first saved d end h.
     let none : (length (state_of c.loop.live).waiting == 0) ≡ true = grind (arith, c.waiting.ensures, c.if-waiting-eq0.true) in
     let held = c.loop.invariant.holds first saved d end h in
     subst (λ (x : Saved). HoldsLive first x (g.D.Disk.history c.loop.disk) c.loop.live)
-    (sym (saved_left c.args.start c.loop.live c.args.line (length (state_of c.args.start).waiting) c.loop.counter d end c.loop.invariant.like held.0 none) ∙ held.2)
+    (sym (saved_left c.args.start c.loop.live c.args.line (length (state_of c.args.start).waiting) c.loop.counter d end c.loop.invariant.like held.0 none)
+    ∙ held.2)
     held.1
 
 pub returns-then-waiting-eq0-clause-held : goal.returns-then-waiting-eq0-clause-held
@@ -90,7 +91,8 @@ returns-clause-holds g c = λ first saved d end h.
     let none : (length (state_of c.loop.live).waiting == 0) ≡ true = grind (arith, c.loop.invariant.left, c.loop-test.false, c.waiting-end.ensures) in
     let held = c.loop.invariant.holds first saved d end h in
     subst (λ (x : Saved). HoldsLive first x (g.D.Disk.history c.loop.disk) c.loop.live)
-    (sym (saved_left c.args.start c.loop.live c.args.line (length (state_of c.args.start).waiting) c.loop.counter d end c.loop.invariant.like held.0 none) ∙ held.2)
+    (sym (saved_left c.args.start c.loop.live c.args.line (length (state_of c.args.start).waiting) c.loop.counter d end c.loop.invariant.like held.0 none)
+    ∙ held.2)
     held.1
 
 pub returns-clause-held : goal.returns-clause-held

@@ -27,7 +27,8 @@ invariant-loop g l = record {
   holds : (first : ℕ) (saved : Saved) (d : Doing) → IsEnd (plan_of l.initial.live) l.initial.live.each l.line (state_of l.initial.live) d
       → HoldsLive first saved (g.D.Disk.history l.initial.disk) l.initial.live
       → (here : Saved) × HoldsLive first here (g.D.Disk.history l.disk) l.live
-      × (saved_behind l.initial.live.checkpoint (replicate (length (state_of l.initial.live).waiting - l.counter) Drain) (record d { state = state_of l.live }) here
+      × (saved_behind l.initial.live.checkpoint (replicate (length (state_of l.initial.live).waiting - l.counter) Drain)
+      (record d { state = state_of l.live }) here
       ≡ saved_behind l.initial.live.checkpoint (drains_of (state_of l.initial.live)) d saved)
       × ((last : History) → LeavesAll (g.D.Disk.history l.disk) last (IsLeft l.initial.live.checkpoint
       (replicate (length (state_of l.initial.live).waiting - l.counter) Drain) (record d { state = state_of l.live }) here)

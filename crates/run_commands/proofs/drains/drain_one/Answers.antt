@@ -110,7 +110,8 @@ returns-in-Some-clause-keeps g c = λ ck later d end h.
     (as_either c.args.live c.new.result.items c.new.ensures.items c.args.line below (g.K.Sink.given c.args.out.now)
     (g.K.Sink.given c.serve_batch-next.new.out) c.serve_batch-next.result
     c.serve_batch-next.ensures.tells (next_due c.args.live c.new.result.items) ck later
-    (added later c.args.live.config.rule c.args.live.config.fallback c.new.result.items) (g.D.Disk.history c.args.disk.now) (g.D.Disk.history c.serve_batch-next.new.disk)
+    (added later c.args.live.config.rule c.args.live.config.fallback c.new.result.items) (g.D.Disk.history c.args.disk.now)
+    (g.D.Disk.history c.serve_batch-next.new.disk)
     (c.serve_batch-next.ensures.images ck later h))
     (as_after c.args.live c.new.result.items c.new.ensures.items c.args.line below (g.K.Sink.given c.args.out.now)
     (g.K.Sink.given c.serve_batch-next.new.out) c.serve_batch-next.result
@@ -162,7 +163,8 @@ returns-in-None-clause-keeps g c = λ ck later d end h.
     (as_either c.args.live c.new.result.items c.new.ensures.items c.args.line below (g.K.Sink.given c.args.out.now)
     (g.K.Sink.given c.serve_batch-next.new.out) c.serve_batch-next.result
     c.serve_batch-next.ensures.tells (next_due c.args.live c.new.result.items) ck later
-    (added later c.args.live.config.rule c.args.live.config.fallback c.new.result.items) (g.D.Disk.history c.args.disk.now) (g.D.Disk.history c.serve_batch-next.new.disk)
+    (added later c.args.live.config.rule c.args.live.config.fallback c.new.result.items) (g.D.Disk.history c.args.disk.now)
+    (g.D.Disk.history c.serve_batch-next.new.disk)
     (c.serve_batch-next.ensures.images ck later h))
     (as_after c.args.live c.new.result.items c.new.ensures.items c.args.line below (g.K.Sink.given c.args.out.now)
     (g.K.Sink.given c.serve_batch-next.new.out) c.serve_batch-next.result

@@ -101,7 +101,8 @@ returns-clause-laid g c = λ first saved d end h which.
     let b = c.args.work.base in
     elim which [
       | inl e ↦ absurd cc
-      | inr e ↦ drained_laid (plan_in c.args.head.now) c.args.work.each c.args.line (state_in b) d end (held_in b) c.args.drains on first saved (checkpoint_in b)
+      | inr e ↦ drained_laid (plan_in c.args.head.now) c.args.work.each c.args.line (state_in b) d end (held_in b) c.args.drains on first saved
+          (checkpoint_in b)
           (g.D.Disk.history c.drained.new.disk)
           (c.in-Err.ensures.refused first saved d end h (refused_as c.in-Err.stop stop.Refused e))
     ]

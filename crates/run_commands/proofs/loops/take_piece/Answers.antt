@@ -41,7 +41,8 @@ returns-in-Ok-before-clause-keeps g c = λ first saved h.
     let same : c.deref-in-Ok-before.result.now ≡ s.lines =
     c.deref-in-Ok-before.ensures.value ∙ c.in-Ok-before.ensures ∙ ap (λ (f : Feed). (scan f c.args.piece.now).lines) c.in-Err-Line.ensures.kept in
     let fault : s.fault ≡ Some c.in-Err-Line.refusal = search rules in
-    same_turns first saved (turns s) (map Line c.deref-in-Ok-before.result.now ++ past (Some c.in-Err-Line.refusal)) c.args.script (g.D.Disk.history c.args.disk.now)
+    same_turns first saved (turns s) (map Line c.deref-in-Ok-before.result.now ++ past (Some c.in-Err-Line.refusal)) c.args.script
+    (g.D.Disk.history c.args.disk.now)
     (g.D.Disk.history c.refuse_behind.new.disk)
     (g.K.Sink.given c.args.out.now) (g.K.Sink.given c.refuse_behind.new.out) c.refuse_behind.result
     (fault_turns s c.deref-in-Ok-before.result.now c.in-Err-Line.refusal same fault)

@@ -24,7 +24,8 @@ returns-in-Err-clause-completes g c =
 
 pub returns-in-Ok-clause-keeps : goal.returns-in-Ok-clause-keeps
 returns-in-Ok-clause-keeps g c first saved holds =
-    keeps_on_end c.args.drains first saved c.args.start (g.D.Disk.history c.args.disk.now) (g.D.Disk.history c.read_script.new.disk) (g.K.Sink.given c.args.out.now)
+    keeps_on_end c.args.drains first saved c.args.start (g.D.Disk.history c.args.disk.now) (g.D.Disk.history c.read_script.new.disk)
+    (g.K.Sink.given c.args.out.now)
     (g.K.Sink.given c.read_script.new.out)
     (g.S.Source.left c.args.input.now) c.in-Ok.last (g.D.Disk.history c.end_of.new.disk) (g.K.Sink.given c.end_of.new.out) c.in-Ok.ensures.comes.0
     (c.in-Ok.ensures.keeps first saved holds)
@@ -32,13 +33,15 @@ returns-in-Ok-clause-keeps g c first saved holds =
 
 pub returns-in-Err-clause-keeps : goal.returns-in-Err-clause-keeps
 returns-in-Err-clause-keeps g c first saved holds =
-    keeps_on_cut c.args.drains first saved c.args.start (g.D.Disk.history c.args.disk.now) (g.D.Disk.history c.read_script.new.disk) (g.K.Sink.given c.args.out.now)
+    keeps_on_cut c.args.drains first saved c.args.start (g.D.Disk.history c.args.disk.now) (g.D.Disk.history c.read_script.new.disk)
+    (g.K.Sink.given c.args.out.now)
     (g.K.Sink.given c.read_script.new.out)
     (g.S.Source.left c.args.input.now) c.in-Err.stop (c.in-Err.ensures.keeps first saved holds)
 
 pub returns-in-Ok-clause-laid : goal.returns-in-Ok-clause-laid
 returns-in-Ok-clause-laid g c first saved holds ended =
-    laid_on_end c.args.drains first saved c.args.start (g.D.Disk.history c.args.disk.now) (g.D.Disk.history c.read_script.new.disk) (g.K.Sink.given c.args.out.now)
+    laid_on_end c.args.drains first saved c.args.start (g.D.Disk.history c.args.disk.now) (g.D.Disk.history c.read_script.new.disk)
+    (g.K.Sink.given c.args.out.now)
     (g.K.Sink.given c.read_script.new.out)
     (g.S.Source.left c.args.input.now) c.in-Ok.last (g.D.Disk.history c.end_of.new.disk) (g.K.Sink.given c.end_of.new.out) c.in-Ok.ensures.comes.0
     (c.in-Ok.ensures.keeps first saved holds)
@@ -46,7 +49,8 @@ returns-in-Ok-clause-laid g c first saved holds ended =
 
 pub returns-in-Err-clause-laid : goal.returns-in-Err-clause-laid
 returns-in-Err-clause-laid g c first saved holds ended =
-    laid_on_cut c.args.drains first saved c.args.start (g.D.Disk.history c.args.disk.now) (g.D.Disk.history c.read_script.new.disk) (g.K.Sink.given c.args.out.now)
+    laid_on_cut c.args.drains first saved c.args.start (g.D.Disk.history c.args.disk.now) (g.D.Disk.history c.read_script.new.disk)
+    (g.K.Sink.given c.args.out.now)
     (g.K.Sink.given c.read_script.new.out)
     (g.S.Source.left c.args.input.now) c.in-Err.stop (cut_refused c.in-Err.stop ended) c.in-Err.ensures.comes.0 (c.in-Err.ensures.keeps first saved holds)
 

@@ -1,5 +1,4 @@
 use Rattle.std.proofs.Common.{rules, ◌≡◌, true, false}
-use Rattle.disk_model.proofs.Spans.{still_then}
 use Rattle.store_files.proofs.Attaching.{taken_first, taken_second}
 use Rattle.store_files.proofs.attachments.is_taken.Goals as goal
 

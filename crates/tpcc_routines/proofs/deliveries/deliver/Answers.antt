@@ -18,7 +18,8 @@ returns-in_ok-turn-in-Many c next =
     let rest : List Seen = take (length c.args.seen.now - 1) (drop 1 c.args.seen.now) in
     let rows = c.as_slice-orders.result.now in
     let go : List (Key × Cells) → Walk = oldest c.args.what c.args.at next in
-    let front : c.args.seen.now ≡ Many c.as_slice-orders.result.now ∷ take (length c.args.seen.now - 1) (drop 1 c.args.seen.now) = grind (arith, common_steps) in
+    let front : c.args.seen.now ≡ Many c.as_slice-orders.result.now ∷ take (length c.args.seen.now - 1) (drop 1 c.args.seen.now) =
+    grind (arith, common_steps) in
     let right : are_rows (prefix_at table.open_orders (c.args.at.w ∷ c.args.at.d ∷ [])) 0 c.as_slice-orders.result.now ≡ true = search rules in
     turned (go rows) (deliver c.args.what c.args.at next) next rest c.args.seen.now c.in_ok-turn-in-Many.turn
     (found_on p 0 go rows rest c.args.seen.now front right) (c.in_ok-turn-in-Many.ensures next)

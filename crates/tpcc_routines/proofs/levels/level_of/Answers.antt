@@ -16,7 +16,8 @@ pub returns-in-Asks : goal.returns-in-Asks
 unfolding level_of
 returns-in-Asks c =
     let turn = c.loop-turn.turn in
-    let go : List (Key × Cells) → Walk = λ lines. level_of c.args.at c.args.t.now c.args.next.now (19 - c.loop-turn.turn) (with_items c.loop-turn.items.keys lines) in
+    let go : List (Key × Cells) → Walk = λ lines. level_of c.args.at c.args.t.now c.args.next.now (19 - c.loop-turn.turn)
+    (with_items c.loop-turn.items.keys lines) in
     let left : suc (19 - c.loop-turn.turn) + c.loop-turn.turn ≡ 20 = let below = c.loop-turn-test.true in omega arith in
     let same : 20 - c.loop-turn.turn ≡ suc (19 - c.loop-turn.turn) = let below = c.loop-turn-test.true in omega arith in
     subst (TurnsLines (lines_before c.args.at c.args.next.now (suc (19 - turn)) go) go c.loop-turn.left.now) c.in-Asks.is

@@ -13,25 +13,32 @@ further : (drawn : Drawn Work) (old new : Lcg) → Advances drawn → new ≡ (d
 further drawn old new advances past = let a = advances old in (a.0, past ∙ a.1)
 
 pub returns-in_err-work-2-clause-further : goal.returns-in_err-work-2-clause-further
-returns-in_err-work-2-clause-further c = further (proc_payment c.args.settings.now c.args.number) c.args.draws.now _ (proc_payment-advances c.args.settings.now c.args.number) c.proc_payment.ensures.past
+returns-in_err-work-2-clause-further c = further (proc_payment c.args.settings.now c.args.number) c.args.draws.now _
+    (proc_payment-advances c.args.settings.now c.args.number) c.proc_payment.ensures.past
 
 pub returns-then-kind-lt88-clause-further : goal.returns-then-kind-lt88-clause-further
-returns-then-kind-lt88-clause-further c = further (proc_payment c.args.settings.now c.args.number) c.args.draws.now _ (proc_payment-advances c.args.settings.now c.args.number) c.proc_payment.ensures.past
+returns-then-kind-lt88-clause-further c = further (proc_payment c.args.settings.now c.args.number) c.args.draws.now _
+    (proc_payment-advances c.args.settings.now c.args.number) c.proc_payment.ensures.past
 
 pub returns-in_err-work-3-clause-further : goal.returns-in_err-work-3-clause-further
-returns-in_err-work-3-clause-further c = further (order_status c.args.settings.now) c.args.draws.now _ (status-advances c.args.settings.now) c.order_status.ensures.past
+returns-in_err-work-3-clause-further c = further (order_status c.args.settings.now) c.args.draws.now _
+    (status-advances c.args.settings.now) c.order_status.ensures.past
 
 pub returns-then-kind-lt92-clause-further : goal.returns-then-kind-lt92-clause-further
-returns-then-kind-lt92-clause-further c = further (order_status c.args.settings.now) c.args.draws.now _ (status-advances c.args.settings.now) c.order_status.ensures.past
+returns-then-kind-lt92-clause-further c = further (order_status c.args.settings.now) c.args.draws.now _
+    (status-advances c.args.settings.now) c.order_status.ensures.past
 
 pub returns-in_err-work-4-clause-further : goal.returns-in_err-work-4-clause-further
-returns-in_err-work-4-clause-further c = further (delivery c.args.settings.now c.args.number) c.args.draws.now _ (delivery-advances c.args.settings.now c.args.number) c.delivery.ensures.past
+returns-in_err-work-4-clause-further c = further (delivery c.args.settings.now c.args.number) c.args.draws.now _
+    (delivery-advances c.args.settings.now c.args.number) c.delivery.ensures.past
 
 pub returns-then-kind-lt96-clause-further : goal.returns-then-kind-lt96-clause-further
-returns-then-kind-lt96-clause-further c = further (delivery c.args.settings.now c.args.number) c.args.draws.now _ (delivery-advances c.args.settings.now c.args.number) c.delivery.ensures.past
+returns-then-kind-lt96-clause-further c = further (delivery c.args.settings.now c.args.number) c.args.draws.now _
+    (delivery-advances c.args.settings.now c.args.number) c.delivery.ensures.past
 
 pub returns-in_err-work-5-clause-further : goal.returns-in_err-work-5-clause-further
-returns-in_err-work-5-clause-further c = further (stock_level c.args.settings.now) c.args.draws.now _ (level-advances c.args.settings.now) c.stock_level.ensures.past
+returns-in_err-work-5-clause-further c = further (stock_level c.args.settings.now) c.args.draws.now _
+    (level-advances c.args.settings.now) c.stock_level.ensures.past
 
 pub returns-clause-further : goal.returns-clause-further
 returns-clause-further c = further (stock_level c.args.settings.now) c.args.draws.now _ (level-advances c.args.settings.now) c.stock_level.ensures.past

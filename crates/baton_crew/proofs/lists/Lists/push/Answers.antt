@@ -1,4 +1,4 @@
-use Rattle.std.proofs.Common.{◌≡◌, ◌∙◌, ◌+◌, ◌++◌, ◌∷◌, [], ap, arith, length}
+use Rattle.std.proofs.Common.{◌≡◌, ◌∙◌, ◌+◌, ◌++◌, ◌∷◌, [], ap, arith}
 use Rattle.baton_crew.proofs.Pieces.{pushed}
 use Rattle.baton_crew.proofs.lists.Lists.push.Goals as goal
 

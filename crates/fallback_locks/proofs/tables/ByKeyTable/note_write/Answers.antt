@@ -13,4 +13,5 @@ returns-clause-noted c = λ q.
     let set = c.in_ok-insert.ensures.updates.0 q
     ∙ (λ i. cond (is_eq (derived_cmp (copied i) q)) (Some c.written_in-next.result) (tree.get derived_cmp lasts q)) in
     noted_at (λ cmp. tree.get cmp lasts q) (λ cmp. tree.get cmp c.insert.new.self q) q c.args.key.now c.written_in-next.result set
-    (with_writer c.args.wave) (λ last. refl) (λ e. c.written_in-next.ensures ∙ ap (with_writer c.args.wave true) (c.last_of.ensures ∙ ap (last_in lasts) (sym e)))
+    (with_writer c.args.wave) (λ last. refl) (λ e. c.written_in-next.ensures
+    ∙ ap (with_writer c.args.wave true) (c.last_of.ensures ∙ ap (last_in lasts) (sym e)))

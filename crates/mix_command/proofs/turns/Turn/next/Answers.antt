@@ -1,6 +1,6 @@
 use Rattle.std.proofs.Common.{◌≡◌, ◌∙◌, ◌+◌, ◌≤◌, List, length, ap, subst, sym}
 use Rattle.batch_core.specs.declared.answers.Answer.{Answer}
-use Rattle.bench_command.specs.Tallies.{HasRoom, with_lines}
+use Rattle.bench_command.specs.Tallies.{with_lines}
 use Rattle.range_resv.specs.Engines.{batch_from}
 use Rattle.range_rules.specs.declared.routines.TheConstants.{MOST_WORKS}
 use Rattle.range_rules.specs.declared.routines.Work.{Work}
@@ -14,7 +14,8 @@ pub with-tally-requires : goal.with-tally-requires
 with-tally-requires g c =
     let lines : c.as_slice.result.now ≡ (batch_from act c.args.config.now.rule c.args.self.mix c.in_ok-works.works.items).lines =
     c.as_slice.ensures ∙ ap (λ (a : Answer). a.lines) c.in_ok-mix.ensures.answer in
-    rw lines (has-room c.args.config.now.rule (stage_of c.args.self) c.in_ok-works.works.items c.requires.early c.requires.batches c.in_ok-works.ensures.may.room)
+    rw lines (has-room c.args.config.now.rule (stage_of c.args.self) c.in_ok-works.works.items c.requires.early c.requires.batches
+    c.in_ok-works.ensures.may.room)
 
 pub returns-clause-behind : goal.returns-clause-behind
 returns-clause-behind g c =

@@ -1,4 +1,4 @@
-use Rattle.std.proofs.Common.{◌≡◌, ◌≤◌, ◌++◌, refl, sym, ap, ◌∙◌, arith, map, length}
+use Rattle.std.proofs.Common.{◌≡◌, ◌≤◌, ◌++◌, refl, sym, ap, ◌∙◌, arith, map}
 use Rattle.std.proofs.lemmas.List.{append-nil}
 use Rattle.node_rules.specs.Messages.{Marks}
 use Rattle.node_rules.specs.Newses.{news_by}

@@ -93,11 +93,14 @@ returns-clause-on c = λ start ready.
     let d = desk start w ready k l at s0 seat new.1 new.0 in
     let shows = shown start w ready k l at s0 seat new.1 new.0 in
     let nodes = nodes_here start w ready k l at s0 seat new.1 new.0 in
-    let fresh = subst (λ n. IsFresh (net_of w.catalog w.rule n same_message) d (message_of l)) (sym nodes) (is_fresh start w ready k l at s0 seat new.1 new.0) in
+    let fresh = subst (λ n. IsFresh (net_of w.catalog w.rule n same_message) d (message_of l)) (sym nodes)
+    (is_fresh start w ready k l at s0 seat new.1 new.0) in
     let told = c.in_ok-give.ensures.shows d shows fresh in
     let out = c.give.new.out.items in
-    let shows_after = subst (λ n. Shows w.catalog w.rule same_message (desk_with (net_of w.catalog w.rule n same_message) d (message_of l)) c.give.new.self.bench) nodes told.0 in
-    let mails = told.1 ∙ ap (λ l0. map message_of l0 ++ news (net_of w.catalog w.rule s0.bench.site.nodes same_message) d (message_of l)) c.new-out.ensures.items
+    let shows_after = subst (λ n. Shows w.catalog w.rule same_message (desk_with (net_of w.catalog w.rule n same_message) d (message_of l))
+    c.give.new.self.bench) nodes told.0 in
+    let mails = told.1 ∙ ap (λ l0. map message_of l0 ++ news (net_of w.catalog w.rule s0.bench.site.nodes same_message) d (message_of l))
+    c.new-out.ensures.items
     ∙ ap (λ n. news (net_of w.catalog w.rule n same_message) d (message_of l)) nodes in
     let fixed = c.in_ok-send.ensures.fixed in
     let rest = c.in_ok-send.ensures.rest in

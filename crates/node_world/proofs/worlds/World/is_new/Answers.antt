@@ -7,7 +7,8 @@ use Rattle.node_seats.proofs.Keeping.{stands}
 use Rattle.node_world.proofs.Delivered.{flagged_there, to_seat, is_given, is_other, is_current}
 use Rattle.node_world.proofs.worlds.World.is_new.Goals as goal
 
-flag_at : (w : World) (k : ℕ) (flag : Bool) → k < length w.given.items → flag ≡ slice_index_or w.given.items k flag → slice_index_or w.given.items k false ≡ flag
+flag_at : (w : World) (k : ℕ) (flag : Bool) → k < length w.given.items → flag ≡ slice_index_or w.given.items k flag
+    → slice_index_or w.given.items k false ≡ flag
 flag_at w k flag within is = get_or_from_slice_get w.given.items k flag false (stands w.given.items k flag within is)
 
 pub index-requires : goal.index-requires
@@ -37,7 +38,8 @@ returns-clause-new c = λ e.
     let at = stands w.sent.items c.args.k l c.requires.sent c.index-letter.ensures in
     let ready = c.requires.ready in
     is_current w c.args.k l at s (stands w.seats.items l.addressee s (to_seat ready.0 w ready.1 c.args.k l at) c.index-2.ensures)
-    (flag_at w c.args.k c.index.result.now (flagged_there ready.0 w ready.1 c.args.k c.requires.sent) c.index.ensures ∙ c.if-index.false) (eqb-true l.batch s.bench.site.batch e)
+    (flag_at w c.args.k c.index.result.now (flagged_there ready.0 w ready.1 c.args.k c.requires.sent) c.index.ensures ∙ c.if-index.false)
+    (eqb-true l.batch s.bench.site.batch e)
 
 pub returns-clause-old : goal.returns-clause-old
 returns-clause-old c = λ e.

@@ -68,7 +68,8 @@ returns-clause-settled c =
       passes = o.passes;
       is = o.is;
       reached = o.reached;
-      done = subst (λ net. is_behind net (world_in c.passes.nodes.start.value c.passes.nodes.world) ≡ false) o.same_net (sym c.is_behind.ensures ∙ c.passes-test.false);
+      done = subst (λ net. is_behind net (world_in c.passes.nodes.start.value c.passes.nodes.world) ≡ false) o.same_net (sym c.is_behind.ensures
+          ∙ c.passes-test.false);
     }
 
 pub returns-clause-done : goal.returns-clause-done

@@ -1,5 +1,4 @@
 use Rattle.std.proofs.Common.{◌≡◌, ◌∙◌, ℕ, ap, sym, refl, arith, subst, ◌<◌, ◌≤◌, List, [], map, length, get_or}
-use Rattle.std.proofs.lemmas.List.{get_or-map}
 use Rattle.std.proofs.lemmas.Result.{IfOk-weaker}
 use Rattle.atomic_table.proofs.Lists.{at_index}
 use Rattle.work_claim.specs.Rule.{times}
@@ -7,10 +6,9 @@ use Rattle.work_claim.proofs.Keeps.{times-contained}
 use Rattle.batch_rules.specs.Batches.{late_fate, late_map}
 use Rattle.proc_lang.specs.Catalogs.{run_of}
 use Rattle.proc_lang.specs.Meaning.{is_done}
-use Rattle.proc_exec.specs.Lates.{fate_of}
 use Rattle.proc_exec.specs.declared.outcomes.Waiting.{Waiting}
 use Rattle.proc_exec.specs.Limits.{touchable}
-use Rattle.row_batons.specs.Fallbacks.{touches_in, Fates, row_at, found_at}
+use Rattle.row_batons.specs.Fallbacks.{touches_in}
 use Rattle.row_batons.specs.Windows.{laid, rows_of}
 use Rattle.row_batons.proofs.Handed.{rows_handed, fate_is, rows_after, on_ok}
 use Rattle.row_batons.proofs.reruns.FallbackCourse.run.Goals as goal

@@ -70,7 +70,8 @@ returns-in-Ok-clause-keeps g c = λ first saved.
 
 pub returns-in-Err-Memory-clause-keeps : goal.returns-in-Err-Memory-clause-keeps
 returns-in-Err-Memory-clause-keeps g c = λ first saved h.
-    none_kept first saved (Line c.args.line.now ∷ []) c.args.self (g.D.Disk.history c.args.disk.now) (g.K.Sink.given c.args.out.now) stop.NoMemory (λ e. absurd cc) h
+    none_kept first saved (Line c.args.line.now ∷ []) c.args.self (g.D.Disk.history c.args.disk.now) (g.K.Sink.given c.args.out.now) stop.NoMemory
+    (λ e. absurd cc) h
 
 pub returns-in-Err-Line-clause-keeps : goal.returns-in-Err-Line-clause-keeps
 returns-in-Err-Line-clause-keeps g c = λ first saved.
@@ -83,6 +84,7 @@ returns-in-Err-Line-clause-keeps g c = λ first saved.
     let said : asked place c.counts-counts.result c.args.line.now ≡ Err refusal.kind = search rules in
     let at : refusal.line ≡ line_after place.lines = search rules in
     let is = refused_by place work c.counts-counts.result c.args.line.now c.counts-counts.ensures refusal said at in
-    subst (λ (s : Running). HoldsScript first saved disk s → KeepsTurns first saved (Line c.args.line.now ∷ []) s disk disk ga gb c.refuse.result) c.self.view_is
+    subst (λ (s : Running). HoldsScript first saved disk s → KeepsTurns first saved (Line c.args.line.now ∷ []) s disk disk ga gb c.refuse.result)
+    c.self.view_is
     (λ h. line_refused first saved c.args.line.now (running_of place work) (refusal_text refusal) disk ga gb c.refuse.result is
     (refused_doing (refusal_text refusal) ga gb c.refuse.result c.refuse.ensures.serves) h)

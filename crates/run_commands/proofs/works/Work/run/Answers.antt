@@ -69,9 +69,11 @@ returns-in-Some-clause-keeps g c = λ ck later before line h same is.
     ran_told c.args.place c.args.self c.in-Ok.live c.in-Ok.ensures line before same is old (g.D.Disk.history c.serve_batch-next.new.disk)
     (g.K.Sink.given c.args.out.now)
     (g.K.Sink.given c.serve_batch-next.new.out) c.serve_batch-next.result c.serve_batch-next.ensures.tells
-    (as_either c.args.place c.args.self c.in-Ok.live c.in-Ok.ensures (next_due c.in-Ok.live c.args.self.calls.items) ck later (added later c.in-Ok.live.config.rule c.in-Ok.live.config.fallback c.args.self.calls.items) old
+    (as_either c.args.place c.args.self c.in-Ok.live c.in-Ok.ensures (next_due c.in-Ok.live c.args.self.calls.items) ck later
+    (added later c.in-Ok.live.config.rule c.in-Ok.live.config.fallback c.args.self.calls.items) old
     (g.D.Disk.history c.serve_batch-next.new.disk) (c.serve_batch-next.ensures.images ck later hl))
-    (as_after c.args.place c.args.self c.in-Ok.live c.in-Ok.ensures (next_due c.in-Ok.live c.args.self.calls.items) ck later (added later c.in-Ok.live.config.rule c.in-Ok.live.config.fallback c.args.self.calls.items) _
+    (as_after c.args.place c.args.self c.in-Ok.live c.in-Ok.ensures (next_due c.in-Ok.live c.args.self.calls.items) ck later
+    (added later c.in-Ok.live.config.rule c.in-Ok.live.config.fallback c.args.self.calls.items) _
     (g.D.Disk.history c.serve_batch-next.new.disk) (c.serve_batch-next.ensures.answered ck later hl)) c.in-Some.live c.in-Some.is
 
 pub returns-in-None-clause-keeps : goal.returns-in-None-clause-keeps
@@ -81,9 +83,11 @@ returns-in-None-clause-keeps g c = λ ck later before line h same is.
     ran_cut c.args.place c.args.self c.in-Ok.live c.in-Ok.ensures line before same is old (g.D.Disk.history c.serve_batch-next.new.disk)
     (g.K.Sink.given c.args.out.now)
     (g.K.Sink.given c.serve_batch-next.new.out) c.serve_batch-next.result c.serve_batch-next.ensures.tells
-    (as_either c.args.place c.args.self c.in-Ok.live c.in-Ok.ensures (next_due c.in-Ok.live c.args.self.calls.items) ck later (added later c.in-Ok.live.config.rule c.in-Ok.live.config.fallback c.args.self.calls.items) old
+    (as_either c.args.place c.args.self c.in-Ok.live c.in-Ok.ensures (next_due c.in-Ok.live c.args.self.calls.items) ck later
+    (added later c.in-Ok.live.config.rule c.in-Ok.live.config.fallback c.args.self.calls.items) old
     (g.D.Disk.history c.serve_batch-next.new.disk) (c.serve_batch-next.ensures.images ck later hl))
-    (as_after c.args.place c.args.self c.in-Ok.live c.in-Ok.ensures (next_due c.in-Ok.live c.args.self.calls.items) ck later (added later c.in-Ok.live.config.rule c.in-Ok.live.config.fallback c.args.self.calls.items) _
+    (as_after c.args.place c.args.self c.in-Ok.live c.in-Ok.ensures (next_due c.in-Ok.live c.args.self.calls.items) ck later
+    (added later c.in-Ok.live.config.rule c.in-Ok.live.config.fallback c.args.self.calls.items) _
     (g.D.Disk.history c.serve_batch-next.new.disk) (c.serve_batch-next.ensures.answered ck later hl)) c.in-None.is
 
 pub returns-in_default-clause-keeps : goal.returns-in_default-clause-keeps

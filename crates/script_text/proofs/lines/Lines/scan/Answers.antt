@@ -1,5 +1,4 @@
-use Rattle.std.proofs.Common.{◌≡◌, ℕ, ◌+◌, ◌-◌, ◌++◌, List, length, take, drop, Some, ap, sym, ◌∙◌, arith}
-use Rattle.std.proofs.lemmas.Grind.{common_steps}
+use Rattle.std.proofs.Common.{◌≡◌, ℕ, ◌+◌, ◌-◌, ◌++◌, List, take, Some, ap, sym, ◌∙◌, arith}
 use Rattle.script_text.specs.Lines.{Scan, unreturned}
 use Rattle.script_text.specs.Runs.{place}
 use Rattle.script_text.proofs.Runs.{line_taken, line_refused, rest_taken, rest_refused}

@@ -29,14 +29,24 @@ returns-clause-stayed c =
 
 pub overflow_sub-len : goal.overflow_sub-len
 overflow_sub-len c =
-    let both : length (filter (λ e. is_moved c.args.level c.args.count e.0) c.self.inside.entries.items) + length (filter (λ e. not (is_moved c.args.level c.args.count e.0)) c.self.inside.entries.items) ≡ length c.self.inside.entries.items = length-filter_both (λ e. is_moved c.args.level c.args.count e.0) (λ e. not (is_moved c.args.level c.args.count e.0)) (λ e. refl) c.self.inside.entries.items in
-    let leaving : c.count_moved-leaving.result ≡ length (filter (λ e. is_moved c.args.level c.args.count e.0) c.self.inside.entries.items) = c.count_moved-leaving.ensures in
+    let both : length (filter (λ e. is_moved c.args.level c.args.count e.0) c.self.inside.entries.items) + length
+    (filter (λ e. not (is_moved c.args.level c.args.count e.0)) c.self.inside.entries.items) ≡ length c.self.inside.entries.items =
+    length-filter_both (λ e. is_moved c.args.level c.args.count e.0) (λ e. not (is_moved c.args.level c.args.count e.0))
+    (λ e. refl) c.self.inside.entries.items in
+    let leaving : c.count_moved-leaving.result ≡ length (filter (λ e. is_moved c.args.level c.args.count e.0) c.self.inside.entries.items) =
+    c.count_moved-leaving.ensures in
     omega (arith, both, leaving, c.len.ensures)
 
 pub loop-entry-init : goal.loop-entry-init
 loop-entry-init c =
-    let both : length (filter (λ e. is_moved c.args.level c.args.count e.0) c.self.inside.entries.items) + length (filter (λ e. not (is_moved c.args.level c.args.count e.0)) c.self.inside.entries.items) ≡ length c.self.inside.entries.items = length-filter_both (λ e. is_moved c.args.level c.args.count e.0) (λ e. not (is_moved c.args.level c.args.count e.0)) (λ e. refl) c.self.inside.entries.items in
-    let leaving : c.count_moved-leaving.result ≡ length (filter (λ e. is_moved c.args.level c.args.count e.0) c.self.inside.entries.items) = c.count_moved-leaving.ensures in
-    let stay : length (filter (λ e. not (is_moved c.args.level c.args.count e.0)) c.self.inside.entries.items) ≤ vec_capacity c.in_ok-stay.stay = omega (arith, both, leaving, c.len.ensures, c.in_ok-stay.ensures.exact) in
-    let moved : length (filter (λ e. is_moved c.args.level c.args.count e.0) c.self.inside.entries.items) ≤ vec_capacity c.in_ok-moved.moved = omega (arith, leaving, c.in_ok-moved.ensures.exact) in
+    let both : length (filter (λ e. is_moved c.args.level c.args.count e.0) c.self.inside.entries.items) + length
+    (filter (λ e. not (is_moved c.args.level c.args.count e.0)) c.self.inside.entries.items) ≡ length c.self.inside.entries.items =
+    length-filter_both (λ e. is_moved c.args.level c.args.count e.0) (λ e. not (is_moved c.args.level c.args.count e.0))
+    (λ e. refl) c.self.inside.entries.items in
+    let leaving : c.count_moved-leaving.result ≡ length (filter (λ e. is_moved c.args.level c.args.count e.0) c.self.inside.entries.items) =
+    c.count_moved-leaving.ensures in
+    let stay : length (filter (λ e. not (is_moved c.args.level c.args.count e.0)) c.self.inside.entries.items) ≤ vec_capacity c.in_ok-stay.stay =
+    omega (arith, both, leaving, c.len.ensures, c.in_ok-stay.ensures.exact) in
+    let moved : length (filter (λ e. is_moved c.args.level c.args.count e.0) c.self.inside.entries.items) ≤ vec_capacity c.in_ok-moved.moved =
+    omega (arith, leaving, c.in_ok-moved.ensures.exact) in
     (tt, tt, grind (arith, common_steps), grind (arith, common_steps), grind (arith, common_steps, moved), grind (arith, common_steps, stay))
