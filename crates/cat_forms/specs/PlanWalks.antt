@@ -18,7 +18,7 @@ use Rattle.cat_forms.specs.declared.members.Member.TheVariants.{Tables, Procs, N
 use Rattle.cat_forms.specs.Members.{member_name}
 use Rattle.cat_forms.specs.Names.{kind_named, arg_kind_named}
 use Rattle.cat_forms.specs.Places.{in_member, in_item}
-use Rattle.cat_forms.specs.Shapes.{Shaped, at_path}
+use Rattle.cat_forms.specs.Shapes.{Shaped, ◌>>=◌, at_path}
 use Rattle.cat_forms.specs.StepWalks.{body_at}
 
 -- ---- objects

@@ -11,7 +11,7 @@ use Rattle.cat_forms.specs.declared.names.Form.{Form}
 use Rattle.cat_forms.specs.declared.names.Form.TheVariants as form
 use Rattle.cat_forms.specs.Names.{form_named}
 use Rattle.cat_forms.specs.Places.{in_item}
-use Rattle.cat_forms.specs.Shapes.{Shaped, at_path, index, number_between, text_of}
+use Rattle.cat_forms.specs.Shapes.{Shaped, ◌>>=◌, at_path, index, number_between, text_of}
 
 -- what stands at a level at which expressions may stand
 abbrev pub at_level : {A : Type 0} → List PathPart → ℕ → Shaped A → Shaped A

@@ -5,7 +5,7 @@ use Rattle.aria_base.specs.declared.calls.Call.{Call}
 use Rattle.answer_text.specs.Notices.{counted}
 use Rattle.answer_text.specs.States.{row_text}
 use Rattle.command_words.specs.declared.settings.Workload.{Workload}
-use Rattle.load_gen.specs.Draws.{Drawn, known, times}
+use Rattle.load_gen.specs.Draws.{Drawn, known, ◌>>=◌, times}
 use Rattle.proc_lang.specs.declared.procs.Proc.{Proc}
 use Rattle.script_text.specs.Written.{call_line}
 use Rattle.workloads.specs.Generators.{generator_of, name_of, plan_of, rows_of, first_draws, request_of}

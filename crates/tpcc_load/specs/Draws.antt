@@ -1,6 +1,6 @@
 -- How order entry draws: what is drawn once for each of several numbers, and numbers that are not drawn evenly.
 use Rattle.std.specs.Prelude.{ℕ, zero, suc, ◌+◌, ◌-◌, ◌%◌, bit_or, nat_le, List, [], ◌++◌, if◌then◌else◌}
-use Rattle.load_gen.specs.Draws.{Drawn, known, random}
+use Rattle.load_gen.specs.Draws.{Drawn, known, ◌>>=◌, random}
 
 -- what is drawn for each number from 1 to this one, all in one list
 unfoldable pub over : {A : Type 0} → ℕ → (ℕ → Drawn (List A)) → Drawn (List A)
