@@ -1,9 +1,5 @@
-// The command `bench`: a drawn workload that runs, and its counts and times.
-ghost use Rattle.std.specs.Prelude.{◌≡◌, ◌≢◌, ◌≤◌, Err, IfOk, IfErr};
-ghost use Rattle.aria_base.specs.Faults.{Rose};
-ghost use Rattle.script_course.specs.Causes.{IsCause};
-ghost use Rattle.script_course.specs.Served.{Finishes};
-ghost use Rattle.script_course.specs.declared.stops.Stop.TheVariants as stop;
+// The command `bench`: a drawn workload that runs, and its counts.
+ghost use Rattle.std.specs.Prelude.{◌≡◌, IfOk};
 ghost use Rattle.serving.specs.Lives.{state_of};
 ghost use Rattle.workloads.specs.Generators.{generator_of};
 ghost use Rattle.bench_command.specs.Benches.{IsInRange, ran_of};
@@ -15,37 +11,13 @@ use crate::starts::begin;
 use crate::summaries::print_summary;
 use crate::tallies::BLANK;
 use crate::turns::Turn;
-use aria_base::{Memory, Pace, Sink};
+use aria_base::{Memory, Pace};
 use command_words::Bench;
 use dep_rules::Config;
-use script_course::{DONE, Stop, end_with};
 use serving::Live;
 use std::alloc::Global;
 use std::thread::Threads;
 use workloads::Generator;
-
-/// Runs the workload in memory and gives its summary to the sink, and answers the status 0. Of a workload of
-/// accesses to single rows this is the whole output. Where there was no memory, nothing was given; where the
-/// sink fails a prefix of the summary was, and its count of faults rose.
-pub fn give_summary<K: Sink, P: Pace + Sync, R: Threads + Sync>(
-    rt: &R,
-    alloc: Global,
-    settings: &Bench,
-    out: &mut K,
-    pace: &P,
-) -> Result<u8, Stop>
-    requires { IsInRange settings.now }
-    ensures finishes { Finishes (record { bytes = summary_of settings.now; status = DONE }) (K.given out.old) (K.given out.new) result }
-    ensures read { result ≢ Err stop.NoRead }
-    ensures zero { IfOk result (λ status. status ≡ DONE) }
-    ensures sink { K.faults out.old ≤ K.faults out.new }
-    ensures cause { IfErr result (λ stop. IsCause stop (Rose (K.faults out.old) (K.faults out.new)) ⊥) }
-{
-    match measure(rt, alloc, settings, pace) {
-        Ok((text, _live)) => end_with(DONE, &text, out),
-        Err(Memory) => Err(Stop::NoMemory),
-    }
-}
 
 /// Runs the workload in memory. The answer is the text of its summary, and the database behind its last
 /// batch. Neither depends on workers, replicas and batons.

@@ -22,7 +22,7 @@ mod sums;
 mod tallies;
 mod turns;
 
-pub use commands::{give_summary, measure};
+pub use commands::measure;
 pub use laws::each_request_once;
 pub use summaries::{Counts, append_counts};
 pub use tallies::{BLANK, Tally};

@@ -86,7 +86,7 @@ pub struct Once {
     pub listing: Listing,
     /// Whether what waits at the end of the input is run until nothing waits.
     pub drain: bool,
-    /// Another way to run again what waits. It has no effect.
+    /// Another way to run again what waits. It changes nothing that is printed.
     pub batons: bool,
 }
 
@@ -116,7 +116,7 @@ pub struct Run {
     pub listing: Listing,
     /// Whether what waits at the end of the input is run until nothing waits.
     pub drain: bool,
-    /// Another way to run again what waits. It has no effect.
+    /// Another way to run again what waits. It changes nothing that is printed.
     pub batons: bool,
 }
 
@@ -129,11 +129,11 @@ pub struct Replay {
     pub replicas: u32,
     /// When the rows are listed.
     pub listing: Listing,
-    /// Another way to run again what waits. It has no effect.
+    /// Another way to run again what waits. It changes nothing that is printed.
     pub batons: bool,
 }
 
-/// `bench`: a workload, measured.
+/// `bench`: a workload that runs, and its counts.
 #[derive(Clone, Copy, Debug, PartialEq, Eq)]
 pub struct Bench {
     /// What is run.
@@ -149,7 +149,7 @@ pub struct Bench {
     pub fallback: u32,
     /// Whether what waits behind the last batch is run until nothing waits.
     pub drain: bool,
-    /// Another way to run again what waits. It has no effect.
+    /// Another way to run again what waits. It changes nothing that is printed.
     pub batons: bool,
 }
 
@@ -194,7 +194,7 @@ pub enum Command {
     Check,
     /// A workload as a script.
     Gen(Workload),
-    /// A workload, measured.
+    /// A workload that runs, and its counts.
     Bench(Bench),
     /// The rows of order entry against its conditions.
     Audit,

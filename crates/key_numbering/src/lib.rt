@@ -22,8 +22,6 @@ mod lookups;
 mod numbering;
 mod ordered;
 mod places;
-#[cfg(test)]
-mod tests;
 
 pub use kept::{Kept, MOST_KEPT, MOST_TOUCHED};
 pub use numbering::{may_be_numbered, number, number_ordered};

@@ -6,7 +6,8 @@
 //! of `reorder`. `decisions` numbers, marks and decides made-up batches, and has both forms of a
 //! decision side by side. `executions` runs a batch by several workers. `meetings` holds two workers
 //! back until both are at work, in each phase that has steps to tell of, and counts these steps.
-//! `keeping` keeps more keys than a batch may find.
+//! `kept_numbers` has the numbers of one caller alone, those that are kept from batch to batch, and keys that crowd
+//! the table of these. `keeping` keeps more keys than a batch may find.
 //!
 //! What several workers do at once, by crates: `work_claim` in `claims`, `work_crew` in `crews`, `resv_words` in `words`,
 //! `resv_phase` in `reservations`, `touch_numbers` in `numbers` and `install_phase` in `installs`. `checks` asserts.
@@ -30,6 +31,8 @@ mod executions;
 mod installs;
 #[cfg(test)]
 mod keeping;
+#[cfg(test)]
+mod kept_numbers;
 #[cfg(test)]
 mod meetings;
 #[cfg(test)]

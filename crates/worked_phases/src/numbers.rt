@@ -51,7 +51,7 @@ fn a_key_has_its_place_in_order_of_first_touch(rt: HostRuntime) -> Result<(), Fa
 }
 
 /// Whether these are the lists.
-fn are_lists(found: &[Vec<u32>], wanted: &[&[u32]]) -> bool {
+pub fn are_lists(found: &[Vec<u32>], wanted: &[&[u32]]) -> bool {
     found.len() == wanted.len()
         && found
             .iter()
@@ -76,7 +76,7 @@ fn first_slots(alloc: Global, count: usize) -> Result<Vec<u32>, Memory> {
 }
 
 /// The lists of all requests, their reads and their writes in turn.
-fn lists_of(alloc: Global, numbered: &Numbered) -> Result<Vec<Vec<u32>>, Memory> {
+pub fn lists_of(alloc: Global, numbered: &Numbered) -> Result<Vec<Vec<u32>>, Memory> {
     let mut lists = Vec::new(alloc);
     for tid in 1..=numbered.len() {
         lists.push(copy(alloc, numbered.reads_of(tid))?)?;
