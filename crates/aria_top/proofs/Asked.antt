@@ -17,8 +17,8 @@ use Rattle.script_course.specs.declared.statuses.TheConstants.{DONE}
 use Rattle.store_commands.specs.Inits as init
 use Rattle.store_openings.specs.Openings.{opened}
 use Rattle.aria_top.specs.Disks.{LeavesDisk, Sees, is_taken}
-use Rattle.aria_top.specs.Out.{IsToldFor, out_by, out_of_task, refused_usage}
-use Rattle.aria_top.specs.Tasks.{makes, opens, reads, uses_disk}
+use Rattle.aria_top.specs.Out.{IsToldFor, out_by, out_of_task}
+use Rattle.aria_top.specs.Tasks.{reads}
 use Rattle.aria_top.specs.declared.tasks.CommandTask.{CommandTask}
 use Rattle.aria_top.specs.declared.tasks.CommandTask.TheVariants as task
 
@@ -42,40 +42,15 @@ module _ (asked : Option CommandTask) (task : CommandTask) (is : asked ≡ Some 
       → LeavesDisk (Some task) left was is_now old new status → LeavesDisk asked left was is_now old new status
   leaves_asked left was is_now old new status h = subst (λ (a : Option CommandTask). LeavesDisk a left was is_now old new status) (sym is) h
 
-  pub reads_asked : (b : Bool) → reads asked ≡ b → reads (Some task) ≡ b
-  reads_asked b h = sym (ap reads is) ∙ h
-
-  pub opens_asked : (b : Bool) → opens asked ≡ b → opens (Some task) ≡ b
-  opens_asked b h = sym (ap opens is) ∙ h
-
-  pub makes_asked : (b : Bool) → makes asked ≡ b → makes (Some task) ≡ b
-  makes_asked b h = sym (ap makes is) ∙ h
-
-  pub uses_asked : (b : Bool) → uses_disk asked ≡ b → uses_disk (Some task) ≡ b
-  uses_asked b h = sym (ap uses_disk is) ∙ h
-
   pub is_asked : asked ≡ None → ⊥
   is_asked none = absurd (let both : Some task ≡ None = sym is ∙ none in cc)
 
 -- ---- arguments that are no command
 
-pub out_refused : (asked : Option CommandTask) (left : Option (List ℕ)) (images : ℕ → List ℕ) (found : Reopened) (P : Out → Type 0) → asked ≡ None
-    → P refused_usage → IfSome (out_by asked left images found) P
-out_refused asked left images found P is h = subst (λ (a : Option CommandTask). IfSome (out_by a left images found) P) (sym is) h
-
 pub leaves_refused : (asked : Option CommandTask) (left : Option (List ℕ)) (was is_now : History) (old new : Option (List ℕ)) (status : ℕ) → asked ≡ None
     → LeavesDisk asked left was is_now old new status
 leaves_refused asked left was is_now old new status is =
     subst (λ (a : Option CommandTask). LeavesDisk a left was is_now old new status) (sym is) tt
-
-pub reads_none : (asked : Option CommandTask) → asked ≡ None → reads asked ≡ true → ⊥
-reads_none asked is h = absurd (let both : false ≡ true = sym (ap reads is) ∙ h in cc)
-
-pub opens_none : (asked : Option CommandTask) → asked ≡ None → opens asked ≡ true → ⊥
-opens_none asked is h = absurd (let both : false ≡ true = sym (ap opens is) ∙ h in cc)
-
-pub makes_none : (asked : Option CommandTask) → asked ≡ None → makes asked ≡ true → ⊥
-makes_none asked is h = absurd (let both : false ≡ true = sym (ap makes is) ∙ h in cc)
 
 -- ---- nothing was done
 

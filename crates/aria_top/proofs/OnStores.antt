@@ -12,7 +12,6 @@ use Rattle.disk_model.specs.Histories.{History, Still, current}
 use Rattle.run_commands.specs.Resumes.{CompletesOver, IsToldOver, damaged_out, none_out, out_from, out_over, start_over, told_from}
 use Rattle.script_course.proofs.Turns.{front_all}
 use Rattle.disk_model.proofs.Spans.{still_none}
-use Rattle.script_course.specs.Causes.{IsReadCause}
 use Rattle.script_course.specs.Courses.{Out, status_of}
 use Rattle.script_course.specs.Served.{Completes, Finishes, FinishesCut}
 use Rattle.script_course.specs.declared.statuses.TheConstants.{DONE}
@@ -131,38 +130,6 @@ module _ (settings : Run) (left rest old new : Option (List ℕ)) where
   over_told (Damaged file at) why status is h e = absurd (h.1 (ap (λ (s : Stop). Err s) (read_is why status is e)))
   over_told (Found c later) why status is h e = told_cut (told_from (start_over settings c later)) left rest old new why status is h.1 e
 
--- ---- the causes of a stop, with a disk
-
-module _ (source sink disk : Type 0) (status : ℕ) where
-  pub others_store : (why : Stop) → status ≡ status_of why → (status ≡ 0) ⊎ (status ≡ 6) ⊎ (status ≡ 1) ⊎ (status ≡ 3) ⊎ (status ≡ 4) ⊎ (status ≡ 5)
-      ⊎ (status ≡ 7)
-  others_store stop.Refused is = grind (arith, is)
-  others_store stop.NoMemory is = grind (arith, is)
-  others_store stop.NoWrite is = grind (arith, is)
-  others_store stop.NoDisk is = grind (arith, is)
-  others_store stop.NoRead is = grind (arith, is)
-
-  pub read_store : (why : Stop) → status ≡ status_of why → IsReadCause why source sink disk → status ≡ 3 → source
-  read_store stop.Refused is h e = absurd (omega (arith, is, e))
-  read_store stop.NoMemory is h e = absurd (omega (arith, is, e))
-  read_store stop.NoWrite is h e = absurd (omega (arith, is, e))
-  read_store stop.NoDisk is h e = absurd (omega (arith, is, e))
-  read_store stop.NoRead is h e = h
-
-  pub write_store : (why : Stop) → status ≡ status_of why → IsReadCause why source sink disk → status ≡ 4 → sink
-  write_store stop.Refused is h e = absurd (omega (arith, is, e))
-  write_store stop.NoMemory is h e = absurd (omega (arith, is, e))
-  write_store stop.NoWrite is h e = h
-  write_store stop.NoDisk is h e = absurd (omega (arith, is, e))
-  write_store stop.NoRead is h e = absurd (omega (arith, is, e))
-
-  pub disk_store : (why : Stop) → status ≡ status_of why → IsReadCause why source sink disk → status ≡ 5 → disk
-  disk_store stop.Refused is h e = absurd (omega (arith, is, e))
-  disk_store stop.NoMemory is h e = absurd (omega (arith, is, e))
-  disk_store stop.NoWrite is h e = absurd (omega (arith, is, e))
-  disk_store stop.NoDisk is h e = h
-  disk_store stop.NoRead is h e = absurd (omega (arith, is, e))
-
 -- ---- what the disk holds then
 
 abbrev HasEnded : Result ℕ Stop → Type 0
@@ -218,10 +185,3 @@ never_done stop.NoMemory status is e = omega (arith, is, e)
 never_done stop.NoWrite status is e = omega (arith, is, e)
 never_done stop.NoDisk status is e = omega (arith, is, e)
 never_done stop.NoRead status is e = omega (arith, is, e)
-
-pub never_store : (why : Stop) (status : ℕ) → status ≡ status_of why → status ≡ 6 → ⊥
-never_store stop.Refused status is e = omega (arith, is, e)
-never_store stop.NoMemory status is e = omega (arith, is, e)
-never_store stop.NoWrite status is e = omega (arith, is, e)
-never_store stop.NoDisk status is e = omega (arith, is, e)
-never_store stop.NoRead status is e = omega (arith, is, e)

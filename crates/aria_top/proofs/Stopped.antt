@@ -4,7 +4,7 @@ use Rattle.std.specs.Option.{IfSome}
 use Rattle.std.specs.Io.KnownBytes.{Appends}
 use Rattle.aria_base.specs.Streams.{AppendsFront}
 use Rattle.script_course.proofs.Turns.{front_all}
-use Rattle.script_course.specs.Causes.{IsCause, IsReadCause}
+use Rattle.script_course.specs.Causes.{IsReadCause}
 use Rattle.script_course.specs.Courses.{Course, Out, status_of}
 use Rattle.script_course.specs.Served.{FinishesCut, IsToldOf, ToldWhere}
 use Rattle.script_course.specs.declared.stops.Stop.{Stop}
@@ -58,14 +58,6 @@ module _ (out : List ℕ → Out) (left old new : Option (List ℕ)) where
   answered_cut stop.NoRead status is h a = absurd (grind (arith, is, a))
 
 -- ---- its causes
-
--- a command that reads nothing is stopped by no source
-pub no_source : (why : Stop) (sink disk : Type 0) → IsCause why sink disk → IsReadCause why ⊥ sink disk
-no_source stop.Refused sink disk h = h
-no_source stop.NoMemory sink disk h = h
-no_source stop.NoWrite sink disk h = h
-no_source stop.NoDisk sink disk h = h
-no_source stop.NoRead sink disk h = h
 
 module _ (source sink : Type 0) (status : ℕ) where
   pub done_cut : (why : Stop) → status ≡ status_of why → IsReadCause why source sink ⊥ → (status ≡ 0) ⊎ (status ≡ 1) ⊎ (status ≡ 3) ⊎ (status ≡ 4)

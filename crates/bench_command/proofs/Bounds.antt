@@ -27,10 +27,9 @@ use Rattle.workloads.specs.Generators.{request_of}
 use Rattle.workloads.specs.declared.generators.Generator.{Generator}
 use Rattle.bench_command.specs.Benches.{calls_at, room}
 use Rattle.serving.proofs.Nexts.{handed_is}
-use Rattle.bench_command.specs.Tallies.{HasRoom, blank_tally, is_back, is_ok, is_trap, of_line, with_lines}
+use Rattle.bench_command.specs.Tallies.{HasRoom, is_back, is_ok, is_trap, of_line, with_lines}
 use Rattle.bench_command.specs.Turns.{IsBehind, Stands}
 use Rattle.bench_command.specs.declared.courses.TheConstants.{MOST_BATCHES}
-use Rattle.bench_command.specs.declared.tallies.Tally.{Tally}
 use Rattle.bench_command.specs.declared.turns.Turn.{Turn}
 
 -- a line for each request of the list
@@ -149,24 +148,6 @@ pub few_drawn : (g : Generator) (size : ℕ) (state : State) (draws : Lcg) → l
 few_drawn g size state draws =
     let all = length-times (min size (room state)) (request_of g (state.batches + 1)) draws in
     omega (arith, all)
-
--- before the first batch
-pub stands_first : (plan : Plan) (turn : Turn) → plan_of turn.live ≡ plan → IsRunnable turn.live → (state_of turn.live).requests ≡ 0 → turn.tally ≡ blank_tally
-    → Stands plan turn
-stands_first plan turn of_plan runnable none blank =
-    let ok : turn.tally.ok ≡ 0 = ap (λ (t : Tally). t.ok) blank in
-    let back : turn.tally.back ≡ 0 = ap (λ (t : Tally). t.back) blank in
-    let trap : turn.tally.trap ≡ 0 = ap (λ (t : Tally). t.trap) blank in
-    let waits : turn.tally.waits ≡ 0 = ap (λ (t : Tally). t.waits) blank in
-    record {
-      plan = of_plan;
-      runnable = runnable;
-      requests = omega (arith, none);
-      ok = omega (arith, ok);
-      back = omega (arith, back);
-      trap = omega (arith, trap);
-      waits = omega (arith, waits);
-    }
 
 pub may_drawn : {V E : Type 0} (items : V → List Call) (result : Result V E) (live : Live) (g : Generator) (size count number : ℕ) (draws : Lcg)
     → IfOk result (λ v. items v ≡ (times count (request_of g number) draws).0) → IfOk result (λ v. All (λ call. takes (load.plan_of g) call ≡ true) (items v))

@@ -1,6 +1,5 @@
 -- What batches come to, one behind the other.
 use Rattle.std.proofs.Common.{◌≡◌, ℕ, zero, suc, ◌+◌, ◌-◌, ◌<◌, ◌==◌, [], ◌∷◌, length, Bool, true, false, cond, refl, sym, ap, ◌∙◌, arith}
-use Rattle.std.proofs.lemmas.Grind.{flat_map-append}
 use Rattle.rand_pcg.specs.Lcg.{Lcg}
 use Rattle.batch_core.specs.Steps.{State, answer, step}
 use Rattle.batch_core.specs.declared.answers.Answer.{Answer}
@@ -9,12 +8,12 @@ use Rattle.serving.specs.Drains.{no_calls}
 use Rattle.serving.specs.Lives.{handed_at, plan_of, state_of}
 use Rattle.workloads.specs.Generators as load
 use Rattle.workloads.specs.declared.generators.Generator.{Generator}
-use Rattle.bench_command.specs.Benches.{Ran, all_drained, batches_ran, calls_at, drains_ran, none_ran, ran_behind}
-use Rattle.bench_command.specs.Tallies.{blank_tally, lines_of, with_lines}
-use Rattle.bench_command.specs.Turns.{Came, CameTo, IsBehind}
+use Rattle.bench_command.specs.Benches.{Ran, batches_ran, calls_at, drains_ran, none_ran, ran_behind}
+use Rattle.bench_command.specs.Tallies.{lines_of, with_lines}
+use Rattle.bench_command.specs.Turns.{Came, IsBehind}
 use Rattle.bench_command.specs.declared.tallies.Tally.{Tally}
 use Rattle.bench_command.specs.declared.turns.Turn.{Turn}
-use Rattle.bench_command.proofs.Tallied.{one_answer, with_lines-append, with_lines-none}
+use Rattle.bench_command.proofs.Tallied.{one_answer, with_lines-none}
 
 -- with the rest from here the whole is told
 pub record Leads (now : Turn) (rest : Ran) (start : Turn) (whole : Ran) : Type 0 where
@@ -127,24 +126,3 @@ module _ (start now next : Turn) (whole : Ran) where
       let more : next.tally ≡ with_lines now.tally one.lines =
       behind.tally ∙ ap (λ (p : Plan). with_lines now.tally (answer (run_of p) state (no_calls state)).lines) of_plan in
       leads_on start now next whole (drains_ran plan (count - past) state) (drains_ran plan left (state_of next.live)) one leads cut more
-
--- ---- the whole
-
-pub came_first : (ran : Ran) (start turn : Turn) → start.tally ≡ blank_tally → Came start ran turn → CameTo ran turn
-came_first ran start turn blank came = record {
-  state = came.state;
-  tally = came.tally ∙ ap (λ (t : Tally). with_lines t (lines_of ran.answers)) blank;
-}
-
-pub came_last : (plan : Plan) (ran : Ran) (turn last : Turn) → CameTo ran turn → Came turn (all_drained plan (state_of turn.live)) last
-    → CameTo (ran_behind ran.answers (all_drained plan ran.state)) last
-came_last plan ran turn last first came =
-    let same : all_drained plan (state_of turn.live) ≡ all_drained plan ran.state = ap (λ (s : State). all_drained plan s) first.state in
-    record {
-      state = came.state ∙ ap (λ (r : Ran). r.state) same;
-      tally = came.tally
-          ∙ ap (λ (r : Ran). with_lines turn.tally (lines_of r.answers)) same
-          ∙ ap (λ (t : Tally). with_lines t (lines_of (all_drained plan ran.state).answers)) first.tally
-          ∙ sym (with_lines-append blank_tally (lines_of ran.answers) (lines_of (all_drained plan ran.state).answers))
-          ∙ ap (with_lines blank_tally) (sym (flat_map-append (λ (a : Answer). a.lines) ran.answers (all_drained plan ran.state).answers));
-    }

@@ -25,7 +25,7 @@ use Rattle.serving.specs.Lives.{batch_text, handed_at}
 use Rattle.nodes_command.specs.Asks.{asked_among, is_call, is_set}
 use Rattle.nodes_command.specs.Bases.{IsBegun, IsHead, IsUnder, put_in, requests_in, state_now, state_of}
 use Rattle.nodes_command.specs.Batches.{IsNext}
-use Rattle.nodes_command.specs.Standing.{HasEnded, Holds, IsOf, MayCall, MayClose, MayDo, MayPut, MayRun, Stands, among_of, doing_of}
+use Rattle.nodes_command.specs.Standing.{HasEnded, Holds, IsOf, MayCall, MayClose, MayDo, MayPut, Stands, among_of, doing_of}
 use Rattle.nodes_command.specs.declared.bases.Base.{Base}
 use Rattle.nodes_command.specs.declared.bases.Base.TheVariants as base
 use Rattle.nodes_command.specs.declared.works.Work.{Work}
@@ -214,27 +214,6 @@ module _ (place : ScriptPlace) (work next : Work) (nodes : next.nodes ≡ work.n
       (b : next.base ≡ base.Runs o) (calls : next.calls.items ≡ []) (called : next.called ≡ work.called) where
     under_is : IsUnder plan (base.Runs o)
     under_is = (ran.done, ran.fixed.catalog ∙ begun.plan_is)
-
-    pub ran_stands : MayRun place work → Stands place next
-    ran_stands may =
-        let h = may.may_close.holds in
-        let requests : requests_in next.base ≡ requests_in work.base + length work.calls.items =
-        ap requests_in b ∙ ran.requests ∙ ap (λ k. k + length work.calls.items) begun.requests in
-        let many = ap length calls in
-        let all = h.all_calls in
-        let few = h.few_calls in
-        record {
-          holds = record {
-            mode_kept = h.mode_kept;
-            silent = h.silent;
-            of_head = subst (λ (x : Base). IsOf place.head x) (sym b) (subst (λ (k : ScriptCatalog). IsOf k (base.Runs o)) (sym head_is) under_is);
-            ended = subst (HasEnded place.rows_ended) (sym b) may.rows;
-            nodes = few_nodes h;
-            all_calls = omega arith;
-            few_calls = omega arith;
-          };
-          counted = may.may_close.counted ∙ sym many;
-        }
 
     plan_is : plan ≡ plan_in place.head
     plan_is = sym (ap plan_in head_is)

@@ -119,13 +119,6 @@ module _ (c : Counts) where
         (Ok (record Check { head = head.Text [] }, deed.Nothing)) (found Check (builtin_named name))
         (refl, record { mode_is = refl; quiet = quiet; head = tt; deed = tt; ready = tt }) (found_beside (builtin_named name) (builtin_printed name)))
 
-    piece_beside : (text piece : List ℕ) → Beside (at_piece Once text piece) (at_piece Check text piece)
-    piece_beside text piece =
-        beside_if (nat_lt MOST_CATALOG (length text + length piece)) (Err (kind.Catalog fault.Long))
-        (Ok (record Once { head = head.Text (text ++ piece) }, deed.Nothing))
-        (Err (kind.Catalog fault.Long)) (Ok (record Check { head = head.Text (text ++ piece) }, deed.Nothing)) tt
-        (refl, record { mode_is = refl; quiet = quiet; head = tt; deed = tt; ready = tt })
-
     row_beside : (table : List ℕ) (parts : List Part) (row : Cells) → AllByRecursion PrintedPart parts → PrintedCells row
         → Beside (at_row Once table parts row) (at_row Check table parts row)
     row_beside table parts row h k =

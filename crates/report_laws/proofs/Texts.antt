@@ -77,9 +77,6 @@ batch_is plan false state handed =
 
 -- ---- cut again
 
-abbrev ends_with_return : List ℕ → Bool
-ends_with_return line = slice_index line (length line - 1) == 13
-
 printed_byte : (line : List ℕ) (at : ℕ) → is_printed line ≡ true → (slice_index line at == 13) ≡ false
 printed_byte [] at h = refl
 printed_byte (b ∷ bs) zero h =

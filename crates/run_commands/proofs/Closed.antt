@@ -150,13 +150,6 @@ module _ (h : ScriptCatalog) (b : Base) (each : Bool) (live : Live) (is : b ≡ 
       (like.plan ∙ named_live)
       (subst (λ (x : Base). HoldsLive first (saved_behind (checkpoint_in x) (drains_of (state_in x)) d saved) disk next) (sym is) held)
 
-  pub checkpoint_base : (next : Live) → IsLike live next → next.checkpoint ≡ checkpoint_in b
-  checkpoint_base next like = like.checkpoint ∙ sym (ap checkpoint_in is)
-
-  pub held_base : (d : Doing) (next : Live) → held_behind (drains_of (state_of live)) d (stored_state live) ≡ stored_state next
-      → held_behind (drains_of (state_in b)) d (held_in b) ≡ held_in (base.Runs next)
-  held_base d next e = to_base (λ plan x. held_behind (drains_of (state_in x)) d (held_in x) ≡ held_in (base.Runs next)) e
-
 -- ---- the whole end, by the script before it
 
 module _ (p q : ScriptPlace) (work : Work) (is : closing p ≡ Ok q) (stays : HeadStays p.head q.head) (of : IsOf p.head work.calls.items work.base)

@@ -25,7 +25,7 @@ use Rattle.serving.specs.declared.lives.Live.{Live}
 use Rattle.store_openings.specs.Runs.{settings_with}
 use Rattle.run_commands.specs.Bases.{IsBegun, IsBounded, IsHead, IsListed, IsUnder, put_in, set_in, state_in}
 use Rattle.run_commands.specs.Onces.{behind_batch, text_of}
-use Rattle.run_commands.specs.Standing.{HasEnded, IsOf, MayClose, MayPut, MayRun, MaySet, Stands, doing_of}
+use Rattle.run_commands.specs.Standing.{HasEnded, IsOf, MayClose, MayPut, MayRun, Stands, doing_of}
 use Rattle.run_commands.specs.declared.bases.Base.{Base}
 use Rattle.run_commands.specs.declared.bases.Base.TheVariants as base
 use Rattle.run_commands.specs.declared.works.Work.{Work}
@@ -94,10 +94,6 @@ set_first : (config : Config) (rule : Rule) (percent : ℕ) (engines : List Betw
 set_first config rule percent [] = refl
 set_first config rule percent (engine ∷ rest) = refl
 
-pub set_state : (b : Base) (rule : Rule) (percent : ℕ) → state_in (set_in b rule percent) ≡ record (state_in b) { rule = rule; percent = percent }
-set_state (base.Rows tables config) rule percent = refl
-set_state (base.Runs live) rule percent = set_first live.config rule percent live.replicas
-
 set_of : (h : ScriptCatalog) (calls : List Call) (b : Base) (rule : Rule) (percent : ℕ) → IsOf h calls b → IsOf h calls (set_in b rule percent)
 set_of head.Unnamed calls (base.Rows tables config) rule percent of = of
 set_of head.Unnamed calls (base.Runs live) rule percent of = of
@@ -125,25 +121,6 @@ set_bounded (base.Runs live) rule percent within h =
 set_listed : (each : Bool) (b : Base) (rule : Rule) (percent : ℕ) → IsListed each b → IsListed each (set_in b rule percent)
 set_listed each (base.Rows tables config) rule percent h = tt
 set_listed each (base.Runs live) rule percent h = h
-
-pub set_stands : (place : ScriptPlace) (work next : Work) (rule : Rule) (percent : ℕ) → MaySet place work percent
-    → next.calls.items ≡ work.calls.items → next.base ≡ set_in work.base rule percent → next.replicas ≡ work.replicas → next.each ≡ work.each
-    → Stands place next
-set_stands place work next rule percent may calls b replicas each =
-    let h = may.stands.holds in
-    record {
-      holds = record {
-        mode_kept = h.mode_kept;
-        of_head = subst (λ (l : List Call). IsOf place.head l next.base) (sym calls) (subst (λ (x : Base). IsOf place.head work.calls.items x) (sym b)
-            (set_of place.head work.calls.items work.base rule percent h.of_head));
-        ended = subst (λ (x : Base). HasEnded place.rows_ended x) (sym b) (set_ended place.rows_ended work.base rule percent h.ended);
-        bounded = subst IsBounded (sym b) (set_bounded work.base rule percent may.within h.bounded);
-        listed = rw each (subst (λ (x : Base). IsListed work.each x) (sym b) (set_listed work.each work.base rule percent h.listed));
-        engines = subst (λ (n : ℕ). (1 ≤ n) × (n ≤ MOST_REPLICAS)) (sym replicas) h.engines;
-      };
-      counted = may.stands.counted ∙ ap length (sym calls);
-      few = rw calls may.stands.few;
-    }
 
 -- ---- the end of a batch
 

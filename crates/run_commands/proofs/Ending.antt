@@ -1,7 +1,6 @@
 -- The end of a script, behind what drained it.
-use Rattle.std.proofs.Common.{◌≡◌, ◌≢◌, sym, subst, ℕ, Bool, true, false, List, [], Option, Some, None}
+use Rattle.std.proofs.Common.{◌≡◌, ◌≢◌, sym, ℕ, Bool, true, false, List, [], Option, Some, None}
 use Rattle.std.specs.Prelude.{Result, Ok, Err}
-use Rattle.aria_base.specs.declared.calls.Call.{Call}
 use Rattle.batch_core.specs.Steps.{State}
 use Rattle.proc_lang.specs.Catalogs.{Plan}
 use Rattle.script_course.proofs.Ends.{completes_on, completes_cut}
@@ -9,15 +8,10 @@ use Rattle.script_course.specs.Courses.{Course, Out, ended}
 use Rattle.script_course.specs.Served.{Finishes, Serves, ServesCut}
 use Rattle.script_course.specs.declared.stops.Stop.{Stop}
 use Rattle.script_course.specs.declared.stops.Stop.TheVariants as stop
-use Rattle.script_places.specs.Follows.{HeadStays}
-use Rattle.script_places.specs.Places.{plan_in}
 use Rattle.script_places.specs.declared.heads.ScriptCatalog.{ScriptCatalog}
 use Rattle.script_places.specs.declared.heads.ScriptCatalog.TheVariants as head
 use Rattle.serving.specs.Drains.{drains}
-use Rattle.serving.specs.Lives.{plan_of}
-use Rattle.run_commands.specs.Bases.{IsNamed}
 use Rattle.run_commands.specs.Onces.{drained, listed}
-use Rattle.run_commands.specs.Standing.{IsOf}
 use Rattle.run_commands.specs.declared.bases.Base.{Base}
 use Rattle.run_commands.specs.declared.bases.Base.TheVariants as base
 
@@ -55,10 +49,3 @@ module _ (drain : Bool) (plan : Plan) (each : Bool) (line : ℕ) (state : State)
   pub drained_cut : drain ≡ true → (old new : Option (List ℕ)) (why : Stop) → ServesCut (drains plan each line state) old new why
       → Finishes (drained drain plan each line state) old new (Err why)
   drained_cut on old new why h = cut_if drain on old new why h
-
--- a database runs by the catalogue of its head, at the end too
-pub named_on : (h next : ScriptCatalog) (calls : List Call) (b : Base) → HeadStays h next → IsOf h calls b → IsNamed next b
-named_on h next calls (base.Rows tables config) on of = tt
-named_on head.Unnamed next calls (base.Runs live) on of = absurd of.1
-named_on (head.Text text) next calls (base.Runs live) on of = absurd of.1
-named_on (head.Ready plan) next calls (base.Runs live) on of = subst (λ (k : ScriptCatalog). plan_of live ≡ plan_in k) (sym on) of.1

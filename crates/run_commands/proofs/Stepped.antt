@@ -134,8 +134,3 @@ pub store_on : (store : Option Kept) (result : Result Running Stop) → IfOk res
     → IfOk result (λ next. next.store ≡ None)
 store_on store (Ok next) h e = h ∙ e
 store_on store (Err why) h e = tt
-
--- ---- without a store
-
-pub short_without : (plan : Plan) (asks : Deed) (store : Option Kept) → store ≡ None → IfSome store (λ _. IsShort plan asks)
-short_without plan asks store e = subst (λ (s : Option Kept). IfSome s (λ _. IsShort plan asks)) (sym e) tt

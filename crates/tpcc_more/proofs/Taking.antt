@@ -11,22 +11,13 @@ use Rattle.range_rules.specs.Batches.{numbered}
 use Rattle.range_rules.specs.Serials.{IsSerialAnswer}
 use Rattle.range_rules.specs.declared.routines.NumberedWork.{NumberedWork}
 use Rattle.range_rules.specs.declared.routines.Work.{Work}
-use Rattle.range_suits.specs.Suits.{Suits, is_taken}
+use Rattle.range_suits.specs.Suits.{is_taken}
 use Rattle.tpcc_routines.specs.Routines.{is_more}
 use Rattle.tpcc_routines.specs.Sound.{IsSound}
 use Rattle.tpcc_sound.specs.Laws.{act, StaysSound}
 use Rattle.tpcc_more.specs.Mixes.{IsMix}
 
 module _ (plan : Plan) (is : plan ≡ tpcc) where
-  pub suits-plan : Suits tpcc.tables is_more act → Suits plan.tables is_more act
-  suits-plan suits = subst (λ (p : Plan). Suits p.tables is_more act) (sym is) suits
-
-  pub carried-plan : (works : List NumberedWork) → All (λ w. is_taken tpcc is_more w.work ≡ true) works → All (λ w. is_taken plan is_more w.work ≡ true) works
-  carried-plan works all = subst (λ (p : Plan). All (λ w. is_taken p is_more w.work ≡ true) works) (sym is) all
-
-  pub new-plan : (works : List Work) → All (λ work. is_taken tpcc is_more work ≡ true) works → All (λ work. is_taken plan is_more work ≡ true) works
-  new-plan works all = subst (λ (p : Plan). All (λ work. is_taken p is_more work ≡ true) works) (sym is) all
-
   -- and back
   pub taken-tpcc : (works : List NumberedWork) → All (λ w. is_taken plan is_more w.work ≡ true) works → All (λ w. is_taken tpcc is_more w.work ≡ true) works
   taken-tpcc works all = subst (λ (p : Plan). All (λ w. is_taken p is_more w.work ≡ true) works) is all
