@@ -4,11 +4,9 @@
 //! stand, which line was refused, and what the system said of the disk.
 #![tactic(auto)]
 
-mod heaps;
 mod hints;
 mod watched;
 
-use crate::heaps::keep_freed_memory;
 use crate::hints::{refusal, shown, shown_words, wrong_words};
 use crate::watched::{WatchedSink, WatchedSource, WatchedWriter};
 use aria_base::{FileSink, FileSource, Free, Sink, Source};
@@ -24,7 +22,6 @@ use std::thread::Threads;
 use std::{env, io};
 
 fn main(rt: HostRuntime) -> ExitCode {
-    keep_freed_memory(rt.alloc());
     let is_watched = rt.stderr().is_terminal();
     let status = match words(&rt) {
         Ok(words) => run(&rt, &words, is_watched),
