@@ -165,7 +165,7 @@ def count(command):
 def instructions():
     row("instructions", "requests", "plain", *engines, *(f"{name}/plain" for name in engines))
     counted = [Load("ycsb", 100_000, reads, *both) for reads in (80, 50) for both in ((50, 20), (1_000, 2), (10_000, 2))]
-    counted += [Load("tpcc", 1, 0, 50, 20), Load("tpcc", 1, 1, 50, 20)]
+    counted += [Load("tpcc", 1, 0, 50, 20), Load("tpcc", 4, 0, 50, 20), Load("tpcc", 1, 1, 50, 20)]
     for load in counted:
         each = [count(command) for command in (load.by_plain(), *(load.by_engine(name, 1) for name in engines))]
         row(load.title(), f"{load.requests:,}", *(f"{one:,.0f}" for one in each), *(f"{one / each[0]:.2f}" for one in each[1:]))
