@@ -19,6 +19,10 @@ use std::alloc::Global;
 use std::thread::Threads;
 use tbl_rows::Tables;
 
+/// Of fewer requests no wave is worth a thread, so that they are run in turn: waves want lists of their own, and to start
+/// a thread takes as long as to run some four requests again.
+const LEAST_IN_WAVES: usize = 32;
+
 /// Whether of `size` requests so many wait that they are run again.
 fn is_due(percent: u32, waiting: usize, size: usize) -> bool
     requires percent { percent ≤ MOST_PERCENT }
@@ -71,7 +75,7 @@ pub(crate) fn run_late<P: Pace + Sync, R: Threads + Sync>(
             carried,
         });
     }
-    if config.workers == 1 {
+    if runs_in_turn(config, waiting.len()) {
         return rerun_in_turn(alloc, catalog, tables, waiting, pace);
     }
     let (tables, lates) = rerun_all(
@@ -83,6 +87,11 @@ pub(crate) fn run_late<P: Pace + Sync, R: Threads + Sync>(
         lates,
         carried,
     })
+}
+
+/// Whether so many requests that wait are run again one after the other: by one worker, or where they are few.
+fn runs_in_turn(config: &Config, waiting: usize) -> bool {
+    config.workers == 1 || !config.batons && waiting < LEAST_IN_WAVES
 }
 
 /// Runs all that wait again on the caller, one after the other. The keys of each are dropped behind its run, while

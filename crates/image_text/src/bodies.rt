@@ -134,6 +134,7 @@ fn tables_of(alloc: Global, rows: Vec<(Key, Row)>) -> Result<Tables, Memory>
 {
     let mut left = rows;
     let mut tables = Tables::new(alloc)?;
+    tables.reserve(left.len());
     while let Some((key, row)) = left.pop() {
         match tables.put(key, row) {
             Ok(()) => {}

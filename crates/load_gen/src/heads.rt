@@ -33,6 +33,7 @@ fn rows(alloc: Global, keys: u32) -> Result<Tables, Memory>
     ensures { IfOk result (λ tables. tables ≡ fin.from_entries {R = key_cmp} (rows_from 0 keys)) }
 {
     let mut tables = Tables::new(alloc)?;
+    tables.reserve(keys as usize);
     let mut left = keys;
     while left > 0 {
         left -= 1;

@@ -100,6 +100,20 @@ impl Pool {
         Ok(spent)
     }
 
+    /// Makes buckets for so many rows, as far as there is memory, so that puts of them split none.
+    pub(crate) fn reserve(&mut self, rows: usize)
+        ensures { self.new ≡ self.old }
+    {
+        let count = self.buckets.as_slice().len();
+        let more = (rows / MEAN).saturating_sub(count);
+        if self.buckets.reserve(more).is_err() {
+            return;
+        }
+        for _ in 0..more {
+            self.grow();
+        }
+    }
+
     /// Makes one bucket more, if there is memory.
     fn grow(&mut self)
         ensures { self.new ≡ self.old }

@@ -54,6 +54,13 @@ impl Shard {
         self.number
     }
 
+    /// Makes room for so many rows, as far as there is memory.
+    pub(crate) fn reserve(&mut self, rows: usize)
+        ensures { self.new ≡ self.old }
+    {
+        self.rows.reserve(rows);
+    }
+
     /// The row at the key of this hash.
     pub(crate) fn get(&self, hash: u64, key: &Key) -> Option<&Row>
         requires { hash ≡ hash_of key.now }

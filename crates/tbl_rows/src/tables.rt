@@ -1,5 +1,5 @@
 // All rows, as one map.
-ghost use Rattle.std.specs.Prelude.{◌≡◌, map, length, IfOk, IfErr, OnOk, OnErr};
+ghost use Rattle.std.specs.Prelude.{◌≡◌, ◌<◌, map, length, IfOk, IfErr, OnOk, OnErr};
 ghost use Rattle.std.specs.Option.{option_copied};
 ghost use Rattle.std.specs.Map.Iter.{deref_pair};
 ghost use Rattle.std.specs.FinMap as fin;
@@ -47,6 +47,26 @@ impl Tables {
             shards.push(Shard::new(alloc, number)?)?;
         }
         Ok(Tables { shards })
+    }
+
+    /// Makes room for so many rows in all, as far as there is memory: puts of new rows take less time then,
+    /// and leave no small blocks between those of the rows. Without memory for it everything stays as it was.
+    pub fn reserve(&mut self, rows: usize)
+        ensures { self.new ≡ self.old }
+    {
+        let each = rows / usize::from(SHARDS);
+        for number in 0..SHARDS {
+            self.reserve_in(number, each);
+        }
+    }
+
+    /// Makes room for so many rows in the shard with this number, as far as there is memory.
+    fn reserve_in(&mut self, number: u8, rows: usize)
+        requires { number < SHARDS }
+        ensures { self.new ≡ self.old }
+    {
+        let shard = &mut self.shards[usize::from(number)];
+        shard.reserve(rows);
     }
 
     /// The row at a key. No memory.

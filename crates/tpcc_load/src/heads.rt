@@ -29,7 +29,23 @@ pub fn head(alloc: Global, settings: &Tpcc) -> Result<(Catalog, Tables), Memory>
     };
     let mut draws = Draws::of(settings.number, HEAD_STREAM);
     let mut tables = Tables::new(alloc)?;
+    tables.reserve(about_rows(settings));
     items(alloc, &mut draws, &mut tables, settings.items)?;
     warehouses(alloc, settings, &mut draws, &mut tables)?;
     Ok((catalog, tables))
+}
+
+/// How many rows each of a district's customers brings: one of her own, one of her history, an order with ten lines on
+/// average, and for three of ten orders one that is new.
+const ROWS_A_CUSTOMER: usize = 13;
+
+/// About how many rows these settings make. No answer depends on it.
+fn about_rows(settings: &Tpcc) -> usize {
+    let items = settings.items as usize;
+    let customers = (settings.customers as usize).saturating_mul(10);
+    let each = customers
+        .saturating_mul(ROWS_A_CUSTOMER)
+        .saturating_add(items);
+    each.saturating_mul(settings.warehouses as usize)
+        .saturating_add(items)
 }

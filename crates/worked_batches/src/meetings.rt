@@ -23,20 +23,6 @@ const ACCOUNTS: [Account; 3] = [(1, 10), (2, 20), (3, 30)];
 /// Three that go round.
 const RING: [Ask; 3] = [(COPY, 1, 2), (COPY, 2, 3), (COPY, 3, 1)];
 
-/// Eight wait for the first, and are of one wave, since none writes what another one reads or writes. They are
-/// so many that two workers run them again.
-const FAN: [Ask; 9] = [
-    (SET, 1, 5),
-    (COPY, 1, 2),
-    (COPY, 1, 3),
-    (COPY, 1, 4),
-    (COPY, 1, 5),
-    (COPY, 1, 6),
-    (COPY, 1, 7),
-    (COPY, 1, 8),
-    (COPY, 1, 9),
-];
-
 /// The answer of a batch of these calls on three accounts, run at this pace.
 fn run_at<P: Pace + Sync, R: Abort + Threads + Sync>(
     rt: &R,
@@ -107,9 +93,21 @@ fn two_workers_meet_before_their_first_mark(rt: HostRuntime) {
     met(&rt, &gate, &answer, 3_000, 3_000);
 }
 
+/// Forty calls of which all but the first wait for it, and are of one wave, since none writes what another one reads or
+/// writes. They are so many that they are run again in waves, and by two workers.
+fn fan(rt: &impl Abort, alloc: Global) -> Vec<Ask> {
+    let mut asks = Vec::new(alloc);
+    asks.push((SET, 1, 5)).expect(rt, MEMORY);
+    for account in 2..=40_i64 {
+        asks.push((COPY, 1, account)).expect(rt, MEMORY);
+    }
+    asks
+}
+
 #[test]
 fn two_of_one_wave_meet_as_they_run_again(rt: HostRuntime) {
     let gate = Gate::before(Place::Rerun);
-    let answer = run_at(&rt, rt.alloc(), &FAN, &gate);
-    met(&rt, &gate, &answer, 8, 9);
+    let asks = fan(&rt, rt.alloc());
+    let answer = run_at(&rt, rt.alloc(), &asks, &gate);
+    met(&rt, &gate, &answer, 39, 40);
 }
