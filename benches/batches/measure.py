@@ -118,6 +118,10 @@ def row(*cells):
 def loads(least_keys=100_000, most_keys=1_000_000):
     for keys, reads, (size, batches) in itertools.product((least_keys, most_keys), (80, 50), SIZES.items()):
         yield Load("ycsb", keys, reads, size, batches)
+    yield from loads_of_orders()
+
+
+def loads_of_orders():
     for warehouses in (1, 4):
         yield Load("tpcc", warehouses, 1, *TPCC)
 
@@ -153,12 +157,18 @@ def sizes():
             row(load.title(), f"{size:,}", name, *(f"{nanos / 1e3:.1f}" for nanos in whole))
 
 
-# What a finished request costs one worker in instructions.
-def count(command):
-    tool = ["valgrind", "--tool=callgrind", "--callgrind-out-file=/dev/null", "--toggle-collect=*timed_batch*"]
+# What callgrind counts within the batches: the events that it has summed up, in the order of their names.
+def collected(command, *words):
+    tool = ["valgrind", "--tool=callgrind", "--callgrind-out-file=/dev/null", "--toggle-collect=*timed_batch*", *words]
     ran = subprocess.run([*tool, *command], input=b"\n\n", capture_output=True, check=True)
     told = dict(line.split() for line in ran.stdout.splitlines()[2:])
-    return int(re.search(rb"Collected : (\d+)", ran.stderr)[1]) / int(told[b"ended"])
+    return list(map(int, re.search(rb"Collected : ([\d ]+)", ran.stderr)[1].split())), int(told[b"ended"])
+
+
+# What a finished request costs one worker in instructions.
+def count(command):
+    (instructions,), ended = collected(command)
+    return instructions / ended
 
 
 # What a finished request costs one worker in instructions, and what it costs the plain engine.
@@ -169,6 +179,20 @@ def instructions():
     for load in counted:
         each = [count(command) for command in (load.by_plain(), *(load.by_engine(name, 1) for name in engines))]
         row(load.title(), f"{load.requests:,}", *(f"{one:,.0f}" for one in each), *(f"{one / each[0]:.2f}" for one in each[1:]))
+
+
+# What a finished request reads and writes in vain in a cache of 1 MB, by a model of it, with one worker.
+def misses():
+    cache = ["--cache-sim=yes", "--D1=32768,8,64", "--LL=1048576,16,64"]
+    row("misses a request", "requests", "way", "reads", "writes", "both / plain")
+    for load in (Load("ycsb", 100_000, 80, 1_000, 10), Load("ycsb", 100_000, 50, 1_000, 10), *loads_of_orders()):
+        ways = {"plain": load.by_plain()} | {name: load.by_engine(name, 1) for name in engines}
+        plain = None
+        for name, command in ways.items():
+            events, ended = collected(command, *cache)  # Ir Dr Dw I1mr D1mr D1mw ILmr DLmr DLmw
+            plain = plain or sum(events[7:]) / ended
+            row(load.title(), f"{load.requests:,}", name, *(f"{one / ended:,.1f}" for one in events[7:]),
+                f"{sum(events[7:]) / ended / plain:.2f}")
 
 
 # What waits, run again in waves and by handed rows; one worker does neither.
@@ -197,7 +221,7 @@ def batons():
 
 
 tables = {
-    "rates": rates, "sizes": sizes, "instructions": instructions,
+    "rates": rates, "sizes": sizes, "instructions": instructions, "misses": misses,
     "batons": batons,
 }
 os.makedirs(folder, exist_ok=True)
