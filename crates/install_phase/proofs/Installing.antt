@@ -3,11 +3,11 @@ use Rattle.std.proofs.Common.{◌≡◌, refl, sym, ap, subst, ◌∙◌, ◌≢
 use Rattle.std.specs.Prelude.{if◌then◌else◌}
 use Rattle.std.specs.Ordering.{eq_by_cmp}
 use Rattle.std.specs.FinMap as fin
-use Rattle.std.proofs.Math.ListN.{get_or-map}
-use Rattle.std.proofs.lemmas.Bool.{eqb-false}
+use Rattle.std.proofs.lemmas.Bool.{eqb-false, eqb-true, eq-eqb}
 use Rattle.std.proofs.lemmas.List.{length-map, reverse-append}
 use Rattle.std.proofs.lemmas.List.{get_or-map as get_or-map_within}
-use Rattle.aria_base.specs.Orders.{key_cmp, Database}
+use Rattle.std.proofs.lemmas.List.Elements.{filter-append}
+use Rattle.aria_base.specs.Orders.{key_cmp, Cells, Database}
 use Rattle.aria_base.specs.declared.keys.Key.{Key}
 use Rattle.aria_base.proofs.Orders.{key_cmp_total, key_cmp-IsAntisymmetric}
 use Rattle.batch_rules.specs.Trees.{set_at}
@@ -21,9 +21,7 @@ use Rattle.proc_exec.specs.declared.outcomes.Outcome.{Outcome}
 use Rattle.tbl_rows.specs.Shards.{Piece, home, bare, at_home, IsWhole, AllNumbered}
 use Rattle.tbl_rows.specs.declared.homes.TheConstants.{SHARDS}
 use Rattle.tbl_rows.proofs.Together.{home-below}
-use Rattle.install_phase.specs.Jobs.{Due, Written, idle_due, applied, finished}
-use Rattle.install_phase.specs.Deals.{at_shard}
-use Rattle.install_phase.specs.Hands.{AreJobs}
+use Rattle.install_phase.specs.Writes.{Written, at_shard, applied, finished}
 use Rattle.install_phase.specs.Installs.{after_finishing, after_changes, written}
 
 -- ---- writes, one after the other
@@ -75,6 +73,27 @@ none_put tid rows (changes ∷ list) = refl
 
 -- ---- shard by shard
 
+-- a test that fails, as a Bool
+unequal : (a b : ℕ) → (a ≡ b → ⊥) → nat_eq a b ≡ false
+unequal a b apart = elim (nat_eq a b) as (λ t. nat_eq a b ≡ t → t ≡ false) [ true ↦ λ e. absurd (apart (eqb-true a b e)) | false ↦ λ e. refl ] refl
+
+-- one write to a key of the shard, and one to a key of another
+pub own_made : (write : Key × Option Cells) (piece : Piece) → home write.0 ≡ piece.number
+    → record { number = piece.number; rows = set_at piece.rows write.0 write.1 } ≡ finished (write ∷ []) piece
+own_made write piece own =
+    ap (λ t. record { number = piece.number; rows = applied piece.rows (cond t (write ∷ []) []) }) (sym (eq-eqb (home write.0) piece.number own))
+
+pub other_kept : (write : Key × Option Cells) (piece : Piece) → (home write.0 ≡ piece.number → ⊥) → piece ≡ finished (write ∷ []) piece
+other_kept write piece apart =
+    ap (λ t. record { number = piece.number; rows = applied piece.rows (cond t (write ∷ []) []) }) (sym (unequal (home write.0) piece.number apart))
+
+-- some writes, and then others
+pub finished_more : (some more : Written) (piece : Piece) → finished more (finished some piece) ≡ finished (some ++ more) piece
+finished_more some more piece =
+    ap (λ rows. record { number = piece.number; rows = rows })
+    (sym (applied-append piece.rows (at_shard piece.number some) (at_shard piece.number more))
+    ∙ ap (applied piece.rows) (sym (filter-append (λ write. nat_eq (home write.0) piece.number) some more)))
+
 -- other shards hold other keys
 other_key : (q key : Key) → home q ≢ home key → eq_by_cmp key_cmp q key ≡ false
 other_key q key apart = elim (eq_by_cmp key_cmp q key) as (λ b. eq_by_cmp key_cmp q key ≡ b → b ≡ false) [
@@ -96,25 +115,22 @@ get-at_shard (w ∷ ws) rows all q e =
           (other_key q w.0 (λ same. eqb-false (home w.0) (home q) other (sym same)))))
     ] refl
 
-module _ (pieces after : List Piece) (jobs : List Due) (writes : Written) (whole : IsWhole pieces) (are : AreJobs pieces writes jobs)
-    (made : after ≡ map finished jobs) where
+module _ (pieces after : List Piece) (writes : Written) (whole : IsWhole pieces) (made : after ≡ map (finished writes) pieces) where
   pub count_after : length after ≡ SHARDS
-  count_after = ap length made ∙ length-map jobs finished ∙ are.count ∙ whole.count
+  count_after = ap length made ∙ length-map pieces (finished writes) ∙ whole.count
 
   pub numbered_after : AllNumbered after
   numbered_after = subst AllNumbered (sym made) (λ i d lt.
-      let within : i < length jobs = rw (← length-map jobs finished) lt in
-      let idle = idle_due (bare 0) in
-      ap (λ (piece : Piece). piece.number) (get_or-map_within finished jobs i idle d within) ∙ ap (λ (due : Due). due.piece.number) (are.each i idle within)
-      ∙ whole.numbered i (bare 0) (subst (λ n. i < n) are.count within))
+      let within : i < length pieces = rw (← length-map pieces (finished writes)) lt in
+      ap (λ (piece : Piece). piece.number) (get_or-map_within (finished writes) pieces i (bare 0) d within) ∙ whole.numbered i (bare 0) within)
 
   home_after : (start : Database) → ((q : Key) → at_home pieces q ≡ fin.get start q) → (q : Key) → at_home after q ≡ fin.get (applied start writes) q
   home_after start each q =
-      let idle = idle_due (bare 0) in
-      let within : home q < length jobs = subst (λ n. home q < n) (sym (are.count ∙ whole.count)) (home-below q) in
-      ap (λ ps. at_home ps q) made ∙ ap (λ (piece : Piece). fin.get piece.rows q) (get_or-map finished jobs (home q) idle)
-      ∙ ap (λ (due : Due). fin.get (finished due).rows q) (are.each (home q) idle within)
-      ∙ get-at_shard writes (get_or pieces (home q) (bare 0)).rows start q (each q)
+      let own = get_or pieces (home q) (bare 0) in
+      let within : home q < length pieces = subst (λ n. home q < n) (sym whole.count) (home-below q) in
+      ap (λ ps. at_home ps q) made ∙ ap (λ (piece : Piece). fin.get piece.rows q) (get_or-map_within (finished writes) pieces (home q) (bare 0) (bare 0) within)
+      ∙ ap (λ n. fin.get (applied own.rows (at_shard n writes)) q) (whole.numbered (home q) (bare 0) within)
+      ∙ get-at_shard writes own.rows start q (each q)
 
   pub together : (tables start : Database) (tid : ℕ) (list : List Written) (verdicts : List Verdict) → writes ≡ written tid list verdicts
       → ((q : Key) → at_home pieces q ≡ fin.get start q) → ((q : Key) → fin.get tables q ≡ at_home after q) → tables ≡ after_changes tid start list verdicts

@@ -1,4 +1,3 @@
-mod Sharing
-mod Dealing
-mod Handing
+mod Listing
 mod Installing
+mod Sharing

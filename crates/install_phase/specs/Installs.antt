@@ -6,7 +6,7 @@ use Rattle.batch_rules.specs.declared.verdicts.Verdict.{Verdict}
 use Rattle.batch_rules.specs.Touches.{installed}
 use Rattle.batch_rules.specs.Batches.{decided, finishing}
 use Rattle.proc_exec.specs.declared.outcomes.Outcome.{Outcome}
-use Rattle.install_phase.specs.Jobs.{Written}
+use Rattle.install_phase.specs.Writes.{Written}
 
 -- the rows with the writes of all that finish, one request after the other; their numbers in the batch begin at `tid`
 abbrev pub after_finishing : ℕ → Database → List Outcome → List Verdict → Database

@@ -1,6 +1,3 @@
-pub mod Codes
-pub mod Jobs
-pub mod Shares
-pub mod Deals
-pub mod Hands
+pub mod Writes
+pub mod Dues
 pub mod Installs

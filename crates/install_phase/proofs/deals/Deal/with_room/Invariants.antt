@@ -1,5 +1,0 @@
-use Rattle.std.proofs.Common.{◌≡◌, [], length, All}
-use Rattle.install_phase.proofs.deals.Deal.with_room.Given as goal
-
-abbrev pub invariant-loop : goal.invariant-loop
-invariant-loop l = (length l.lists.items ≡ l.counter) × All (λ list. list.items ≡ []) l.lists.items

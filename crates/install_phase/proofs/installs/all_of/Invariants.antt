@@ -1,9 +1,0 @@
-use Rattle.std.proofs.Common.{◌≡◌, ◌++◌, flat_map}
-use Rattle.std.specs.Vec.Iter.{into_iter_items}
-use Rattle.install_phase.proofs.installs.all_of.Given as goal
-
-abbrev pub invariant-loop-part : goal.invariant-loop-part
-invariant-loop-part g l =
-    (goal.iterator-loop-part g).can_next l.part-iterator ×
-    (goal.iterator-loop-part g).is_finite l.part-iterator ×
-    (l.all.items ++ flat_map (λ part. part.items) (into_iter_items l.part-iterator) ≡ flat_map (λ part. part.items) (into_iter_items l.initial.part-iterator))
