@@ -1,5 +1,5 @@
 -- Writes that are made shard by shard leave, at each key, what they leave in the whole map.
-use Rattle.std.proofs.Common.{◌≡◌, refl, sym, ap, subst, ◌∙◌, ◌≢◌, ℕ, ◌<◌, List, [], ◌∷◌, ◌++◌, ◌+◌, map, reverse, flat_map, length, get_or, true, false, cond, Option, nat_eq}
+use Rattle.std.proofs.Common.{◌≡◌, refl, sym, ap, subst, ◌∙◌, ◌≢◌, ℕ, ◌<◌, List, [], ◌∷◌, ◌++◌, ◌+◌, map, reverse, flat_map, length, get_or, true, false, cond, Bool, Option, nat_eq, ◌||◌, append_assoc}
 use Rattle.std.specs.Prelude.{if◌then◌else◌}
 use Rattle.std.specs.Ordering.{eq_by_cmp}
 use Rattle.std.specs.FinMap as fin
@@ -7,6 +7,8 @@ use Rattle.std.proofs.lemmas.Bool.{eqb-false, eqb-true, eq-eqb}
 use Rattle.std.proofs.lemmas.List.{length-map, reverse-append}
 use Rattle.std.proofs.lemmas.List.{get_or-map as get_or-map_within}
 use Rattle.std.proofs.lemmas.List.Elements.{filter-append}
+use Rattle.std.proofs.lemmas.List.Folds.{list_any-append}
+use Rattle.std.proofs.Math.Bool.{or-true}
 use Rattle.aria_base.specs.Orders.{key_cmp, Cells, Database}
 use Rattle.aria_base.specs.declared.keys.Key.{Key}
 use Rattle.aria_base.proofs.Orders.{key_cmp_total, key_cmp-IsAntisymmetric}
@@ -21,7 +23,7 @@ use Rattle.proc_exec.specs.declared.outcomes.Outcome.{Outcome}
 use Rattle.tbl_rows.specs.Shards.{Piece, home, bare, at_home, IsWhole, AllNumbered}
 use Rattle.tbl_rows.specs.declared.homes.TheConstants.{SHARDS}
 use Rattle.tbl_rows.proofs.Together.{home-below}
-use Rattle.install_phase.specs.Writes.{Written, at_shard, applied, finished}
+use Rattle.install_phase.specs.Writes.{Written, at_shard, at_shards, is_one, applied, finished}
 use Rattle.install_phase.specs.Installs.{after_finishing, after_changes, written}
 
 -- ---- writes, one after the other
@@ -114,6 +116,44 @@ get-at_shard (w ∷ ws) rows all q e =
           (e ∙ sym (get-set_at key_cmp_total all w.0 w.1 q ∙ ap (λ b. cond b w.1 (fin.get all q))
           (other_key q w.0 (λ same. eqb-false (home w.0) (home q) other (sym same)))))
     ] refl
+
+-- for a shard the writes to keys of some shards, it among them, tell as much as all writes
+one_of : (front rest : List Piece) (piece : Piece) → is_one (front ++ piece ∷ rest) piece.number ≡ true
+one_of front rest piece =
+    let same : nat_eq piece.number piece.number ≡ true = eq-eqb piece.number piece.number refl in
+    list_any-append (λ (p : Piece). nat_eq p.number piece.number) front (piece ∷ rest)
+    ∙ ap (λ t. is_one front piece.number || (t || is_one rest piece.number)) same ∙ or-true (is_one front piece.number)
+
+own_shard : (pieces : List Piece) (number : ℕ) (writes : Written) → is_one pieces number ≡ true → at_shard number (at_shards pieces writes) ≡ at_shard number writes
+own_shard pieces number [] one = refl
+own_shard pieces number (w ∷ ws) one =
+    elim (nat_eq (home w.0) number) as (λ t. nat_eq (home w.0) number ≡ t
+    → at_shard number (cond (is_one pieces (home w.0)) (w ∷ at_shards pieces ws) (at_shards pieces ws)) ≡ cond t (w ∷ at_shard number ws) (at_shard number ws)) [
+      | true ↦ λ e.
+          let here : is_one pieces (home w.0) ≡ true = ap (is_one pieces) (eqb-true (home w.0) number e) ∙ one in
+          ap (λ t. at_shard number (cond t (w ∷ at_shards pieces ws) (at_shards pieces ws))) here
+          ∙ ap (λ t. cond t (w ∷ at_shard number (at_shards pieces ws)) (at_shard number (at_shards pieces ws))) e
+          ∙ ap (λ list. w ∷ list) (own_shard pieces number ws one)
+      | false ↦ λ e. passed (is_one pieces (home w.0)) e ∙ own_shard pieces number ws one
+    ] refl
+  where
+    passed : (t : Bool) → nat_eq (home w.0) number ≡ false
+        → at_shard number (cond t (w ∷ at_shards pieces ws) (at_shards pieces ws)) ≡ at_shard number (at_shards pieces ws)
+    passed true e = ap (λ s. cond s (w ∷ at_shard number (at_shards pieces ws)) (at_shard number (at_shards pieces ws))) e
+    passed false e = refl
+
+own_some : (pieces front rest : List Piece) (writes : Written) → pieces ≡ front ++ rest
+    → map (finished (at_shards pieces writes)) rest ≡ map (finished writes) rest
+own_some pieces front [] writes e = refl
+own_some pieces front (piece ∷ rest) writes e =
+    let one : is_one pieces piece.number ≡ true = ap (λ ps. is_one ps piece.number) e ∙ one_of front rest piece in
+    let first : finished (at_shards pieces writes) piece ≡ finished writes piece = ap (λ ws. record { number = piece.number; rows = applied piece.rows ws })
+    (own_shard pieces piece.number writes one) in
+    ap (λ p. p ∷ map (finished (at_shards pieces writes)) rest) first
+    ∙ ap (λ ps. finished writes piece ∷ ps) (own_some pieces (front ++ piece ∷ []) rest writes (e ∙ sym (append_assoc front (piece ∷ []) rest)))
+
+pub own_enough : (pieces : List Piece) (writes : Written) → map (finished (at_shards pieces writes)) pieces ≡ map (finished writes) pieces
+own_enough pieces writes = own_some pieces [] pieces writes refl
 
 module _ (pieces after : List Piece) (writes : Written) (whole : IsWhole pieces) (made : after ≡ map (finished writes) pieces) where
   pub count_after : length after ≡ SHARDS

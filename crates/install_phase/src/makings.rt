@@ -33,7 +33,7 @@ impl<'a, P: Pace> ShardWork for Making<'a, P> {
     ghost after = { λ m. finished (written 1 m.list.now m.verdicts.now) };
 
     fn run(&self, shards: Vec<Shard>, who: u32) -> Result<Vec<Shard>, Memory> {
-        let dues = dues_of(self.alloc, self.list, self.verdicts)?;
+        let dues = dues_of(self.alloc, &shards, self.list, self.verdicts)?;
         make_all(self.alloc, shards, &dues, who, self.pace)
     }
 }
