@@ -79,6 +79,22 @@ int posix_memalign(void **to, size_t align, size_t size) {
 HEAD = "catalog bank\nrow acct 1 = 10\nrow acct 2 = 20\nrow acct 3 = 30\n"
 WAITS = HEAD + "tx add 1 5\ntx add 1 7\nend 1\nend 2\n"
 RUNS = "tx add 1 5\ntx add 1 7\nend 1\ntx copy 1 2\nend 2\n"
+# what `once` prints for WAITS
+REPORT = """batch 1
+1 ok 15
+2 wait waw 1
+order 1
+end 1
+batch 2
+2 ok 22
+order 2
+end 2
+state 2
+row acct 1 = 22
+row acct 2 = 20
+row acct 3 = 30
+end state
+"""
 ENTRY = "--kind tpcc --warehouses 1 --customers 30 --items 100 --batches 2 --size 20"
 
 # what is run: its name, the script whose store it begins over, the arguments and the input
@@ -93,6 +109,9 @@ CASES = [
     ("replay", HEAD, "replay", ""),
     ("gen", None, "gen " + ENTRY, ""),
     ("bench", None, "bench " + ENTRY + " --fallback 0 --drain", ""),
+    ("mix", None, "mix --batches 2 --size 10 --workers 2", ""),
+    ("nodes", None, "nodes --nodes 3", WAITS),
+    ("check", None, "check", WAITS + "report\n" + REPORT),
 ]
 
 

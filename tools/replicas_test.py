@@ -13,7 +13,8 @@ Then the disk is full: a store on a small file system of its own, `run` until it
 can be mounted, that is said and skipped.
 
 Last what docs/replication.md says beside that: a listing by `run` without input, a copy of a folder, a checkpoint's body as a
-head, another log of the same numbers, a reader of answers that goes away, and a log that is cut within a batch.
+head, another log of the same numbers, a reader of answers that goes away, a log that is cut within a batch, and a file of
+answers that was cut anywhere.
 
 The seed of the draws is printed, and gives the same script and delays again, though not the same kills. Ends with 0
 exactly where all is as said, and within about the seconds that are given (60).
@@ -309,11 +310,38 @@ def room(disk, kilobytes):
     subprocess.run(["mount", "-o", f"remount,size={kilobytes}k", str(disk)], check=True)
 
 
-def body_of(folder):
-    """The body of the newest checkpoint: what stands behind the 40 bytes of its head, as long as these say."""
+def checkpoint_of(folder):
+    """The newest checkpoint of a store: its rule and fallback, the bytes 6 and 7, and its body, which stands behind the 40 bytes
+    of its head and is as long as these say."""
     slots = [(folder / "aria-store" / name).read_bytes() for name in ("ckpt0", "ckpt1")]
     text = max((slot for slot in slots if slot[:1] == b"\x01"), key=lambda slot: int.from_bytes(slot[8:16], "little"))
-    return text[40 : 40 + int.from_bytes(text[32:40], "little")]
+    return tuple(text[6:8]), text[40 : 40 + int.from_bytes(text[32:40], "little")]
+
+
+def first_answers(text):
+    """Of each batch N of a file of answers the first one that has its line `end N`."""
+    found, begun, number = {}, [], None
+    for line in text.splitlines(keepends=True):
+        word, _, rest = line.rstrip(b"\n").partition(b" ")
+        if word == b"batch":
+            begun, number = [], rest
+        begun.append(line)
+        if word == b"end" and rest == number:
+            found.setdefault(int(number), b"".join(begun))
+    return found
+
+
+def cut_anywhere(program, folder, printed):
+    """A file of answers that a stop cut at any byte, and what `replay` adds to it as the page says."""
+    page = (pathlib.Path(__file__).resolve().parent.parent / "docs" / "replication.md").read_text(encoding="utf-8")
+    mend = re.search(r"^(\[ -z .*? >> answers) +#", page, re.M)[1]
+    replayed, status = call(program, ["replay"], folder=folder)
+    expect(status == 0, f"replay ends with {status}")
+    answers = folder / "answers"
+    for size in range(len(printed) + 1):
+        answers.write_bytes(printed[:size])
+        subprocess.run(["bash", "-c", mend], cwd=folder, check=True)
+        expect(first_answers(answers.read_bytes() + replayed) == Printed(printed).answers, f"answers that were cut at byte {size}")
 
 
 def claim(program, top):
@@ -328,14 +356,14 @@ def claim(program, top):
         expect(status == 0, f"run ends with {status}")
         return Printed(text)
 
-    expect(call(program, ["init"], head, one) == (b"ready\n", 0), "init makes no store")
+    expect(call(program, ["init", "--rule", "plain"], head, one) == (b"ready\n", 0), "init makes no store")
     begun = run(one, first, "--checkpoint", "1")
     expect(b"2 wait waw 1\n" in begun.answers[1], "request 2 waits")
     listed = run(one, b"")
     expect((listed.at, listed.listing) == (1, begun.listing), "run without input lists the store")
-    expect(body_of(one).endswith(b"held 2 add 1 7\n"), "the body ends with what waits")
+    expect(checkpoint_of(one)[1].endswith(b"held 2 add 1 7\n"), "the body ends with what waits")
     third.mkdir()
-    text, status = call(program, ["init"], body_of(one), third)
+    text, status = call(program, ["init"], checkpoint_of(one)[1], third)
     expect(status == 1 and text.endswith(b" word\n"), "a head takes no requests that wait")
     shutil.copytree(one, other)
     expect(run(one, first + second).answers == run(other, second).answers, "a copy gives other answers")
@@ -343,7 +371,11 @@ def claim(program, top):
     kept = run(other, b"tx set 1 0\nend 1\ntx set 1 0\nend 2\n")
     expect((kept.kept, kept.listing) == ([1, 2], run(one, b"").listing), "a batch is kept by its number alone")
     ended = run(one, b"end 3\n", "--checkpoint", "1")
-    expect(call(program, ["init"], body_of(one), third) == (b"ready\n", 0), "a body is a head where nothing waits")
+    (rule, fallback), body = checkpoint_of(one)
+    expect((rule, fallback) == (0, 101), "the bytes of the rule and the fallback")
+    settings = ["--rule", ("plain", "reorder")[rule], "--fallback", str(fallback)]
+    expect(call(program, ["init", *settings], body, third) == (b"ready\n", 0), "a body is a head where nothing waits")
+    expect(checkpoint_of(third) == ((rule, fallback), body), "the new store has the settings that init was told, and the body")
     begins = run(third, b"")
     expect((begins.at, begins.listing) == (0, ended.listing.replace(b"state 3", b"state 0")), "the head of a body has its rows")
     reads, writes = os.pipe()
@@ -366,6 +398,10 @@ def claim(program, top):
         holder.stdout.readline()
         expect(subprocess.run(guarded, cwd=one, input=b"", stdout=subprocess.PIPE, check=False).returncode == 75, "flock keeps two programs apart")
         holder.communicate()
+    torn = top / "torn"
+    torn.mkdir()
+    expect(call(program, ["init"], head, torn) == (b"ready\n", 0), "init makes no store")
+    cut_anywhere(program, torn, call(program, ["run"], first + second, torn)[0])
     print("what the page says beside it: as it says")
 
 
