@@ -20,12 +20,20 @@ ROWS = [
     ("once", BANK + "tx add 1 x\n", 1, "aria: line 3 is refused by `word`: tx add 1 x", ""),
     ("once", BANK + "tx\tadd \x01\n", 1, "aria: line 3 is refused by `byte`: tx?add ?", ""),
     ("once", BANK + "tx add 1 1\n", 1, "aria: line 4, the end of the input, is refused by `unfinished`", ""),
+    ("once", BANK + "tx add 1 1", 1, "aria: line 4, the end of the input, is refused by `unfinished`", ""),
+    ("once", BANK + "tx add 1 x", 1, "aria: line 3 is refused by `word`: tx add 1 x", ""),
+    ("once", "catalog bank\r\nrow acct 1 = 10\r\ntx add 1 x\r\n", 1, "aria: line 3 is refused by `word`: tx add 1 x", ""),
+    ("once", BANK + "tx add\r 1 x\r\n", 1, "aria: line 3 is refused by `byte`: tx add? 1 x", ""),
     ("once", BANK + "tx add 1 1\nend 1\n", 0, "", ""),
     ("", "", 2, "aria: docs/commands.md lists the commands", ""),
     ("onec", "", 2, f"aria: `onec` {REST}", ""),
     ("once --rule plan --drain", "", 2, f"aria: `--rule plan` {REST}", ""),
     ("once --drain twice", "", 2, f"aria: `twice` {REST}", ""),
     ("once --drain --workers --replicas 2", "", 2, f"aria: `--workers` {REST}", ""),
+    ("once --workers=0 extra", "", 2, f"aria: `--workers=0` {REST}", ""),
+    ("once --workers 0 extra", "", 2, f"aria: `--workers 0` {REST}", ""),
+    ("once --drain --drain x", "", 2, f"aria: `--drain` {REST}", ""),
+    ("once --drain --over x", "", 2, f"aria: `--over` {REST}", ""),
     ("replay", "", 6, "", ""),
 ]
 
@@ -75,6 +83,13 @@ def closed(program, folder, is_watched):
     return status, said.decode()
 
 
+def faulty(program, folder, words, path, what):
+    """Asks that a disk fault names this path."""
+    printed, ended, said = at_terminal(program, words, "", folder)
+    expect((printed, ended), (b"", 5), what)
+    expect(said.startswith(f"aria: disk fault: {path}: ") and said.count("\n") == 1, True, f"{what} said {said!r}, which")
+
+
 def expect(found, wanted, what):
     if found != wanted:
         sys.exit(f"{what}: found {found!r}, wanted {wanted!r}")
@@ -94,13 +109,15 @@ def main(program):
     with tempfile.TemporaryDirectory(prefix="terminal-") as folder:
         store = pathlib.Path(folder, "aria-store")
         store.write_text("a file where the folder of the store should be")
-        printed, ended, said = at_terminal(program, ["replay"], "", folder)
-        expect((printed, ended), (b"", 5), "`replay` without a folder")
-        expect(said.startswith("aria: disk fault: aria-store/") and said.count("\n") == 1, True, f"`replay` without a folder said {said!r}, which")
+        faulty(program, folder, ["replay"], "aria-store/ckpt0", "`replay` without a folder")
         expect(at_pipe(program, ["replay"], "", folder), (b"", 5, "aria: disk fault\n"), "`replay` at a pipe")
+        store.unlink()
+        store.joinpath("log1").mkdir(parents=True)
+        faulty(program, folder, ["replay"], "aria-store/log1", "`replay` with a folder for a file")
+        faulty("/bin/sh", folder, ["-c", 'mkdir gone && cd gone && rmdir ../gone && exec "$0" replay', program], "aria-store", "`replay` in a folder that is gone")
         expect(closed(program, folder, True), (4, ""), "`gen` without a reader, at a terminal")
         expect(closed(program, folder, False), (4, "aria: write fault\n"), "`gen` without a reader, at a pipe")
-    print(f"the terminal: {len(ROWS) + 3} commands say what docs/commands.md says")
+    print(f"the terminal: {len(ROWS) + 5} commands say what docs/commands.md says")
 
 
 if __name__ == "__main__":

@@ -104,8 +104,7 @@ fn say_words<R: Eprint>(rt: &R, alloc: Global, words: &[String]) {
     }
 }
 
-/// Says what the refused line is, where it is in hand. An empty one is the end of the input, since no other is
-/// refused.
+/// Says what the refused line is, where it is in hand, or that it is the end of the input.
 fn say_line<S: Source, K: Sink, R: Eprint>(
     rt: &R,
     alloc: Global,
@@ -115,17 +114,19 @@ fn say_line<S: Source, K: Sink, R: Eprint>(
     let Some((number, cause)) = output.last_line().and_then(refusal) else {
         return;
     };
+    if input.is_end(number) {
+        let _ = eprintln!(rt; "aria: line {number}, the end of the input, is refused by `{cause}`");
+        return;
+    }
     let Some(line) = input.line(number) else {
         return;
     };
-    if line.is_empty() {
-        let _ = eprintln!(rt; "aria: line {number}, the end of the input, is refused by `{cause}`");
-    } else if let Ok(line) = shown(alloc, line) {
+    if let Ok(line) = shown(alloc, line) {
         let _ = eprintln!(rt; "aria: line {number} is refused by `{cause}`: {line}");
     }
 }
 
-/// Says which file of the store the system refused, and why.
+/// Says which file or folder of the store the system refused, and why.
 fn say_disk<D: Files + Drop, R: Eprint>(rt: &R, disk: &DirDisk<D>) {
     match disk.last_fault() {
         Some((path, error)) => {

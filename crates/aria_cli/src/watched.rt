@@ -1,6 +1,10 @@
 // The program's streams, watched for what a person at a terminal is told. They pass on what the streams inside
 // them do, and keep the lines of the input that are in hand, the last line of the output, and whether the
 // reader of the output has gone.
+ghost use Rattle.std.specs.Prelude.{◌≡◌, ◌++◌, ◌-◌, ◌+◌, ◌⊎◌, [], take, drop, min, length, nat_le, OnOk};
+ghost use Rattle.aria_cli.specs.declared.watched.TheConstants.{MOST_IN_HAND, MOST_TAIL};
+ghost use Rattle.aria_cli.specs.Told.{feeds, without_end, without_last};
+
 use aria_base::{Failed, Memory, Sink, Source};
 use std::alloc::Global;
 use std::cell::Cell;
@@ -23,6 +27,8 @@ struct InHand {
     bytes: Vec<u8>,
     /// How many of the bytes are of lines that have their line feed.
     ended: usize,
+    /// Whether the input ends behind these bytes.
+    is_last: bool,
 }
 
 impl InHand {
@@ -31,27 +37,33 @@ impl InHand {
             first: 1,
             bytes: Vec::new(alloc),
             ended: 0,
+            is_last: false,
         }
     }
 
-    /// Forgets the lines that have ended: they were answered before more was asked for.
-    fn forget_ended(&mut self) {
+    /// Forgets the lines that have ended. Each command but `check` has answered them before it asks for more;
+    /// where `check` refuses one of them later, nothing is told of it.
+    fn forget_ended(&mut self)
+        ensures bytes { self.new.bytes.items ≡ drop (min self.old.ended (length self.old.bytes.items)) self.old.bytes.items }
+        ensures first { self.new.first ≡ min (self.old.first + feeds (take (min self.old.ended (length self.old.bytes.items)) self.old.bytes.items)) usize.MAX }
+    {
         let ended = self.ended.min(self.bytes.len());
-        let mut lines = 0_usize;
-        for byte in self.bytes.drain(..ended) {
-            if byte == b'\n' {
-                lines = lines.saturating_add(1);
-            }
-        }
-        self.first = self.first.saturating_add(lines);
+        self.first = self.first.saturating_add(feeds(&self.bytes[..ended]));
+        self.bytes.drain(..ended);
         self.ended = 0;
     }
 
-    fn has_room(&self, piece: &[u8]) -> bool {
+    fn has_room(&self, piece: &[u8]) -> bool
+        ensures { result ≡ nat_le (length self.now.bytes.items + length piece.now) MOST_IN_HAND }
+    {
         self.bytes.len().saturating_add(piece.len()) <= MOST_IN_HAND
     }
 
-    fn push(&mut self, piece: &[u8]) -> Result<(), Memory> {
+    /// Takes up a piece behind the bytes in hand.
+    fn push(&mut self, piece: &[u8]) -> Result<(), Memory>
+        ensures bytes { OnOk result (self.new.bytes.items ≡ self.old.bytes.items ++ piece.now) }
+        ensures first { self.new.first ≡ self.old.first }
+    {
         let before = self.bytes.len();
         self.bytes.extend_from_slice(piece)?;
         if let Some(at) = piece.iter().rposition(|byte| *byte == b'\n') {
@@ -60,19 +72,63 @@ impl InHand {
         Ok(())
     }
 
-    /// The line of this number, if it is one of these.
+    /// The line of this number, if it is one of these, without its line feed and a carriage return before it.
     fn line(&self, number: usize) -> Option<&[u8]> {
         let place = number.checked_sub(self.first)?;
-        self.bytes.split(|byte| *byte == b'\n').nth(place)
+        let line = self
+            .bytes
+            .split_inclusive(|byte| *byte == b'\n')
+            .nth(place)?;
+        Some(without_end(line))
+    }
+
+    /// Whether the end of the input has this number: one more than its last line, which may lack its line feed.
+    fn is_end(&self, number: usize) -> bool {
+        let lines = self.bytes.split_inclusive(|byte| *byte == b'\n').count();
+        self.is_last && number.checked_sub(self.first) == Some(lines)
+    }
+}
+
+/// How many line feeds there are.
+fn feeds(bytes: &[u8]) -> usize
+    ensures { result ≡ feeds bytes.now }
+{
+    let mut count = 0;
+    for byte in bytes {
+        if *byte == b'\n' {
+            count += 1;
+        }
+    }
+    count
+}
+
+/// A line without the line feed that ends it, and without a carriage return before that.
+fn without_end(line: &[u8]) -> &[u8]
+    ensures { result.now ≡ without_end line.entry.now }
+{
+    without_last(without_last(line, b'\n'), b'\r')
+}
+
+/// The bytes without this one at their end, where it stands there.
+fn without_last(line: &[u8], byte: u8) -> &[u8]
+    ensures { result.now ≡ without_last byte line.entry.now }
+{
+    match line.last() {
+        Some(last) if *last == byte => &line[..line.len() - 1],
+        _ => line,
     }
 }
 
 /// Takes up a piece of the input, if lines are kept. From a piece on for which there is no room or no memory
-/// none are.
+/// none are. An empty piece is the end of the input: what is in hand stays there.
 fn keep_piece(kept: &mut Option<InHand>, piece: &[u8]) {
     let Some(in_hand) = kept else {
         return;
     };
+    if piece.is_empty() {
+        in_hand.is_last = true;
+        return;
+    }
     in_hand.forget_ended();
     let is_kept = in_hand.has_room(piece) && in_hand.push(piece).is_ok();
     if !is_kept {
@@ -95,10 +151,20 @@ impl<S: Source> WatchedSource<S> {
         WatchedSource { source, in_hand }
     }
 
-    /// The line of this number, from 1, where it is in hand: of the piece that came last. None too where it
-    /// is not watched, where a line was too long, or memory ran out.
+    /// The line of this number, from 1, where it is in hand: of the piece that came last. It is without its
+    /// line feed and a carriage return before it. None too where it is not watched, where a line was too long,
+    /// or memory ran out.
     pub fn line(&self, number: usize) -> Option<&[u8]> {
         self.in_hand.as_ref()?.line(number)
+    }
+
+    /// Whether the input has ended, and its end has this number: one more than its last line. Not so either
+    /// where no lines are in hand.
+    pub fn is_end(&self, number: usize) -> bool {
+        match &self.in_hand {
+            Some(in_hand) => in_hand.is_end(number),
+            None => false,
+        }
     }
 }
 
@@ -130,18 +196,20 @@ impl Tail {
     }
 
     /// Takes up what was given. Without memory nothing is kept, and nothing is told of the line.
-    fn replace(&mut self, given: &[u8]) {
+    fn replace(&mut self, given: &[u8])
+        ensures { (self.new.bytes.items ≡ drop (length given.now - MOST_TAIL) given.now) ⊎ (self.new.bytes.items ≡ []) }
+    {
         let from = given.len().saturating_sub(MOST_TAIL);
         self.bytes.clear();
-        let _ = self
-            .bytes
-            .extend_from_slice(given.get(from..).unwrap_or(given));
+        let _ = self.bytes.extend_from_slice(&given[from..]);
     }
 
     /// The last line, without its line feed.
     fn last_line(&self) -> &[u8] {
-        let whole = self.bytes.strip_suffix(b"\n").unwrap_or(&self.bytes);
-        whole.rsplit(|byte| *byte == b'\n').next().unwrap_or(whole)
+        self.bytes
+            .split_inclusive(|byte| *byte == b'\n')
+            .last()
+            .map_or(&[], without_end)
     }
 }
 

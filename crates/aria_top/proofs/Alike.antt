@@ -16,8 +16,8 @@ use Rattle.store_commands.specs.Replays as replay
 use Rattle.store_openings.specs.Openings.{opened}
 use Rattle.aria_top.specs.Out.{LinesAreOne, bench_by, out_by, out_of_task}
 use Rattle.aria_top.specs.Tasks.{alone, task_in}
-use Rattle.aria_top.specs.declared.tasks.CommandTask.{CommandTask}
-use Rattle.aria_top.specs.declared.tasks.CommandTask.TheVariants as task
+use Rattle.command_words.specs.declared.settings.Command.{Command}
+use Rattle.command_words.specs.declared.settings.Command.TheVariants as command
 
 -- ---- each kind of settings
 
@@ -50,20 +50,20 @@ nodes_alone settings (Some text) = refl
 
 -- ---- each task
 
-task_alone : (t : CommandTask) (left : Option (List ℕ)) (images : ℕ → List ℕ) (found : Reopened)
+task_alone : (t : Command) (left : Option (List ℕ)) (images : ℕ → List ℕ) (found : Reopened)
     → out_of_task t left images found ≡ out_of_task (alone t) left images found
-task_alone (task.Once settings) left images found = once_alone settings left
-task_alone (task.Init settings) left images found = refl
-task_alone (task.Run settings) left images found = run_alone settings (opened images found) left
-task_alone (task.Replay settings) left images found = ap (λ (o : Out). Some o) (replay_alone settings images found)
-task_alone (task.Gen settings) left images found = refl
-task_alone (task.Bench settings) left images found = ap (λ (o : Out). Some o) (bench_alone settings.workload.kind settings)
-task_alone (task.Mix settings) left images found = refl
-task_alone (task.Nodes settings) left images found = nodes_alone settings left
-task_alone task.Audit left images found = refl
-task_alone task.Check left images found = refl
+task_alone (command.Once settings) left images found = once_alone settings left
+task_alone (command.Init settings) left images found = refl
+task_alone (command.Run settings) left images found = run_alone settings (opened images found) left
+task_alone (command.Replay settings) left images found = ap (λ (o : Out). Some o) (replay_alone settings images found)
+task_alone (command.Gen settings) left images found = refl
+task_alone (command.Bench settings) left images found = ap (λ (o : Out). Some o) (bench_alone settings.workload.kind settings)
+task_alone (command.Mix settings) left images found = refl
+task_alone (command.Nodes settings) left images found = nodes_alone settings left
+task_alone command.Audit left images found = refl
+task_alone command.Check left images found = refl
 
-asked_alone : (o : Option CommandTask) (left : Option (List ℕ)) (images : ℕ → List ℕ) (found : Reopened)
+asked_alone : (o : Option Command) (left : Option (List ℕ)) (images : ℕ → List ℕ) (found : Reopened)
     → out_by o left images found ≡ out_by (option_map alone o) left images found
 asked_alone None left images found = refl
 asked_alone (Some t) left images found = task_alone t left images found
@@ -71,5 +71,5 @@ asked_alone (Some t) left images found = task_alone t left images found
 pub lines_are_one : LinesAreOne
 lines_are_one first second left images found same =
     asked_alone (task_in first) left images found
-    ∙ ap (λ (o : Option CommandTask). out_by o left images found) same
+    ∙ ap (λ (o : Option Command). out_by o left images found) same
     ∙ sym (asked_alone (task_in second) left images found)

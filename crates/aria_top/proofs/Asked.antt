@@ -19,38 +19,38 @@ use Rattle.store_openings.specs.Openings.{opened}
 use Rattle.aria_top.specs.Disks.{LeavesDisk, Sees, is_taken}
 use Rattle.aria_top.specs.Out.{IsToldFor, out_by, out_of_task}
 use Rattle.aria_top.specs.Tasks.{reads}
-use Rattle.aria_top.specs.declared.tasks.CommandTask.{CommandTask}
-use Rattle.aria_top.specs.declared.tasks.CommandTask.TheVariants as task
+use Rattle.command_words.specs.declared.settings.Command.{Command}
+use Rattle.command_words.specs.declared.settings.Command.TheVariants as command
 
 -- a task that reads its input
 pub by_left : (out : List ℕ → Out) (left : Option (List ℕ)) (P : Out → Type 0) → IfSome left (λ text. P (out text)) → IfSome (option_map out left) P
 by_left out None P h = tt
 by_left out (Some text) P h = h
 
-module _ (asked : Option CommandTask) (task : CommandTask) (is : asked ≡ Some task) (images : ℕ → List ℕ) (found : Reopened) where
+module _ (asked : Option Command) (task : Command) (is : asked ≡ Some task) (images : ℕ → List ℕ) (found : Reopened) where
   pub sees_asked : (disk : History) → Sees asked disk images found → Sees (Some task) disk images found
-  sees_asked disk h = subst (λ (a : Option CommandTask). Sees a disk images found) is h
+  sees_asked disk h = subst (λ (a : Option Command). Sees a disk images found) is h
 
   pub out_asked : (left : Option (List ℕ)) (P : Out → Type 0) → IfSome (out_of_task task left images found) P → IfSome (out_by asked left images found) P
-  out_asked left P h = subst (λ (a : Option CommandTask). IfSome (out_by a left images found) P) (sym is) h
+  out_asked left P h = subst (λ (a : Option Command). IfSome (out_by a left images found) P) (sym is) h
 
   pub told_asked : (left rest old new : Option (List ℕ)) → IsToldFor (Some task) images found left rest old new → IsToldFor asked images found left rest old new
-  told_asked left rest old new h = subst (λ (a : Option CommandTask). IsToldFor a images found left rest old new) (sym is) h
+  told_asked left rest old new h = subst (λ (a : Option Command). IsToldFor a images found left rest old new) (sym is) h
 
-module _ (asked : Option CommandTask) (task : CommandTask) (is : asked ≡ Some task) where
+module _ (asked : Option Command) (task : Command) (is : asked ≡ Some task) where
   pub leaves_asked : (left : Option (List ℕ)) (was is_now : History) (old new : Option (List ℕ)) (status : ℕ)
       → LeavesDisk (Some task) left was is_now old new status → LeavesDisk asked left was is_now old new status
-  leaves_asked left was is_now old new status h = subst (λ (a : Option CommandTask). LeavesDisk a left was is_now old new status) (sym is) h
+  leaves_asked left was is_now old new status h = subst (λ (a : Option Command). LeavesDisk a left was is_now old new status) (sym is) h
 
   pub is_asked : asked ≡ None → ⊥
   is_asked none = absurd (let both : Some task ≡ None = sym is ∙ none in cc)
 
 -- ---- arguments that are no command
 
-pub leaves_refused : (asked : Option CommandTask) (left : Option (List ℕ)) (was is_now : History) (old new : Option (List ℕ)) (status : ℕ) → asked ≡ None
+pub leaves_refused : (asked : Option Command) (left : Option (List ℕ)) (was is_now : History) (old new : Option (List ℕ)) (status : ℕ) → asked ≡ None
     → LeavesDisk asked left was is_now old new status
 leaves_refused asked left was is_now old new status is =
-    subst (λ (a : Option CommandTask). LeavesDisk a left was is_now old new status) (sym is) tt
+    subst (λ (a : Option Command). LeavesDisk a left was is_now old new status) (sym is) tt
 
 -- ---- nothing was done
 
@@ -92,11 +92,11 @@ each_text None P h = tt
 each_text (Some text) P h = h text
 
 -- there was no memory to read the arguments
-pub leaves_untouched : (asked : Option CommandTask) (left : Option (List ℕ)) (disk : History) (now : Option (List ℕ))
+pub leaves_untouched : (asked : Option Command) (left : Option (List ℕ)) (disk : History) (now : Option (List ℕ))
     → LeavesDisk asked left disk disk now now 7
 leaves_untouched None left disk now = tt
-leaves_untouched (Some (task.Once settings)) left disk now = tt
-leaves_untouched (Some (task.Init settings)) left disk now = λ images reads. record {
+leaves_untouched (Some (command.Once settings)) left disk now = tt
+leaves_untouched (Some (command.Init settings)) left disk now = λ images reads. record {
   refused = λ e. still_none disk;
   unmade = each_text left (λ text. (init.out_of settings (is_taken images) text).status ≢ DONE → Still disk disk) (λ text other. still_none disk);
   stored = each_text left
@@ -104,16 +104,16 @@ leaves_untouched (Some (task.Init settings)) left disk now = λ images reads. re
       (λ text done. inl (Appends-nil now));
   made = λ e. absurd (omega (arith, e));
 }
-leaves_untouched (Some (task.Run settings)) left disk now = λ images found reads reopens. record {
+leaves_untouched (Some (command.Run settings)) left disk now = λ images found reads reopens. record {
   leaves = untouched_text settings (opened images found) left disk now;
   stands = each_text left (λ text. StandsOver settings images (opened images found) text disk disk now now)
       (λ text. untouched_stands settings images (opened images found) text disk now);
   holds = λ e. absurd (grind (arith, e));
 }
-leaves_untouched (Some (task.Replay settings)) left disk now = untouched_all disk (MayLeave disk disk.now) (λ images may. may)
-leaves_untouched (Some (task.Gen settings)) left disk now = tt
-leaves_untouched (Some (task.Bench settings)) left disk now = tt
-leaves_untouched (Some (task.Mix settings)) left disk now = tt
-leaves_untouched (Some (task.Nodes settings)) left disk now = tt
-leaves_untouched (Some task.Audit) left disk now = tt
-leaves_untouched (Some task.Check) left disk now = tt
+leaves_untouched (Some (command.Replay settings)) left disk now = untouched_all disk (MayLeave disk disk.now) (λ images may. may)
+leaves_untouched (Some (command.Gen settings)) left disk now = tt
+leaves_untouched (Some (command.Bench settings)) left disk now = tt
+leaves_untouched (Some (command.Mix settings)) left disk now = tt
+leaves_untouched (Some (command.Nodes settings)) left disk now = tt
+leaves_untouched (Some command.Audit) left disk now = tt
+leaves_untouched (Some command.Check) left disk now = tt

@@ -1,7 +1,7 @@
 -- The settings that arguments give are within their ranges.
-use Rattle.std.proofs.Common.{◌≡◌, ◌∙◌, sym, ap, subst, refl, ℕ, ◌≤◌, Bool, true, false, cond, ◌&&◌, nat_le, List, [], ◌∷◌, Option, Some, None, arith}
+use Rattle.std.proofs.Common.{◌≡◌, sym, subst, refl, ℕ, ◌≤◌, Bool, true, false, cond, ◌&&◌, nat_le, List, [], ◌∷◌, Option, Some, None, arith}
 use Rattle.std.proofs.lemmas.Bool.{leb-true}
-use Rattle.std.specs.Prelude.{find, option_and_then, option_map, codes, bytes_eq, drop}
+use Rattle.std.specs.Prelude.{find, option_and_then, option_map, codes, bytes_eq, drop, Result, Ok, Err, IfOk}
 use Rattle.std.specs.Option.{IfSome}
 use Rattle.aria_base.specs.declared.limits.TheConstants.{MOST_PERCENT, MOST_REPLICAS, MOST_WORKERS}
 use Rattle.command_words.specs.Lines.{Line, line_of, text_in}
@@ -24,8 +24,7 @@ use Rattle.nodes_command.specs.Outs as nodes
 use Rattle.run_commands.specs.Outs.{IsInRange}
 use Rattle.workloads.specs.Laws.{WordsAreWithin}
 use Rattle.aria_top.specs.Tasks as tasks
-use Rattle.aria_top.specs.Tasks.{task_by, task_in}
-use Rattle.aria_top.specs.declared.tasks.CommandTask.{CommandTask}
+use Rattle.aria_top.specs.Tasks.{task_in}
 
 -- ---- where a reader reads something, this holds of it
 
@@ -234,9 +233,9 @@ module _ (name : List ℕ) (l : Line) where
 sound : (l : Line) (c : Command) → command_of l ≡ Some c → IsSound c
 sound l c e = of_some (command_of l) c IsSound e (all l.cmd.name l)
 
--- ---- the task of arguments
+-- ---- the command of arguments
 
-of_line : WordsAreWithin → (l : Line) (c : Command) → command_of l ≡ Some c → IsSound c → IfSome (task_by c) tasks.IsInRange
+of_line : WordsAreWithin → (l : Line) (c : Command) → command_of l ≡ Some c → IsSound c → tasks.IsInRange c
 of_line law l (command.Once settings) is h = h
 of_line law l (command.Init settings) is h = h
 of_line law l (command.Run settings) is h = h
@@ -248,14 +247,16 @@ of_line law l command.Audit is h = tt
 of_line law l (command.Mix settings) is h = law.mix l settings is
 of_line law l (command.Nodes settings) is h = h
 
-by_command : WordsAreWithin → (l : Line) (o : Option Command) → command_of l ≡ o → IfSome (option_and_then task_by o) tasks.IsInRange
+by_command : WordsAreWithin → (l : Line) (o : Option Command) → command_of l ≡ o → IfSome o tasks.IsInRange
 by_command law l None is = tt
 by_command law l (Some c) is = of_line law l c is (sound l c is)
 
-by_line : WordsAreWithin → (o : Option Line) → IfSome (option_and_then task_by (option_and_then command_of o)) tasks.IsInRange
+by_line : WordsAreWithin → (o : Option Line) → IfSome (option_and_then command_of o) tasks.IsInRange
 by_line law None = tt
 by_line law (Some l) = by_command law l (command_of l) refl
 
 -- the settings that arguments ask for
-pub in_bounds : WordsAreWithin → (words : List (List ℕ)) (found : Option CommandTask) → found ≡ task_in words → IfSome found tasks.IsInRange
-in_bounds law words found is = subst (λ (f : Option CommandTask). IfSome f tasks.IsInRange) (sym is) (by_line law (line_of commands words))
+pub in_bounds : {E : Type 0} → WordsAreWithin → (words : List (List ℕ)) (asked : Result (Option Command) E) → IfOk asked (λ found. found ≡ task_in words)
+    → IfOk asked (λ found. IfSome found tasks.IsInRange)
+in_bounds law words (Ok found) is = subst (λ (f : Option Command). IfSome f tasks.IsInRange) (sym is) (by_line law (line_of commands words))
+in_bounds law words (Err why) is = tt

@@ -1,5 +1,5 @@
 -- What a command needs to know of the disk, and what it leaves of it.
-use Rattle.std.specs.Prelude.{◌≡◌, ◌≢◌, ◌⊎◌, ℕ, ◌||◌, Bool, List, [], Option, Some, None, IfSome}
+use Rattle.std.specs.Prelude.{◌≡◌, ◌≢◌, ◌⊎◌, ℕ, ◌||◌, Bool, List, [], Option, Some, IfSome}
 use Rattle.std.specs.Io.KnownBytes.{Appends}
 use Rattle.aria_store.specs.Reopens.{Reopened, Reopens}
 use Rattle.checkpoint.specs.Slots.{is_open}
@@ -10,8 +10,8 @@ use Rattle.run_commands.specs.Resumes.{HoldsOver, LeavesOver, StandsOver}
 use Rattle.script_course.specs.declared.statuses.TheConstants.{DONE, READ_FAULT, REFUSED, STORE_REFUSED}
 use Rattle.store_commands.specs.Inits as init
 use Rattle.store_openings.specs.Openings.{ReadsAs, opened}
-use Rattle.aria_top.specs.declared.tasks.CommandTask.{CommandTask}
-use Rattle.aria_top.specs.declared.tasks.CommandTask.TheVariants as task
+use Rattle.command_words.specs.declared.settings.Command.{Command}
+use Rattle.command_words.specs.declared.settings.Command.TheVariants as command
 
 -- ---- before
 
@@ -20,10 +20,10 @@ abbrev pub is_taken : (ℕ → List ℕ) → Bool
 is_taken images = is_open (images 0) || is_open (images 1)
 
 -- The four files have these bytes, and reopen as that, where the task asks for it. Nothing is asked where the disk is not used.
-abbrev pub Sees : Option CommandTask → History → (ℕ → List ℕ) → Reopened → Type 0
-Sees (Some (task.Init settings)) disk images found = ReadsAs disk images
-Sees (Some (task.Run settings)) disk images found = ReadsAs disk images × Reopens images found
-Sees (Some (task.Replay settings)) disk images found = ReadsAs disk images × Reopens images found
+abbrev pub Sees : Option Command → History → (ℕ → List ℕ) → Reopened → Type 0
+Sees (Some (command.Init settings)) disk images found = ReadsAs disk images
+Sees (Some (command.Run settings)) disk images found = ReadsAs disk images × Reopens images found
+Sees (Some (command.Replay settings)) disk images found = ReadsAs disk images × Reopens images found
 Sees other disk images found = Unit {0}
 
 -- ---- after
@@ -47,11 +47,11 @@ pub record RunLeaves (settings : Run) (images : ℕ → List ℕ) (found : Reope
 
 -- Of the disk is asked what each of these needs to know of it, and of `replay` nothing. A task that does not use the disk has a clause of
 -- its own.
-abbrev pub LeavesDisk : Option CommandTask → Option (List ℕ) → History → History → Option (List ℕ) → Option (List ℕ) → ℕ → Type 0
-LeavesDisk (Some (task.Init settings)) left was is old new status =
+abbrev pub LeavesDisk : Option Command → Option (List ℕ) → History → History → Option (List ℕ) → Option (List ℕ) → ℕ → Type 0
+LeavesDisk (Some (command.Init settings)) left was is old new status =
     (images : ℕ → List ℕ) → ReadsAs was images → InitLeaves settings (is_taken images) left was is old new status
-LeavesDisk (Some (task.Run settings)) left was is old new status =
+LeavesDisk (Some (command.Run settings)) left was is old new status =
     (images : ℕ → List ℕ) (found : Reopened) → ReadsAs was images → Reopens images found
     → RunLeaves settings images found left was is old new status
-LeavesDisk (Some (task.Replay settings)) left was is old new status = LeavesAll was is (MayLeave was was.now)
+LeavesDisk (Some (command.Replay settings)) left was is old new status = LeavesAll was is (MayLeave was was.now)
 LeavesDisk other left was is old new status = Unit {0}

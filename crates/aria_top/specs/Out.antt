@@ -30,8 +30,8 @@ use Rattle.tpcc_audit.specs.Conditions.{audited}
 use Rattle.tpcc_audit.specs.declared.findings.Audit.{Audit}
 use Rattle.tpcc_routines.specs.Sound.{IsSound}
 use Rattle.aria_top.specs.Tasks.{alone, task_in}
-use Rattle.aria_top.specs.declared.tasks.CommandTask.{CommandTask}
-use Rattle.aria_top.specs.declared.tasks.CommandTask.TheVariants as task
+use Rattle.command_words.specs.declared.settings.Command.{Command}
+use Rattle.command_words.specs.declared.settings.Command.TheVariants as command
 
 abbrev pub refused_usage : Out
 refused_usage = record { bytes = refused_text Usage; status = USAGE }
@@ -52,25 +52,25 @@ bench_out settings = bench_by settings.workload.kind settings
 abbrev pub mix_out : Mix → Out
 mix_out settings = record { bytes = mixes.summary_of settings; status = DONE }
 
-abbrev pub IsTrueOf : CommandTask → Type 0
-IsTrueOf (task.Mix settings) = IsSound (last_stage settings).mix.rows
+abbrev pub IsTrueOf : Command → Type 0
+IsTrueOf (command.Mix settings) = IsSound (last_stage settings).mix.rows
 IsTrueOf other = ⊤
 
 -- What a task prints on an input, where the source tells its bytes; what reads nothing prints without it. A command on a store has
 -- its output by the bytes of the four files and by what they reopen as.
-abbrev pub out_of_task : CommandTask → Option (List ℕ) → (ℕ → List ℕ) → Reopened → Option Out
-out_of_task (task.Once settings) left images found = option_map (out_of settings) left
-out_of_task (task.Init settings) left images found = option_map (init.out_of settings (is_taken images)) left
-out_of_task (task.Run settings) left images found = out_over settings (opened images found) left
-out_of_task (task.Replay settings) left images found = Some (replay.out_of settings images found)
-out_of_task (task.Gen settings) left images found = Some (record { bytes = script_of settings; status = DONE })
-out_of_task (task.Bench settings) left images found = Some (bench_out settings)
-out_of_task (task.Mix settings) left images found = Some (mix_out settings)
-out_of_task (task.Nodes settings) left images found = option_map (nodes.out_of settings) left
-out_of_task task.Audit left images found = option_map audit.out_of left
-out_of_task task.Check left images found = option_map check.out_of left
+abbrev pub out_of_task : Command → Option (List ℕ) → (ℕ → List ℕ) → Reopened → Option Out
+out_of_task (command.Once settings) left images found = option_map (out_of settings) left
+out_of_task (command.Init settings) left images found = option_map (init.out_of settings (is_taken images)) left
+out_of_task (command.Run settings) left images found = out_over settings (opened images found) left
+out_of_task (command.Replay settings) left images found = Some (replay.out_of settings images found)
+out_of_task (command.Gen settings) left images found = Some (record { bytes = script_of settings; status = DONE })
+out_of_task (command.Bench settings) left images found = Some (bench_out settings)
+out_of_task (command.Mix settings) left images found = Some (mix_out settings)
+out_of_task (command.Nodes settings) left images found = option_map (nodes.out_of settings) left
+out_of_task command.Audit left images found = option_map audit.out_of left
+out_of_task command.Check left images found = option_map check.out_of left
 
-abbrev pub out_by : Option CommandTask → Option (List ℕ) → (ℕ → List ℕ) → Reopened → Option Out
+abbrev pub out_by : Option Command → Option (List ℕ) → (ℕ → List ℕ) → Reopened → Option Out
 out_by None left images found = Some refused_usage
 out_by (Some asked) left images found = out_of_task asked left images found
 
@@ -78,14 +78,14 @@ abbrev pub out_for : List (List ℕ) → Option (List ℕ) → (ℕ → List ℕ
 out_for words left images found = out_by (task_in words) left images found
 
 -- what was written is all that the bytes that were taken tell, and no line of them was refused
-abbrev pub IsToldFor : Option CommandTask → (ℕ → List ℕ) → Reopened → Option (List ℕ) → Option (List ℕ)
+abbrev pub IsToldFor : Option Command → (ℕ → List ℕ) → Reopened → Option (List ℕ) → Option (List ℕ)
     → Option (List ℕ) → Option (List ℕ) → Type 0
-IsToldFor (Some (task.Once settings)) images found left rest old new = IsToldOf (told_of settings) left rest old new
-IsToldFor (Some (task.Init settings)) images found left rest old new = IsToldOf init_told left rest old new
-IsToldFor (Some (task.Run settings)) images found left rest old new = IsToldOver settings (opened images found) left rest old new
-IsToldFor (Some (task.Nodes settings)) images found left rest old new = IsToldOf (nodes.told_of settings) left rest old new
-IsToldFor (Some task.Audit) images found left rest old new = IsToldOf audit.told_of left rest old new
-IsToldFor (Some task.Check) images found left rest old new = IsToldOf check.told_of left rest old new
+IsToldFor (Some (command.Once settings)) images found left rest old new = IsToldOf (told_of settings) left rest old new
+IsToldFor (Some (command.Init settings)) images found left rest old new = IsToldOf init_told left rest old new
+IsToldFor (Some (command.Run settings)) images found left rest old new = IsToldOver settings (opened images found) left rest old new
+IsToldFor (Some (command.Nodes settings)) images found left rest old new = IsToldOf (nodes.told_of settings) left rest old new
+IsToldFor (Some command.Audit) images found left rest old new = IsToldOf audit.told_of left rest old new
+IsToldFor (Some command.Check) images found left rest old new = IsToldOf check.told_of left rest old new
 IsToldFor other images found left rest old new = ⊥
 
 -- command lines that ask for the same but for workers, replicas, nodes and batons print the same

@@ -16,6 +16,7 @@ ghost use Rattle.nodes_command.specs.Outs as nodes;
 ghost use Rattle.tpcc_routines.specs.Sound.{IsSound};
 ghost use Rattle.workloads.specs.Laws.{IsAsked, IsMixAsked};
 
+use crate::endings::final_status;
 use crate::summaries::print_bench;
 use aria_base::{Memory, Pace, Sink, Source};
 use audit_command::audit;
@@ -31,7 +32,7 @@ use std::alloc::Global;
 use std::thread::Threads;
 
 /// Runs `once`, and answers its status.
-#[tactic(auto, using(crate::proofs::Stopped::once_ends))]
+#[tactic(auto, using(crate::proofs::Stopped::command_ends))]
 pub fn run_once<S: Source, K: Sink, D: Disk, P: Pace + Sync, R: Threads + Sync>(
     rt: &R,
     alloc: Global,
@@ -52,10 +53,7 @@ pub fn run_once<S: Source, K: Sink, D: Disk, P: Pace + Sync, R: Threads + Sync>(
     ensures disk { disk.new ≡ disk.old }
     ensures told { result ≡ READ_FAULT → IsToldOf (told_of settings.now) (S.left input.old) (S.left input.new) (K.given out.old) (K.given out.new) }
 {
-    match once(rt, alloc, settings, input, out, disk, pace) {
-        Ok(status) => status,
-        Err(stop) => stop.status(),
-    }
+    final_status(once(rt, alloc, settings, input, out, disk, pace))
 }
 
 /// Runs `gen`, and answers its status.
@@ -66,10 +64,7 @@ pub fn run_gen<K: Sink>(alloc: Global, settings: &Workload, out: &mut K) -> u8
     ensures others { (result ≡ DONE) ⊎ (result ≡ WRITE_FAULT) ⊎ (result ≡ NO_MEMORY) }
     ensures write { result ≡ WRITE_FAULT → Rose (K.faults out.old) (K.faults out.new) }
 {
-    match generate(alloc, settings, out) {
-        Ok(status) => status,
-        Err(stop) => stop.status(),
-    }
+    final_status(generate(alloc, settings, out))
 }
 
 /// Runs `bench`, and answers its status.
@@ -121,7 +116,7 @@ pub fn run_mix<K: Sink, P: Pace + Sync, R: Threads + Sync>(
 }
 
 /// Runs `nodes`, and answers its status.
-#[tactic(auto, using(crate::proofs::Stopped::reader_ends))]
+#[tactic(auto, using(crate::proofs::Stopped::command_ends))]
 pub fn run_nodes<S: Source, K: Sink>(
     alloc: Global,
     settings: &Nodes,
@@ -138,14 +133,11 @@ pub fn run_nodes<S: Source, K: Sink>(
     ensures end { IsEnded result → IsAtEnd (S.left input.new) }
     ensures told { result ≡ READ_FAULT → IsToldOf (nodes.told_of settings.now) (S.left input.old) (S.left input.new) (K.given out.old) (K.given out.new) }
 {
-    match nodes(alloc, settings, input, out) {
-        Ok(status) => status,
-        Err(stop) => stop.status(),
-    }
+    final_status(nodes(alloc, settings, input, out))
 }
 
 /// Runs `audit`, and answers its status.
-#[tactic(auto, using(crate::proofs::Stopped::reader_ends))]
+#[tactic(auto, using(crate::proofs::Stopped::command_ends))]
 pub fn run_audit<S: Source, K: Sink>(alloc: Global, input: &mut S, out: &mut K) -> u8
     ensures answered { IsAnswered result → IfSome (S.left input.old)
         (λ text. (result ≡ (audits.out_of text).status) × Appends (K.given out.old) (K.given out.new) (audits.out_of text).bytes) }
@@ -156,14 +148,11 @@ pub fn run_audit<S: Source, K: Sink>(alloc: Global, input: &mut S, out: &mut K) 
     ensures end { IsEnded result → IsAtEnd (S.left input.new) }
     ensures told { result ≡ READ_FAULT → IsToldOf audits.told_of (S.left input.old) (S.left input.new) (K.given out.old) (K.given out.new) }
 {
-    match audit(alloc, input, out) {
-        Ok(status) => status,
-        Err(stop) => stop.status(),
-    }
+    final_status(audit(alloc, input, out))
 }
 
 /// Runs `check`, and answers its status.
-#[tactic(auto, using(crate::proofs::Stopped::reader_ends))]
+#[tactic(auto, using(crate::proofs::Stopped::command_ends))]
 pub fn run_check<S: Source, K: Sink>(alloc: Global, input: &mut S, out: &mut K) -> u8
     ensures answered { IsAnswered result → IfSome (S.left input.old)
         (λ text. (result ≡ (checks.out_of text).status) × Appends (K.given out.old) (K.given out.new) (checks.out_of text).bytes) }
@@ -174,8 +163,5 @@ pub fn run_check<S: Source, K: Sink>(alloc: Global, input: &mut S, out: &mut K) 
     ensures end { IsEnded result → IsAtEnd (S.left input.new) }
     ensures told { result ≡ READ_FAULT → IsToldOf checks.told_of (S.left input.old) (S.left input.new) (K.given out.old) (K.given out.new) }
 {
-    match check_report(alloc, input, out) {
-        Ok(status) => status,
-        Err(stop) => stop.status(),
-    }
+    final_status(check_report(alloc, input, out))
 }

@@ -22,6 +22,7 @@
 #![tactic(auto)]
 
 mod commands;
+mod endings;
 mod laws;
 mod stores;
 mod summaries;
@@ -31,5 +32,4 @@ mod top_call;
 pub use script_course::{
     DISK_FAULT, DONE, FAILS, NO_MEMORY, READ_FAULT, REFUSED, STORE_REFUSED, USAGE, WRITE_FAULT,
 };
-pub use serving::{Delivery, Live, MOST_LOG, serve_batch};
 pub use top_call::aria;

@@ -15,6 +15,7 @@ ghost use Rattle.store_openings.specs.Openings.{ReadsAs, opened};
 ghost use Rattle.aria_top.specs.Disks.{InitLeaves, RunLeaves, is_taken};
 ghost use Rattle.aria_top.specs.Statuses.{IsAnswered};
 
+use crate::endings::final_status;
 use aria_base::{Pace, Sink, Source};
 use command_words::{Init, Replay, Run};
 use disk_model::Disk;
@@ -49,10 +50,7 @@ pub fn run_init<S: Source, K: Sink, D: Disk>(
     ensures leaves { (images : ℕ → List ℕ) → ReadsAs (D.history disk.old) images → InitLeaves settings.now (is_taken images)
         (S.left input.old) (D.history disk.old) (D.history disk.new) (K.given out.old) (K.given out.new) result }
 {
-    match init(alloc, settings, input, out, disk) {
-        Ok(status) => status,
-        Err(stop) => stop.status(),
-    }
+    final_status(init(alloc, settings, input, out, disk))
 }
 
 /// Runs `run`, and answers its status.
@@ -84,10 +82,7 @@ pub fn run_batches<S: Source, K: Sink, D: Disk, P: Pace + Sync, R: Threads + Syn
     ensures leaves { (images : ℕ → List ℕ) (found : Reopened) → ReadsAs (D.history disk.old) images → Reopens images found
         → RunLeaves settings.now images found (S.left input.old) (D.history disk.old) (D.history disk.new) (K.given out.old) (K.given out.new) result }
 {
-    match run(rt, alloc, settings, input, out, disk, pace) {
-        Ok(status) => status,
-        Err(stop) => stop.status(),
-    }
+    final_status(run(rt, alloc, settings, input, out, disk, pace))
 }
 
 /// Runs `replay`, and answers its status.
@@ -111,8 +106,5 @@ pub fn run_replay<K: Sink, D: Disk, P: Pace + Sync, R: Threads + Sync>(
     ensures device { result ≡ DISK_FAULT → Rose (D.history disk.old).faults (D.history disk.new).faults }
     ensures leaves { LeavesAll (D.history disk.old) (D.history disk.new) (MayLeave (D.history disk.old) (D.history disk.old).now) }
 {
-    match replay(rt, alloc, settings, out, disk, pace) {
-        Ok(status) => status,
-        Err(stop) => stop.status(),
-    }
+    final_status(replay(rt, alloc, settings, out, disk, pace))
 }

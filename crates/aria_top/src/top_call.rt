@@ -16,9 +16,10 @@ ghost use Rattle.run_commands.specs.Serial.{EachIsSerial, EachReplayIsSerial, Ea
 use crate::commands::{run_audit, run_bench, run_check, run_gen, run_mix, run_nodes, run_once};
 use crate::laws::lines_are_one;
 use crate::stores::{run_batches, run_init, run_replay};
-use crate::tasks::{CommandTask, read_task};
+use crate::tasks::read_task;
 use answer_text::{NotDone, refused_line};
 use aria_base::{Memory, Pace, Sink, Source};
+use command_words::Command;
 use disk_model::Disk;
 use run_commands::{each_is_serial, each_replay_is_serial, each_run_is_serial};
 use script_course::{
@@ -36,7 +37,6 @@ use std::thread::Threads;
 /// the way or a damaged one. 7 (`NO_MEMORY`): there was no memory. 8 (`FAILS`): an audit or a report does
 /// not hold.
 ///
-/// A command that `command_words` reads and the program does not run is refused as arguments that are none.
 /// Commands on a store have it on the disk, and all others leave the disk alone. No answer depends on the
 /// pace, the workers and the replicas.
 pub fn aria<S: Source, K: Sink, D: Disk, P: Pace + Sync, R: Threads + Sync>(
@@ -116,7 +116,7 @@ pub fn aria<S: Source, K: Sink, D: Disk, P: Pace + Sync, R: Threads + Sync>(
 fn run_task<S: Source, K: Sink, D: Disk, P: Pace + Sync, R: Threads + Sync>(
     rt: &R,
     alloc: Global,
-    task: &CommandTask,
+    task: &Command,
     input: &mut S,
     out: &mut K,
     disk: &mut D,
@@ -147,18 +147,16 @@ fn run_task<S: Source, K: Sink, D: Disk, P: Pace + Sync, R: Threads + Sync>(
     ensures sound { result ≡ DONE → IsTrueOf task.now }
 {
     match task {
-        CommandTask::Once(settings) => return run_once(rt, alloc, settings, input, out, disk, pace),
-        CommandTask::Init(settings) => return run_init(alloc, settings, input, out, disk),
-        CommandTask::Run(settings) => return run_batches(
-            rt, alloc, settings, input, out, disk, pace,
-        ),
-        CommandTask::Replay(settings) => return run_replay(rt, alloc, settings, out, disk, pace),
-        CommandTask::Gen(settings) => return run_gen(alloc, settings, out),
-        CommandTask::Bench(settings) => return run_bench(rt, alloc, settings, out, pace),
-        CommandTask::Mix(settings) => return run_mix(rt, alloc, settings, out, pace),
-        CommandTask::Nodes(settings) => return run_nodes(alloc, settings, input, out),
-        CommandTask::Audit => return run_audit(alloc, input, out),
-        CommandTask::Check => return run_check(alloc, input, out),
+        Command::Once(settings) => return run_once(rt, alloc, settings, input, out, disk, pace),
+        Command::Init(settings) => return run_init(alloc, settings, input, out, disk),
+        Command::Run(settings) => return run_batches(rt, alloc, settings, input, out, disk, pace),
+        Command::Replay(settings) => return run_replay(rt, alloc, settings, out, disk, pace),
+        Command::Gen(settings) => return run_gen(alloc, settings, out),
+        Command::Bench(settings) => return run_bench(rt, alloc, settings, out, pace),
+        Command::Mix(settings) => return run_mix(rt, alloc, settings, out, pace),
+        Command::Nodes(settings) => return run_nodes(alloc, settings, input, out),
+        Command::Audit => return run_audit(alloc, input, out),
+        Command::Check => return run_check(alloc, input, out),
     }
 }
 

@@ -2,7 +2,7 @@
 ghost use Rattle.std.specs.Prelude.{◌≡◌, ◌≤◌, None, IfOk, OnErr};
 ghost use Rattle.aria_base.specs.Faults.{Rose};
 
-use crate::folders::Folder;
+use crate::folders::{Fault, Folder};
 use aria_base::{Failed, Memory};
 use disk_model::Disk;
 use std::alloc::Global;
@@ -19,13 +19,6 @@ pub struct DirDisk<R: Files> {
     last: Option<Fault>,
 }
 
-/// The error of the system at a call on a file.
-#[derive(Clone, Copy)]
-struct Fault {
-    file: u8,
-    error: io::Error,
-}
-
 impl<R: Files + Drop> DirDisk<R> {
     /// The disk in the folder of this name, which is looked for from the folder that the program runs in.
     /// Nothing is touched yet, and no fault is counted. It answers `Memory` where there is no memory for the
@@ -40,18 +33,18 @@ impl<R: Files + Drop> DirDisk<R> {
         })
     }
 
-    /// The path of the file that the last call with a fault was on, and the system's error at it; none
-    /// where no call had a fault.
+    /// The path that the system's last error was at, and that error; none where no call had a fault. The path
+    /// is that of a file, of the folder, or of the one that the folder lies in. The first call opens all files,
+    /// and its error may be at another file than the one that the call was on.
     pub fn last_fault(&self) -> Option<(&str, io::Error)> {
         let fault = self.last?;
-        Some((self.folder.path(fault.file), fault.error))
+        Some((self.folder.path(fault.place), fault.error))
     }
 }
 
-/// The answer of a call on a file, whose error is counted and kept.
+/// The answer of a call on a file, whose fault is counted and kept.
 fn counted<T>(
-    answer: io::Result<T>,
-    file: u8,
+    answer: Result<T, Fault>,
     faults: &mut u64,
     last: &mut Option<Fault>,
 ) -> Result<T, Failed>
@@ -61,9 +54,9 @@ fn counted<T>(
 {
     match answer {
         Ok(value) => Ok(value),
-        Err(error) => {
+        Err(fault) => {
             *faults = faults.saturating_add(1);
-            *last = Some(Fault { file, error });
+            *last = Some(fault);
             Err(Failed)
         }
     }
@@ -75,18 +68,12 @@ impl<R: Files + Drop> Disk for DirDisk<R> {
     ghost reads = { λ disk moment file. tt };
 
     fn len(&mut self, file: u8) -> Result<u64, Failed> {
-        counted(
-            self.folder.len(file),
-            file,
-            &mut self.faults,
-            &mut self.last,
-        )
+        counted(self.folder.len(file), &mut self.faults, &mut self.last)
     }
 
     fn read_at(&mut self, file: u8, at: u64, buf: &mut [u8]) -> Result<(), Failed> {
         counted(
             self.folder.read_at(file, at, buf),
-            file,
             &mut self.faults,
             &mut self.last,
         )
@@ -95,19 +82,13 @@ impl<R: Files + Drop> Disk for DirDisk<R> {
     fn write_at(&mut self, file: u8, at: u64, bytes: &[u8]) -> Result<(), Failed> {
         counted(
             self.folder.write_at(file, at, bytes),
-            file,
             &mut self.faults,
             &mut self.last,
         )
     }
 
     fn sync(&mut self, file: u8) -> Result<(), Failed> {
-        counted(
-            self.folder.sync(file),
-            file,
-            &mut self.faults,
-            &mut self.last,
-        )
+        counted(self.folder.sync(file), &mut self.faults, &mut self.last)
     }
 
     fn faults(&self) -> u64 {

@@ -8,6 +8,24 @@ use std::io::{ErrorKind, Read, Seek, SeekFrom, Write};
 /// The names of the files by their numbers.
 const NAMES: [&str; 4] = ["ckpt0", "ckpt1", "log0", "log1"];
 
+/// What an error of the system was at.
+#[derive(Clone, Copy)]
+pub enum Place {
+    /// The folder that the folder of the files lies in.
+    Parent,
+    /// The folder of the files.
+    Folder,
+    /// The file of this number.
+    File(usize),
+}
+
+/// An error of the system, and what it was at.
+#[derive(Clone, Copy)]
+pub struct Fault {
+    pub place: Place,
+    pub error: io::Error,
+}
+
 /// A folder and its four files, which are opened by the first call that needs one.
 #[derive(Drop)]
 pub struct Folder<R: Files> {
@@ -32,51 +50,58 @@ impl<R: Files + Drop> Folder<R> {
         })
     }
 
-    /// The path of a file. Of a number that no file has it is the folder's.
-    pub fn path(&self, file: u8) -> &str {
-        match self.paths.get(usize::from(file)) {
-            Some(path) => path,
-            None => &self.folder,
+    /// The path of a place. Of a number that no file has it is the folder's.
+    pub fn path(&self, place: Place) -> &str {
+        match place {
+            Place::Parent => parent_of(&self.folder),
+            Place::Folder => &self.folder,
+            Place::File(number) => match self.paths.get(number) {
+                Some(path) => path,
+                None => &self.folder,
+            },
         }
     }
 
     /// The length of a file.
-    pub fn len(&mut self, file: u8) -> io::Result<u64> {
-        self.file(file)?.seek(SeekFrom::End(0))
+    pub fn len(&mut self, number: u8) -> Result<u64, Fault> {
+        let file = self.file(number)?;
+        placed(file.seek(SeekFrom::End(0)), file_of(number))
     }
 
     /// Fills the buffer from an offset of a file on. It is an error where the file ends before.
-    pub fn read_at(&mut self, file: u8, at: u64, buf: &mut [u8]) -> io::Result<()> {
-        let file = self.file(file)?;
-        file.seek(SeekFrom::Start(at))?;
-        file.read_exact(buf)
+    pub fn read_at(&mut self, number: u8, at: u64, buf: &mut [u8]) -> Result<(), Fault> {
+        let file = self.file(number)?;
+        placed(file.seek(SeekFrom::Start(at)), file_of(number))?;
+        placed(file.read_exact(buf), file_of(number))
     }
 
     /// Writes all the bytes from an offset of a file on.
-    pub fn write_at(&mut self, file: u8, at: u64, bytes: &[u8]) -> io::Result<()> {
-        let file = self.file(file)?;
-        file.seek(SeekFrom::Start(at))?;
-        file.write_all(bytes)
+    pub fn write_at(&mut self, number: u8, at: u64, bytes: &[u8]) -> Result<(), Fault> {
+        let file = self.file(number)?;
+        placed(file.seek(SeekFrom::Start(at)), file_of(number))?;
+        placed(file.write_all(bytes), file_of(number))
     }
 
     /// Has what was written to a file, and its length, reach the disk.
-    pub fn sync(&mut self, file: u8) -> io::Result<()> {
-        self.file(file)?.sync_all()
+    pub fn sync(&mut self, number: u8) -> Result<(), Fault> {
+        let file = self.file(number)?;
+        placed(file.sync_all(), file_of(number))
     }
 
-    /// The file of this number.
-    fn file(&mut self, number: u8) -> io::Result<&mut R::File> {
+    /// The file of this number. The first call opens all of them, so that an error may be at another one, or
+    /// at a folder.
+    fn file(&mut self, number: u8) -> Result<&mut R::File, Fault> {
         if self.files.is_empty() {
             self.open()?;
         }
         match self.files.get_mut(usize::from(number)) {
             Some(file) => Ok(file),
-            None => Err(io::Error::from(ErrorKind::NotFound)),
+            None => placed(Err(io::Error::from(ErrorKind::NotFound)), Place::Folder),
         }
     }
 
     /// Opens the files. Where that fails none of them is open, and the next call tries again.
-    fn open(&mut self) -> io::Result<()> {
+    fn open(&mut self) -> Result<(), Fault> {
         let opened = open_all(&self.system, &self.folder, &self.paths, &mut self.files);
         if opened.is_err() {
             self.files.clear();
@@ -92,12 +117,18 @@ fn open_all<R: Files>(
     folder: &str,
     paths: &[String],
     files: &mut Vec<R::File>,
-) -> io::Result<()> {
+) -> Result<(), Fault> {
     make_folder(system, folder)?;
-    for path in paths {
-        files.push(open_file(system, path)?)?;
+    for (number, path) in paths.iter().enumerate() {
+        placed(add_file(system, path, files), Place::File(number))?;
     }
-    sync_folder(system, folder)
+    placed(sync_folder(system, folder), Place::Folder)
+}
+
+/// Opens a file, and adds it to those that are open.
+fn add_file<R: Files>(system: &R, path: &str, files: &mut Vec<R::File>) -> io::Result<()> {
+    files.push(open_file(system, path)?)?;
+    Ok(())
 }
 
 /// Opens a file for reading and writing, and makes it where it is not there.
@@ -119,10 +150,12 @@ fn path_of(alloc: Global, folder: &str, name: &str) -> Result<String, Memory> {
 
 /// Makes the folder, where it is not there, and has its entry reach the disk: also of a folder that is
 /// there, since whoever made it may have stopped before its entry did.
-fn make_folder<R: Files>(system: &R, folder: &str) -> io::Result<()> {
+fn make_folder<R: Files>(system: &R, folder: &str) -> Result<(), Fault> {
     match create_dir(system, folder) {
-        Err(error) if error.kind() != ErrorKind::AlreadyExists => Err(error),
-        _ => sync_folder(system, parent_of(folder)),
+        Err(error) if error.kind() != ErrorKind::AlreadyExists => {
+            placed(Err(error), Place::Folder)
+        }
+        _ => placed(sync_folder(system, parent_of(folder)), Place::Parent),
     }
 }
 
@@ -141,4 +174,14 @@ fn sync_folder<R: Files>(system: &R, folder: &str) -> io::Result<()> {
         .read(true)
         .open(system, folder)?
         .sync_all()
+}
+
+/// The place of the file of this number.
+fn file_of(number: u8) -> Place {
+    Place::File(usize::from(number))
+}
+
+/// The answer of the system to a call at this place.
+fn placed<T>(answer: io::Result<T>, place: Place) -> Result<T, Fault> {
+    answer.map_err(|error| Fault { place, error })
 }

@@ -1,4 +1,4 @@
-// Bytes come back from a real folder, by another disk too.
+// Bytes come back from a real folder, by another disk too. A fault tells the path that it was at.
 ghost use Rattle.std.specs.Prelude.{◌<◌};
 
 use crate::DirDisk;
@@ -61,6 +61,43 @@ fn bytes_come_back(rt: HostRuntime) -> Result<(), Fail> {
         texts,
         ["check-pint", "", "log of calls"],
         "what was written is there"
+    );
+    Ok(())
+}
+
+/// The path that the fault of a disk's first call is at. The call is on the first file.
+fn faulty_path<R: Files + Drop>(alloc: Global, disk: &mut DirDisk<R>) -> Result<String, Fail> {
+    let failed = disk.len(0).is_err();
+    match disk.last_fault() {
+        Some((path, _)) if failed => Ok(String::from_str(alloc, path)?),
+        _ => Err(Fail::new("the first call has a fault")),
+    }
+}
+
+#[test]
+fn a_folder_that_cannot_be_made_is_told(rt: HostRuntime) -> Result<(), Fail> {
+    let alloc = rt.alloc();
+    let mut disk = DirDisk::new(alloc, &rt, "dir-disk-none/store")?;
+    let path = faulty_path(alloc, &mut disk)?;
+    assert_eq!(&rt;
+        path.as_str(),
+        "dir-disk-none/store",
+        "the folder's own path"
+    );
+    Ok(())
+}
+
+#[test]
+fn a_file_that_cannot_be_opened_is_told(rt: HostRuntime) -> Result<(), Fail> {
+    let alloc = rt.alloc();
+    fs::create_dir_all(&rt, "dir-disk-other/log1")?;
+    let mut disk = DirDisk::new(alloc, &rt, "dir-disk-other")?;
+    let path = faulty_path(alloc, &mut disk)?;
+    fs::remove_dir_all(&rt, "dir-disk-other")?;
+    assert_eq!(&rt;
+        path.as_str(),
+        "dir-disk-other/log1",
+        "a folder stands there"
     );
     Ok(())
 }

@@ -72,7 +72,7 @@ enum Fault {
     NoCalls,
     #[error("the line of a call is longer than a line may be")]
     TooLong,
-    #[error("too many calls wait")]
+    #[error("the batch has no room for the calls")]
     NoRoom,
     #[error("no numbers are left")]
     NoNumbers,

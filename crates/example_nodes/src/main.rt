@@ -22,6 +22,9 @@ use thiserror::Error;
 /// Each batch copies what accounts hold to others. In the first one three go round, so that one of them waits.
 const BATCHES: [&[(i64, i64)]; 2] = [&[(1, 2), (2, 3), (3, 1)], &[(1, 4), (4, 1)]];
 
+/// The procedure `copy` in the catalogue of accounts.
+const COPY: u16 = 1;
+
 /// The accounts, and what they hold.
 const ACCOUNTS: [(i64, i64); 4] = [(1, 10), (2, 20), (3, 30), (4, 40)];
 
@@ -61,14 +64,14 @@ fn run<R: AllocGlobal + Print>(rt: &R) -> Result<(), Fault> {
     }
     let nodes = nodes.settle()?;
     let catalog = bank(alloc)?;
-    for number in 1..3 {
+    for number in 1..=nodes.batches() {
         let Some(answer) = nodes.answer(number)? else {
             return Err(Fault::NotComplete);
         };
         let text = print_answer(alloc, &catalog, &answer)?;
         out.give(&text).map_err(|_| Fault::NoWrite)?;
     }
-    let text = print_state(alloc, &catalog, &nodes.tables()?, 2)?;
+    let text = print_state(alloc, &catalog, &nodes.tables()?, nodes.batches())?;
     out.give(&text).map_err(|_| Fault::NoWrite)?;
     Ok(())
 }
@@ -125,7 +128,7 @@ fn accounts(alloc: Global) -> Result<Tables, Fault> {
 /// The call that puts what the first account holds into the second.
 fn copy(alloc: Global, from: i64, to: i64) -> Result<Call, Memory> {
     Ok(Call {
-        proc: 1,
+        proc: COPY,
         args: Args::from_vec(vec![in alloc; Arg::Int(from), Arg::Int(to)]?),
     })
 }

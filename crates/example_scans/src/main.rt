@@ -9,7 +9,8 @@ ghost use Rattle.example_scans.specs.Orders.{MayRun, done, orders_of, told};
 use answer_text::print_answer;
 use anyhow::{Error, Result, ensure};
 use aria_base::{
-    Arg, Args, Call, Duplicate, FileSink, Free, Items, Key, Memory, Part, Parts, Row, Sink, Value,
+    Arg, Args, Call, Duplicate, FileSink, Free, GREATEST_NUMBER, Items, Key, Memory, Part, Parts,
+    Row, Sink, Value,
 };
 use cat_read::read_catalog;
 use dep_rules::{Config, Rule};
@@ -99,6 +100,8 @@ fn run<R: AllocGlobal + Print + Threads + Sync>(rt: &R) -> Result<()> {
     let alloc = rt.alloc();
     let mut out = FileSink::new(writer(rt));
     let catalog = read_catalog(alloc, CATALOG.as_bytes())?;
+    // No row is put here. The routine asks for the rows of table 0: that this one would fit shows a table with a key of two numbers and
+    // rows of one, which the engine wants to know before it runs the routine.
     let key = Key {
         table: 0,
         parts: Parts::two(Part::Int(7), Part::Int(1)),
@@ -133,8 +136,19 @@ fn works_for(alloc: Global, engine: &ScanEngine, asked: &[&[i64]]) -> Result<Vec
         ensure!(engine.takes(&OpenOrders, &work), "nobody takes the work");
         works.push(work)?;
     }
-    ensure!(works.len() <= engine.room() as usize, "no room");
-    ensure!(engine.batches().max(engine.requests()) < 1_000, "too many");
+    ensure!(
+        works.len() <= engine.room() as usize,
+        "the batch has no room for the works"
+    );
+    ensure!(
+        engine.batches() < GREATEST_NUMBER,
+        "no number is left for the batch"
+    );
+    let most = GREATEST_NUMBER - works.len() as u64;
+    ensure!(
+        engine.requests() <= most,
+        "no numbers are left for the works"
+    );
     Ok(works)
 }
 

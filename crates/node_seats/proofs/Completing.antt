@@ -23,7 +23,7 @@ use Rattle.node_rules.specs.Newses.{first_news}
 use Rattle.node_turns.specs.Goings.{IsGoing}
 use Rattle.node_turns.proofs.Going.{last_done, next_begun}
 use Rattle.node_batch.specs.NodeBatches.{IsBare}
-use Rattle.node_seats.specs.Nodes.{settled_of, node_of, net, world_of, IsSeat, IsFlagged, AreKept}
+use Rattle.node_seats.specs.Nodes.{given_of, settled_of, node_of, net, world_of, IsSeat, IsFlagged, AreKept}
 use Rattle.node_seats.specs.Seats.{IsCompleted}
 use Rattle.node_batch.specs.Entries.{entry_of}
 use Rattle.node_batch.specs.declared.mails.Site.{Site}
@@ -68,8 +68,8 @@ module _ (plan : Plan) (rule : Rule) (nodes : ℕ) (start : Database) (started :
         = get_or-append_right flags (replicate (length more) false) (length flags) j false refl (omega arith) ∙ none_there (length more) _ in
         record {
           past = λ e. absurd (false≢true (sym off ∙ e));
-          now = λ e. off ∙ sym (list_any_none (eqb j) s.given.items
-              (λ i d lt. let low = (h.each x.addressee s b).numbers i d lt in ne_eqb j (slice_index_or s.given.items i d) (λ same. absurd (omega arith))));
+          now = λ e. off ∙ sym (list_any_none (eqb j) (given_of s)
+              (λ i d lt. let low = (h.each x.addressee s b).numbers i d lt in ne_eqb j (slice_index_or (given_of s) i d) (λ same. absurd (omega arith))));
         })
         (cases_lt j (length ms));
     numbered = h.numbered;

@@ -18,7 +18,7 @@ use Rattle.node_rules.specs.Worlds.{Node, node_at_first, with_node, desk_for}
 use Rattle.node_rules.proofs.Growing.{with_here, with_else}
 use Rattle.node_batch.specs.NodeBatches.{Shows}
 use Rattle.node_batch.specs.Sames.{same_message}
-use Rattle.node_seats.specs.Nodes.{node_of, net, nodes_of, IsSeat, IsFlagged, AreKept}
+use Rattle.node_seats.specs.Nodes.{given_of, node_of, net, nodes_of, IsSeat, IsFlagged, AreKept}
 use Rattle.node_seats.specs.declared.seats.Seat.{Seat}
 
 -- ---- places of lists
@@ -52,13 +52,13 @@ module _ {X : Type 0} where
 
 module _ (plan : Plan) (rule : Rule) (nodes : ℕ) (start : Database) where
   -- what a node keeps stays where more is sent
-  pub node_on : (sent more : List (Message Key Cells)) (s : Seat) → All (λ k. k < length sent) s.given.items → node_of (sent ++ more) s ≡ node_of sent s
+  pub node_on : (sent more : List (Message Key Cells)) (s : Seat) → All (λ k. k < length sent) (given_of s) → node_of (sent ++ more) s ≡ node_of sent s
   node_on sent more s all = λ i. record {
     rows = (node_of sent s).rows;
     carried = (node_of sent s).carried;
     done = (node_of sent s).done;
     entries = (node_of sent s).entries;
-    given = mapped_left sent more s.given.items all i;
+    given = mapped_left sent more (given_of s) all i;
   }
 
   abbrev at : List (Message Key Cells) → List Seat → ℕ → Node key_cmp Cells Request End
@@ -86,7 +86,7 @@ module _ (plan : Plan) (rule : Rule) (nodes : ℕ) (start : Database) where
 
   -- more messages change no node
   pub nodes_on : (sent more : List (Message Key Cells)) (seats : List Seat)
-      → ((n : ℕ) (s : Seat) → slice_get seats n ≡ Some s → All (λ k. k < length sent) s.given.items)
+      → ((n : ℕ) (s : Seat) → slice_get seats n ≡ Some s → All (λ k. k < length sent) (given_of s))
       → nodes_of plan rule nodes start (sent ++ more) seats ≡ nodes_of plan rule nodes start sent seats
   nodes_on sent more seats all = λ i j. one j i
     where

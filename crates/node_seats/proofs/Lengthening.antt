@@ -26,7 +26,8 @@ use Rattle.node_batch.specs.Sames.{same_message}
 use Rattle.node_batch.specs.declared.mails.Site.{Site}
 use Rattle.node_batch.proofs.Sames.{is_net}
 use Rattle.node_turns.specs.Goings.{IsStarting}
-use Rattle.node_seats.specs.Nodes.{total, node_of, net, nodes_of, world_of, IsSeat, IsFlagged, AreKept}
+use Rattle.node_seats.specs.Listed.{listed}
+use Rattle.node_seats.specs.Nodes.{given_of, total, node_of, net, nodes_of, world_of, IsSeat, IsFlagged, AreKept}
 use Rattle.node_seats.specs.Nodes.{news_of}
 use Rattle.node_seats.specs.Seats.{IsLengthened}
 use Rattle.node_seats.specs.declared.seats.Seat.{Seat}
@@ -109,7 +110,7 @@ module _ (plan : Plan) (rule : Rule) (nodes : ℕ) (start : Database) (started :
         carried = ((λ i. take (r.carried i) (r.list i)) ∙ take-append-le s.carried s.bench.list.items new (h.each n s e).within) i;
         done = length (r.entries i).items;
         entries = map (λ batch. map entry_of batch.items) (r.entries i).items;
-        given = filter_map (slice_get ms) (r.given i).items;
+        given = filter_map (slice_get ms) (listed (r.given i).value);
       })
       (cases_lt (length s.entries.items) (length started))
 
@@ -158,7 +159,7 @@ module _ (plan : Plan) (rule : Rule) (nodes : ℕ) (start : Database) (started :
               rows = s.bench.rows;
               batch = length s.entries.items + 1;
               list = take s.carried s.bench.list.items ++ sym (get_or_append_left started (new ∷ []) [] (length s.entries.items) less) i;
-              given = filter_map (slice_get ms) s.given.items;
+              given = filter_map (slice_get ms) (given_of s);
             }) old.shows;
         site = old.site;
         within = old.within;
@@ -194,7 +195,7 @@ module _ (plan : Plan) (rule : Rule) (nodes : ℕ) (start : Database) (started :
                 let both = length-append s.bench.list.items new in
                 omega arith;
             numbers =
-                let given : s.given.items ≡ t.given.items = λ j. (sym r.given j).items in
+                let given : given_of s ≡ given_of t = λ j. listed (sym r.given j).value in
                 subst (All (λ k. k < length ms)) given old.numbers;
           }
 
@@ -205,7 +206,7 @@ module _ (plan : Plan) (rule : Rule) (nodes : ℕ) (start : Database) (started :
       (λ le.
       let r = l.rest le in
       let many : length t.entries.items ≡ length s.entries.items = λ i. length (r.entries i).items in
-      let given : t.given.items ≡ s.given.items = λ i. (r.given i).items in
+      let given : given_of t ≡ given_of s = λ i. listed (r.given i).value in
       record {
         past = λ e. let high = f.past e in omega arith;
         now = λ e. f.now (e ∙ ap (λ c. c + 1) many) ∙ ap (list_any (eqb k)) (sym given);

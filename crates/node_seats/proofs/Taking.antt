@@ -34,7 +34,7 @@ use Rattle.node_turns.proofs.Going.{given_first}
 use Rattle.node_batch.specs.NodeBatches.{Shows, IsFresh}
 use Rattle.node_batch.specs.Sames.{same_message}
 use Rattle.node_batch.proofs.Sames.{is_net}
-use Rattle.node_seats.specs.Nodes.{settled_of, node_of, net, nodes_of, world_of, IsSeat, IsFlagged, AreKept}
+use Rattle.node_seats.specs.Nodes.{given_of, settled_of, node_of, net, nodes_of, world_of, IsSeat, IsFlagged, AreKept}
 use Rattle.node_batch.specs.declared.mails.Site.{Site}
 use Rattle.node_seats.specs.declared.seats.Seat.{Seat}
 use Rattle.node_seats.proofs.Keeping.{get_set_same, get_set_else, get_left, mapped_left, node_here, seat_changed, nodes_on, changed}
@@ -118,14 +118,14 @@ module _ (plan : Plan) (rule : Rule) (nodes : ℕ) (start : Database) (started :
           (λ i. eq-eqb m.batch ((u.node to).done + 1) (batch_is ∙ ap (λ d. d + 1) (sym done_is)) i
           && lt-ltb (u.node to).done (length started) (omega arith) i)
 
-      flag_is : slice_index_or flags k false ≡ list_any (eqb k) s0.given.items
+      flag_is : slice_index_or flags k false ≡ list_any (eqb k) (given_of s0)
       flag_is = (h.flagged k m s0 at seat).now batch_is
 
       -- one that was given before
       pub given_before : slice_index_or flags k false ≡ true → deliver N u (Some m) ≡ u
       given_before e = given_again N is start u reached m sent current
           (ap (λ (x : Node key_cmp Cells Request End). is_in N x.given m) here
-          ∙ has-is_in N is (node_of ms s0).given m (kept_numbers s0.given.items (sym flag_is ∙ e)))
+          ∙ has-is_in N is (node_of ms s0).given m (kept_numbers (given_of s0) (sym flag_is ∙ e)))
         where
           kept_numbers : (ks : List ℕ) → list_any (eqb k) ks ≡ true → Contains (filter_map (slice_get ms) ks) m
           kept_numbers [] e = cc
@@ -146,9 +146,9 @@ module _ (plan : Plan) (rule : Rule) (nodes : ℕ) (start : Database) (started :
         not_in = elim (is_in N (u.node to).given m) as (λ b. is_in N (u.node to).given m ≡ b → b ≡ false) [
           | true ↦ λ t.
               let c = is_in-has N is (node_of ms s0).given m (sym (ap (λ (x : Node key_cmp Cells Request End). is_in N x.given m) here) ∙ t) in
-              let j = mapped_from (slice_get ms) s0.given.items m c in
+              let j = mapped_from (slice_get ms) (given_of s0) m c in
               let same = one_place ms reached.once k j.0 m at j.2 in
-              absurd (true≢false (sym (any_number s0.given.items k (subst (Contains s0.given.items) (sym same) j.1)) ∙ sym flag_is ∙ none))
+              absurd (true≢false (sym (any_number (given_of s0) k (subst (Contains (given_of s0)) (sym same) j.1)) ∙ sym flag_is ∙ none))
           | false ↦ λ t. refl
         ] refl
 
@@ -177,7 +177,7 @@ module _ (plan : Plan) (rule : Rule) (nodes : ℕ) (start : Database) (started :
 
         module _ (s1 : Seat) (more : List (Message Key Cells)) (site : s1.bench.site ≡ s0.bench.site) (carried : s1.carried ≡ s0.carried)
             (entries : settled_of s1 ≡ settled_of s0) (many : length s1.entries.items ≡ length s0.entries.items)
-            (given : s1.given.items ≡ s0.given.items ++ k ∷ [])
+            (given : given_of s1 ≡ given_of s0 ++ k ∷ [])
             (shows : Shows plan rule same_message (desk_with N desk m) s1.bench) (mails : more ≡ news N desk m) where
           abbrev kept : Node key_cmp Cells Request End
           kept = record {
@@ -197,9 +197,9 @@ module _ (plan : Plan) (rule : Rule) (nodes : ℕ) (start : Database) (started :
           list_same : s1.bench.list.items ≡ s0.bench.list.items
           list_same = sym shows.list_is ∙ shown.list_is
 
-          given_more : filter_map (slice_get (ms ++ more)) s1.given.items ≡ filter_map (slice_get ms) s0.given.items ++ m ∷ []
-          given_more = ap (filter_map (slice_get (ms ++ more))) given ∙ filter_map-append (slice_get (ms ++ more)) s0.given.items (k ∷ [])
-              ∙ (λ i. mapped_left ms more s0.given.items (h.each to s0 seat).numbers i ++ cons_option ((get_left ms more k below_k ∙ at) i) [])
+          given_more : filter_map (slice_get (ms ++ more)) (given_of s1) ≡ filter_map (slice_get ms) (given_of s0) ++ m ∷ []
+          given_more = ap (filter_map (slice_get (ms ++ more))) given ∙ filter_map-append (slice_get (ms ++ more)) (given_of s0) (k ∷ [])
+              ∙ (λ i. mapped_left ms more (given_of s0) (h.each to s0 seat).numbers i ++ cons_option ((get_left ms more k below_k ∙ at) i) [])
 
           node_is : node_of (ms ++ more) s1 ≡ kept
           node_is = (λ i. record {
@@ -224,8 +224,8 @@ module _ (plan : Plan) (rule : Rule) (nodes : ℕ) (start : Database) (started :
           long = length-append (slice_set flags k true) (replicate (length more) false)
               ∙ (λ i. (length-set flags k true ∙ h.many_flags) i + length-replicate (length more) false i) ∙ sym (length-append ms more)
 
-          numbers : All (λ k. k < length ms) s1.given.items
-          numbers = subst (All (λ k. k < length ms)) (sym given) (All-push (λ k. k < length ms) s0.given.items k (h.each to s0 seat).numbers below_k)
+          numbers : All (λ k. k < length ms) (given_of s1)
+          numbers = subst (All (λ k. k < length ms)) (sym given) (All-push (λ k. k < length ms) (given_of s0) k (h.each to s0 seat).numbers below_k)
 
           flagged : (j : ℕ) (x : Message Key Cells) (s : Seat) → slice_get (ms ++ more) j ≡ Some x → slice_get (slice_set seats to s1) x.addressee ≡ Some s
               → IsFlagged plan rule nodes start j x s (slice_index_or next j false)
@@ -234,9 +234,9 @@ module _ (plan : Plan) (rule : Rule) (nodes : ℕ) (start : Database) (started :
               flags_long : length (slice_set flags k true) ≡ length ms
               flags_long = length-set flags k true ∙ h.many_flags
 
-              seat_numbers : All (λ k. k < length ms) s.given.items
+              seat_numbers : All (λ k. k < length ms) (given_of s)
               seat_numbers = ⊎_elim
-                  (λ same. subst (λ (s : Seat). All (λ k. k < length ms) s.given.items)
+                  (λ same. subst (λ (s : Seat). All (λ k. k < length ms) (given_of s))
                   (same_Some s1 s (sym (get_set_same seats to s1 s0 seat) ∙ ap (slice_get (slice_set seats to s1)) (sym same) ∙ b)) numbers)
                   (λ off. (h.each x.addressee s (sym (get_set_else seats to s1 x.addressee off) ∙ b)).numbers)
                   (cases_eq x.addressee to)
@@ -248,8 +248,8 @@ module _ (plan : Plan) (rule : Rule) (nodes : ℕ) (start : Database) (started :
                   ∙ none_there (length more) _ in
                   record {
                     past = λ e. absurd (false≢true (sym off ∙ e));
-                    now = λ e. off ∙ sym (list_any_none (eqb j) s.given.items
-                        (λ i d lt. let low = seat_numbers i d lt in ne_eqb j (slice_index_or s.given.items i d) (λ same. absurd (omega arith))));
+                    now = λ e. off ∙ sym (list_any_none (eqb j) (given_of s)
+                        (λ i d lt. let low = seat_numbers i d lt in ne_eqb j (slice_index_or (given_of s) i d) (λ same. absurd (omega arith))));
                   }
                 where
                   none_there : (n i : ℕ) → slice_index_or (replicate n false) i false ≡ false
@@ -276,7 +276,7 @@ module _ (plan : Plan) (rule : Rule) (nodes : ℕ) (start : Database) (started :
                       subst (λ (p : Message Key Cells × Seat). IsFlagged plan rule nodes start j p.0 p.1 (slice_index_or (slice_set flags k true) j false))
                       (λ i. (m_is i, s_is i)) (record {
                         past = λ _. let same = batch_is in let count = many in omega arith;
-                        now = λ _. flag ∙ sym (ap (list_any (eqb j)) given ∙ any_number (s0.given.items ++ k ∷ []) j (at_end s0.given.items));
+                        now = λ _. flag ∙ sym (ap (list_any (eqb j)) given ∙ any_number (given_of s0 ++ k ∷ []) j (at_end (given_of s0)));
                       })
                     where
                       at_end : (ks : List ℕ) → Contains (ks ++ k ∷ []) j
@@ -298,8 +298,8 @@ module _ (plan : Plan) (rule : Rule) (nodes : ℕ) (start : Database) (started :
                           subst (λ s. IsFlagged plan rule nodes start j x s (slice_index_or flags j false)) s_is (record {
                             past = λ e. let le = f.past e in omega arith;
                             now = λ e. f.now (e ∙ ap (λ n. n + 1) count)
-                                ∙ sym (ap (list_any (eqb j)) given ∙ list_any-append (eqb j) s0.given.items (k ∷ [])
-                                ∙ ap (λ b. list_any (eqb j) s0.given.items || (b || false)) (ne_eqb j k off) ∙ or_none (list_any (eqb j) s0.given.items));
+                                ∙ sym (ap (list_any (eqb j)) given ∙ list_any-append (eqb j) (given_of s0) (k ∷ [])
+                                ∙ ap (λ b. list_any (eqb j) (given_of s0) || (b || false)) (ne_eqb j k off) ∙ or_none (list_any (eqb j) (given_of s0)));
                           })
 
           is_seat : IsSeat plan rule nodes start started (ms ++ more) to s1

@@ -1,3 +1,4 @@
+pub mod Listed
 pub mod Nodes
 pub mod Seats
 pub mod RowsAt

@@ -22,6 +22,7 @@ use Rattle.node_batch.specs.Entries.{entry_of}
 use Rattle.node_batch.specs.NodeBatches.{Shows}
 use Rattle.batch_core.specs.Steps.{numbered}
 use Rattle.node_seats.specs.declared.seats.Seat.{Seat}
+use Rattle.node_seats.specs.Listed.{listed}
 
 -- a batch's own requests at a node
 abbrev pub settled_of : Seat → List (List (Settled Key Request End))
@@ -37,6 +38,10 @@ abbrev pub total : {X : Type 0} → List (List X) → ℕ
 total [] = 0
 total (new ∷ news) = length new + total news
 
+-- the numbers of the messages that it keeps
+abbrev pub given_of : Seat → List ℕ
+given_of s = listed s.given.value
+
 -- a node, where these messages were sent
 abbrev pub node_of : List (Message Key Cells) → Seat → Node key_cmp Cells Request End
 node_of sent s = record {
@@ -44,7 +49,7 @@ node_of sent s = record {
   carried = take s.carried s.bench.list.items;
   done = length s.entries.items;
   entries = settled_of s;
-  given = filter_map (slice_get sent) s.given.items;
+  given = filter_map (slice_get sent) (given_of s);
 }
 
 module _ (plan : Plan) (rule : Rule) (nodes : ℕ) (start : Database) where
@@ -62,12 +67,12 @@ module _ (plan : Plan) (rule : Rule) (nodes : ℕ) (start : Database) where
     pub shows : Shows plan rule same_message (desk_for net started n (node_of sent s)) s.bench
     pub site : s.bench.site.nodes ≡ nodes
     pub within : s.carried ≤ length s.bench.list.items
-    pub numbers : All (λ k. k < length sent) s.given.items
+    pub numbers : All (λ k. k < length sent) (given_of s)
 
   -- whether message k was given to its node while its batch was the node's: the flag says it, for no later batch than the current one
   pub record IsFlagged (k : ℕ) (m : Message Key Cells) (s : Seat) (flag : Bool) : Type 0 where
     pub past : flag ≡ true → m.batch ≤ length s.entries.items + 1
-    pub now : m.batch ≡ length s.entries.items + 1 → flag ≡ list_any (eqb k) s.given.items
+    pub now : m.batch ≡ length s.entries.items + 1 → flag ≡ list_any (eqb k) (given_of s)
 
   pub record AreKept (started : List (List Request)) (requests : ℕ) (sent : List (Message Key Cells)) (flags : List Bool)
       (seats : List Seat) : Type 0 where

@@ -12,7 +12,7 @@ use Rattle.node_rules.specs.Worlds.{rows_left, waiting_left, entries_left}
 use Rattle.node_batch.specs.Sames.{same_message}
 use Rattle.node_batch.specs.NodeBatches.{Shows, IsBare}
 use Rattle.node_batch.specs.declared.mails.Site.{Site}
-use Rattle.node_seats.specs.Nodes.{settled_of}
+use Rattle.node_seats.specs.Nodes.{given_of, settled_of}
 use Rattle.node_batch.specs.Mails.{node_of as home_of}
 use Rattle.node_seats.specs.declared.seats.Seat.{Seat}
 
@@ -22,7 +22,7 @@ pub record IsCompleted (net : Net key_cmp Cells Request End) (desk : Desk key_cm
   pub list : next.bench.list.items ≡ waiting_left net desk ++ new
   pub carried : next.carried ≡ length (waiting_left net desk)
   pub entries : settled_of next ≡ settled_of old ++ entries_left net desk ∷ []
-  pub given : next.given.items ≡ []
+  pub given : given_of next ≡ []
   pub site : next.bench.site ≡ record { batch = old.bench.site.batch + 1; node = old.bench.site.node; nodes = old.bench.site.nodes }
   pub shows : (plan : Plan) (rule : Rule) (after : Desk key_cmp Cells Request) → IsBare after next.bench.site next.bench.rows next.bench.list.items
       → Shows plan rule same_message after next.bench
@@ -34,7 +34,7 @@ pub record IsBegun (here : Site) (db : Database) (s : Seat) : Type 0 where
   pub list : s.bench.list.items ≡ []
   pub carried : s.carried ≡ 0
   pub entries : s.entries.items ≡ []
-  pub given : s.given.items ≡ []
+  pub given : given_of s ≡ []
   pub shows : (plan : Plan) (rule : Rule) (desk : Desk key_cmp Cells Request) → IsBare desk here db [] → Shows plan rule same_message desk s.bench
 
 -- with more requests at the end of its list

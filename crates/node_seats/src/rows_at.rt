@@ -26,8 +26,8 @@ pub fn put_rows_at(
     Ok(())
 }
 
-/// Puts copies of those among these rows. Of a key that stands twice the first one counts.
-fn put_each(
+/// Puts copies of those among these rows whose keys are at a node. Of a key that stands twice the first one counts.
+pub(crate) fn put_each(
     alloc: Global,
     into: &mut Tables,
     rows: &[(&Key, &Row)],

@@ -8,13 +8,17 @@ ghost use Rattle.node_rules.specs.Newses.{desk_with, news, first_news};
 ghost use Rattle.node_batch.specs.NodeBatches.{Shows, IsFresh};
 ghost use Rattle.node_batch.specs.Letters.{net_of, message_of};
 ghost use Rattle.node_batch.specs.Sames.{same_message};
+ghost use Rattle.node_seats.specs.Nodes.{given_of};
 ghost use Rattle.node_seats.specs.Seats.{IsBegun, IsLengthened, IsCompleted};
 
+use crate::numbers::Numbers;
 use aria_base::{Memory, Request};
 use batch_rules::verdicts::Rule;
 use node_batch::{Entry, Letter, NodeBatch, Site};
 use proc_lang::Catalog;
 use std::alloc::Global;
+use std::mem;
+use std::snapshot::Snapshot;
 use tbl_rows::Tables;
 
 /// A node: its rows with its current batch, and what became of its own requests before.
@@ -26,8 +30,8 @@ pub struct Seat {
     pub carried: usize,
     /// What became of its own requests in each batch that it completed.
     pub entries: Vec<Vec<Entry>>,
-    /// The numbers of the messages that it keeps, in the order in which they were given.
-    pub given: Vec<usize>,
+    /// The numbers of the messages that it keeps.
+    pub given: Snapshot<Numbers>,
 }
 
 impl Seat {
@@ -39,7 +43,7 @@ impl Seat {
             bench: NodeBatch::begin(alloc, site, rows),
             carried: 0,
             entries: Vec::new(alloc),
-            given: Vec::new(alloc),
+            given: Numbers::none(),
         }
     }
 
@@ -70,7 +74,7 @@ impl Seat {
             × IsFresh (net_of catalog.now rule self.old.bench.site.nodes same_message) desk (message_of letter.now) }
         ensures site { OnOk result (self.new.bench.site ≡ self.old.bench.site) }
         ensures same { OnOk result ((self.new.carried ≡ self.old.carried) × (self.new.entries ≡ self.old.entries)) }
-        ensures given { OnOk result (self.new.given.items ≡ self.old.given.items ++ number ∷ []) }
+        ensures given { OnOk result (given_of self.new ≡ given_of self.old ++ number ∷ []) }
         ensures shows { OnOk result ((desk : Desk key_cmp Cells Q) → Shows catalog.now rule same_message desk self.old.bench
             → IsFresh (net_of catalog.now rule self.old.bench.site.nodes same_message) desk (message_of letter.now)
             → Shows catalog.now rule same_message (desk_with (net_of catalog.now rule self.old.bench.site.nodes same_message) desk (message_of letter.now)) self.new.bench
@@ -78,7 +82,8 @@ impl Seat {
             ++ news (net_of catalog.now rule self.old.bench.site.nodes same_message) desk (message_of letter.now))) }
     {
         self.bench.take(alloc, catalog, rule, letter, out)?;
-        self.given.push(number)?;
+        let earlier = mem::replace(&mut self.given, Numbers::none());
+        self.given = Numbers::and(earlier, number);
         Ok(())
     }
 
@@ -113,7 +118,7 @@ impl Seat {
         self.entries.push(own)?;
         let carried = self.bench.go_on(alloc, new)?;
         self.carried = carried;
-        self.given = Vec::new(alloc);
+        self.given = Numbers::none();
         Ok(())
     }
 }

@@ -24,7 +24,7 @@ use Rattle.node_batch.specs.Letters.{message_of}
 use Rattle.node_batch.specs.Entries.{entry_of}
 use Rattle.node_batch.specs.Sames.{same_message}
 use Rattle.node_batch.specs.declared.letters.Letter.{Letter}
-use Rattle.node_seats.specs.Nodes.{settled_of, node_of}
+use Rattle.node_seats.specs.Nodes.{given_of, settled_of, node_of}
 use Rattle.node_world.specs.Worlds.{net_in, sent_in, started_in, world_in}
 use Rattle.node_world.specs.Steps.{IsReady, IsNew, IsOld, IsOn}
 use Rattle.node_seats.specs.declared.seats.Seat.{Seat}
@@ -107,7 +107,7 @@ module _ (start : Database) (w : World) (r : IsReady start w) (k : ℕ) (l : Let
           seats = slice_set w.seats.items l.addressee s1;
         }
 
-        pub given_on : s1.bench.site ≡ s0.bench.site → (s1.carried ≡ s0.carried) × (s1.entries ≡ s0.entries) → s1.given.items ≡ s0.given.items ++ k ∷ []
+        pub given_on : s1.bench.site ≡ s0.bench.site → (s1.carried ≡ s0.carried) × (s1.entries ≡ s0.entries) → given_of s1 ≡ given_of s0 ++ k ∷ []
             → Shows w.catalog w.rule same_message (desk_with (net_in w) desk m) s1.bench → map message_of out ≡ news (net_in w) desk m
             → (v : World) → parts_in v ≡ after → IsOn start (step (net_in w) u (Deliver k)) v l.addressee
         given_on site same given shows mails v parts =

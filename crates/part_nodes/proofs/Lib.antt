@@ -1,3 +1,4 @@
 pub mod Wholes
 pub mod Asking
 pub mod Passes
+pub mod Skipped

@@ -22,7 +22,7 @@ N = Net key_cmp Cells Request End
 abbrev pub W : Type 0
 W = World key_cmp Cells Request End
 
-each_push : (net : N) (w : W) (ks : List ℕ) (k : ℕ) → deliver_each net w (ks ++ k ∷ []) ≡ step net (deliver_each net w ks) (Deliver k)
+pub each_push : (net : N) (w : W) (ks : List ℕ) (k : ℕ) → deliver_each net w (ks ++ k ∷ []) ≡ step net (deliver_each net w ks) (Deliver k)
 each_push net w [] k = refl
 each_push net w (x ∷ xs) k = each_push net (step net w (Deliver x)) xs k
 

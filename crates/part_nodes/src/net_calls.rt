@@ -48,6 +48,7 @@ impl Nodes {
         let world = World::begin(alloc, catalog, &tables, nodes, rule)?;
         Ok(Nodes {
             world,
+            settled: 0,
             start: Snapshot::of(&tables),
             alloc,
         })
@@ -84,8 +85,9 @@ impl Nodes {
         }
     }
 
-    /// Delivers all messages in the order of their sending, again and again, until every node has completed every started batch. An
-    /// error: there was no memory, and the nodes are gone.
+    /// Delivers all messages in the order of their sending, again and again, until every node has completed every started batch.
+    /// Those that had been sent when it last ended would change nothing, and are passed over. An error: there was no memory, and the
+    /// nodes are gone.
     pub fn settle(self) -> Result<Nodes, Memory>
         requires ready { AreReady self }
         ensures fixed { IfOk result (λ n. IsFixed self.world n.world) }
@@ -99,10 +101,12 @@ impl Nodes {
     {
         let mut nodes = self;
         'passes: while nodes.is_behind() {
-            'each: for k in 0..nodes.sent() {
+            // Those before are of batches that their nodes have completed: they would drop them.
+            'each: for k in nodes.settled..nodes.sent() {
                 nodes = nodes.deliver(k)?;
             }
         }
+        nodes.settled = nodes.sent();
         Ok(nodes)
     }
 
@@ -217,6 +221,7 @@ impl Nodes {
     {
         let Nodes {
             world,
+            settled,
             start,
             alloc,
         } = self;
@@ -224,6 +229,7 @@ impl Nodes {
         world.start(alloc, calls)?;
         Ok(Nodes {
             world,
+            settled,
             start,
             alloc,
         })
@@ -244,6 +250,7 @@ impl Nodes {
         }
         let Nodes {
             world,
+            settled,
             start,
             alloc,
         } = self;
@@ -251,6 +258,7 @@ impl Nodes {
         world.deliver(alloc, k as usize)?;
         Ok(Nodes {
             world,
+            settled,
             start,
             alloc,
         })

@@ -1,4 +1,3 @@
-mod Deciding
 mod Few
 pub mod Judging
 mod Marking

@@ -41,6 +41,6 @@ pub fn judge<P: Pace + Sync, T: Threads + Sync>(
     let none = Vec::new(alloc);
     let closed = reserve(rt, alloc, &numbered, none, TAGS - 1, workers, pace)?;
     let (words, tag) = (closed.words(), closed.tag());
-    let verdicts = decide_all(rt, alloc, &numbered, &counts, words, tag, rule, workers)?;
+    let verdicts = decide_all(alloc, &numbered, &counts, words, tag, rule)?;
     Ok(verdicts)
 }

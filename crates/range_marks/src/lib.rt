@@ -8,7 +8,7 @@
 //! what each work came to ──> Index: all prefixes ──workers──> keys and prefixes of each
 //!                                                                  │ numbers, reserve
 //!                                                                  v
-//!                               verdicts <──workers── closed words, a count of its own keys for each
+//!                               verdicts <── closed words, a count of its own keys for each
 //! ```
 #![tactic(auto)]
 

@@ -12,10 +12,10 @@ use range_rules::{Prefix, Ran};
 use range_runs::{Index, mark_of};
 use std::alloc::Global;
 use std::thread::Threads;
-use work_crew::{Task, gather};
+use work_crew::{Task, gather, workers_for};
 
 /// To start a thread takes longer than to find what so many works touched.
-const LEAST_A_WORKER: u32 = 64;
+const LEAST_A_WORKER: usize = 64;
 
 /// The runs of a batch, and the marks of the prefixes that they scanned.
 #[derive(Drop)]
@@ -69,8 +69,8 @@ pub(crate) fn touched_by_all<T: Threads + Sync>(
         rans,
         count: rans.len() as u32,
     };
-    let most = rans.len() as u32 / LEAST_A_WORKER + 1;
-    gather(rt, alloc, &touching, workers.min(most), &Free)
+    let workers = workers_for(rans.len(), LEAST_A_WORKER, workers);
+    gather(rt, alloc, &touching, workers, &Free)
 }
 
 /// What a run touched: what it scanned stands behind what it read, and what it marks behind what it wrote.

@@ -24,7 +24,6 @@ use Rattle.range_suits.specs.Laws.{IsWell}
 use Rattle.range_suits.specs.Suits.{FitsPrefix, has_parts, is_whole}
 use Rattle.range_marks.specs.Decisions.{TellsKeys, AreApart, touch_count}
 use Rattle.range_runs.specs.Marks.{mark_of, whole_table}
-use Rattle.range_runs.specs.declared.marks.TheConstants.{NO_TABLE}
 
 -- a place behind a list has nothing
 not_there : {X : Type 0} (xs : List X) (n : ℕ) → length xs ≤ n → slice_get xs n ≡ None
@@ -64,7 +63,7 @@ not_whole plan catalog p fits =
 
     whole_at : (ps : List Part) → has_parts (slice_get plan.tables p.table) (length ps) ≡ false
         → is_whole plan.tables (key_at (whole_table p.table) p.table ps) ≡ false
-    whole_at [] e = ap (λ table. has_parts table MOST_PARTS) (not_there plan.tables NO_TABLE (omega (arith, catalog.few_tables)))
+    whole_at [] e = ap (λ table. has_parts table MOST_PARTS) (not_there plan.tables (whole_table p.table).table (omega (arith, catalog.few_tables)))
     whole_at (x ∷ xs) e = e
 
 module _ (plan : Plan) (catalog : IsCatalog plan) (taken : RoutineCall → Bool) (act : ℕ → RoutineCall → List Seen → Action) (db : Database)

@@ -1,5 +1,5 @@
 -- The answer of a batch from what its phases hand on: request numbers by TID, ends of the runs on the batch's start, and verdicts.
-use Rattle.std.specs.Prelude.{ℕ, ◌-◌, List, [], ◌∷◌}
+use Rattle.std.specs.Prelude.{ℕ, List, [], ◌∷◌}
 use Rattle.aria_base.specs.declared.keys.Key.{Key}
 use Rattle.batch_core.specs.declared.answers.Line.{Line}
 use Rattle.batch_core.specs.Steps.{reply_by}

@@ -7,7 +7,6 @@ ghost use Rattle.range_rules.specs.Scans.{is_under};
 ghost use Rattle.range_runs.specs.Indexes.{IsIndexOf, HasExactly, followed};
 
 use crate::leasts::{least_under, see_key};
-use crate::prefixes::is_under;
 use aria_base::{Duplicate, Key, Memory, Row};
 use range_rules::Prefix;
 use std::alloc::Global;
@@ -125,7 +124,7 @@ impl Index {
         let least = least_under(alloc, prefix)?;
         let mut keys = Vec::new(alloc);
         for (key, _) in self.keys.range(&least..) {
-            if !is_under(prefix, key) {
+            if !prefix.covers(key) {
                 return Ok(keys);
             }
             keys.push(key)?;

@@ -10,7 +10,7 @@ use range_rules::Prefix;
 use std::alloc::Global;
 
 /// The least number that a part can be.
-pub const LEAST_NUMBER: i64 = i64::MIN;
+pub(crate) const LEAST_NUMBER: i64 = i64::MIN;
 
 /// A key from which on those under the prefix stand: a table's begin with the least number.
 pub(crate) fn least_under(alloc: Global, prefix: &Prefix) -> Result<Key, Memory>

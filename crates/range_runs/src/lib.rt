@@ -19,7 +19,6 @@ mod indexes;
 mod leasts;
 mod marks;
 mod overlays;
-mod prefixes;
 mod procs;
 mod runs;
 mod scans;
@@ -27,5 +26,4 @@ mod windows;
 
 pub use batches::run_all;
 pub use indexes::Index;
-pub use marks::{NO_TABLE, mark_of, whole_table};
-pub use prefixes::is_under;
+pub use marks::{mark_of, whole_table};

@@ -7,7 +7,7 @@ use range_rules::Prefix;
 use std::alloc::Global;
 
 /// No table has this number: a catalogue has at most 256.
-pub const NO_TABLE: u16 = u16::MAX;
+pub(crate) const NO_TABLE: u16 = u16::MAX;
 
 /// The mark of a prefix: the key that stands for it where prefixes are kept as keys are. Two prefixes have one
 /// mark exactly where they are one. An error: there was no memory.

@@ -10,7 +10,6 @@ ghost use Rattle.range_runs.specs.Windows.{write_under, written_under};
 
 use crate::found::Found;
 use crate::indexes::Index;
-use crate::prefixes::is_under;
 use aria_base::{Changes, Key, Keys, Memory, Row};
 use lent_rows::Lends;
 use range_rules::Prefix;
@@ -171,7 +170,7 @@ fn make_write(
 ) -> Result<(), Memory>
     ensures { OnOk result (found.new ≡ write_under prefix.now found.old key.now row.now) }
 {
-    if !is_under(prefix, key) {
+    if !prefix.covers(key) {
         return Ok(());
     }
     found.set(key, row.as_ref())

@@ -1,10 +1,10 @@
 // The prefixes that a run scanned.
-ghost use Rattle.std.specs.Prelude.{◌≡◌, [], IfOk, OnOk};
+ghost use Rattle.std.specs.Prelude.{◌≡◌, ◌<◌, [], length, IfOk, OnOk};
+ghost use Rattle.aria_base.specs.declared.limits.TheConstants.{MOST_PARTS};
 ghost use Rattle.range_rules.specs.Scans.{with_scan};
 
 use crate::indexes::Index;
 use crate::marks::mark_of;
-use crate::prefixes::see_prefix;
 use aria_base::Memory;
 use range_rules::Prefix;
 use std::alloc::Global;
@@ -77,4 +77,11 @@ impl Scans {
     {
         self.list
     }
+}
+
+/// Does nothing: a caller knows behind it what is true of every prefix.
+fn see_prefix(prefix: &Prefix)
+    ensures { length prefix.now.parts < MOST_PARTS }
+{
+    let _parts = prefix.parts.as_slice();
 }

@@ -20,7 +20,7 @@ use Rattle.input_log.specs.Layout.{log_of}
 use Rattle.proc_lang.specs.Catalogs.{Plan, run_of}
 use Rattle.run_commands.specs.Onces.{listed}
 use Rattle.run_commands.specs.Outs.{is_each}
-use Rattle.script_course.proofs.Turns.{front_longer}
+use Rattle.script_course.proofs.Turns.{front_longer, front_none}
 use Rattle.script_course.specs.Causes.{IsCause}
 use Rattle.script_course.specs.Courses.{Goes, Out, out_behind}
 use Rattle.script_course.specs.Served.{Finishes, Serves}
@@ -34,13 +34,16 @@ use Rattle.store_files.proofs.Syncs.{rose_later}
 use Rattle.script_course.proofs.Ends.{finishes_behind}
 use Rattle.store_files.specs.declared.refusals.StoreRefused.{StoreRefused}
 use Rattle.store_files.specs.declared.refusals.StoreRefused.TheVariants as of_store
-use Rattle.store_openings.specs.Openings.{AreRunnable, MayFollow, ReadsAs, log_in, offset_in}
-use Rattle.store_openings.specs.Runs.{IsStepped}
+use Rattle.store_openings.specs.Openings.{AreRunnable, IsFaultOf, MayFollow, ReadsAs, log_in, offset_in}
+use Rattle.store_openings.specs.Refusals.{IsFor}
+use Rattle.store_openings.specs.Runs.{IsLook, IsStepped}
+use Rattle.store_openings.specs.declared.refusals.NotOpened.{NotOpened}
+use Rattle.store_openings.specs.declared.refusals.NotOpened.TheVariants as refusal
 use Rattle.store_openings.proofs.Fits.{settled}
-use Rattle.store_openings.proofs.Readings.{log_low}
+use Rattle.store_openings.proofs.Readings.{attach_fault, log_low}
 use Rattle.store_openings.proofs.Ways.{below_here, chosen, may_follow_here, other}
-use Rattle.store_commands.specs.Replays.{IsAnswered, IsCut, IsHalt, IsOutOf, LeadsTo, crowded_out, out_of, replayed}
-use Rattle.run_commands.specs.Resumes.{damaged_out}
+use Rattle.store_commands.specs.Replays.{IsAnswered, IsCut, IsHalt, LeadsTo, crowded_out, out_of, replayed}
+use Rattle.run_commands.specs.Resumes.{RefusesStore, damaged_out, none_out}
 use Rattle.store_commands.specs.declared.steps.Halt.TheVariants as halt
 
 -- ---- outputs behind bytes that were given
@@ -175,14 +178,6 @@ module _ {R : Type 0} (bytes text : List ℕ) (next : R) (old new : Option (List
   served_front (Err stop.NoWrite) same h = subst (λ (l : List ℕ). AppendsFront old new l) same h
   served_front (Err stop.NoDisk) same h = subst (λ (l : List ℕ). AppendsFront old new l) same h
 
--- the damage that a look at the log tells
-pub crowded_is : (told : Option File) (log place file at : ℕ) (bytes : List ℕ) → file ≡ log → IfSome told (λ f. at ≡ offset_in (log_of f.seen) place)
-    → IsSomeAnd told (λ f. f.seen ≡ bytes)
-    → damaged_out file at ≡ crowded_out log bytes place
-crowded_is None log place file at bytes same look is = absurd is
-crowded_is (Some f) log place file at bytes same look is =
-    ap (λ (n : ℕ). damaged_out n at) same ∙ ap (λ (n : ℕ). damaged_out log n) (look ∙ ap (λ (l : List ℕ). offset_in (log_of l) place) is)
-
 -- the database of a checkpoint is replayed as the checkpoint is
 pub replayed_from : (bytes : List ℕ) (later : List Batch) (plan p : Plan) (each e : Bool) (log l : ℕ) (state s : State) → plan ≡ p → each ≡ e → log ≡ l
     → state ≡ s
@@ -193,20 +188,74 @@ replayed_from bytes later plan p each e log l state s ps es ls ss =
     ∙ ap (λ (x : ℕ). replayed p e (crowded_out x bytes) 0 state later) ls
     ∙ ap (λ (x : State). replayed p e (crowded_out l bytes) 0 x later) ss
 
+-- ---- refusals
+
+-- where nothing was told of a store, nothing was given, which is a prefix of every output
+untold : (out : Out) (old new : Option (List ℕ)) (result : Result ℕ Stop) (why : Stop) → IsCut why → (result ≡ Err why) × (new ≡ old)
+    → Finishes out old new result
+untold out old new result why cut h =
+    subst (λ (r : Result ℕ Stop). Finishes out old new r) (sym h.0)
+    (subst (λ (g : Option (List ℕ)). Finishes out old g (Err why)) (sym h.1) (finishes_cut out old old why cut (front_none old out.bytes)))
+
+module _ (out : Out) (old new : Option (List ℕ)) (result : Result ℕ Stop) where
+  -- a refusal that is known to be told by this output
+  abbrev IsTold : NotOpened → Type 0
+  IsTold refusal.NoStore = out ≡ none_out
+  IsTold (refusal.Damaged file at) = out ≡ damaged_out file at
+  IsTold refusal.NoDisk = Unit {0}
+  IsTold refusal.NoMemory = Unit {0}
+
+  tells : (why : NotOpened) → IsTold why → RefusesStore why old new result → Finishes out old new result
+  tells refusal.NoStore told h = subst (λ (o : Out). Finishes o old new result) (sym told) h
+  tells (refusal.Damaged file at) told h = subst (λ (o : Out). Finishes o old new result) (sym told) h
+  tells refusal.NoDisk told h = untold out old new result stop.NoDisk tt h
+  tells refusal.NoMemory told h = untold out old new result stop.NoMemory tt h
+
+-- ---- a record without room
+
+crowded_is : (told : Option File) (log place file at : ℕ) (bytes : List ℕ) → file ≡ log → IfSome told (λ f. at ≡ offset_in (log_of f.seen) place)
+    → IsSomeAnd told (λ f. f.seen ≡ bytes)
+    → crowded_out log bytes place ≡ damaged_out file at
+crowded_is None log place file at bytes same look is = absurd is
+crowded_is (Some f) log place file at bytes same look is =
+    sym (ap (λ (n : ℕ). damaged_out n at) same ∙ ap (λ (n : ℕ). damaged_out log n) (look ∙ ap (λ (l : List ℕ). offset_in (log_of l) place) is))
+
+module _ (disk after : History) (log place : ℕ) where
+  look_told : (bytes : List ℕ) (old new : Option (List ℕ)) (result : Result ℕ Stop) (why : NotOpened) → IsSomeAnd (current disk log) (λ f. f.seen ≡ bytes)
+      → IsLook disk after log place why → IsTold (crowded_out log bytes place) old new result why
+  look_told bytes old new result refusal.NoStore is look = absurd look
+  look_told bytes old new result (refusal.Damaged file at) is look = crowded_is (current disk log) log place file at bytes look.0 look.1 is
+  look_told bytes old new result refusal.NoDisk is look = tt
+  look_told bytes old new result refusal.NoMemory is look = tt
+
+  -- what a look at the log finds is told
+  pub crowd_told : (bytes : List ℕ) (old new : Option (List ℕ)) (result : Result ℕ Stop) (why : NotOpened) → IsSomeAnd (current disk log) (λ f. f.seen ≡ bytes)
+      → IsLook disk after log place why → RefusesStore why old new result → Finishes (crowded_out log bytes place) old new result
+  crowd_told bytes old new result why is look h =
+      tells (crowded_out log bytes place) old new result why (look_told bytes old new result why is look) h
+
+  look_fault : (why : NotOpened) → IsLook disk after log place why → why ≡ refusal.NoDisk → Rose disk.faults after.faults
+  look_fault why look is = subst (λ (w : NotOpened). IsLook disk after log place w) is look
+
 -- ---- attaching
 
--- what is printed where attaching was refused is the output of what the files read as
-pub out_is : (settings : Replay) (images : ℕ → List ℕ) (before disk : History) (refused : StoreRefused) (found : Reopened) → MayLeave disk disk.now images
-    → AttachCause before disk refused
-    → Reopens images found → IsOutOf refused (out_of settings images found)
-out_is settings images before disk of_store.Memory found left cause reopens = tt
-out_is settings images before disk of_store.DiskFault found left cause reopens = tt
-out_is settings images before disk of_store.NoStore found left cause reopens =
-    ap (λ (f : Reopened). out_of settings images f) (reopens_once images found NoStore reopens (cause images left))
-out_is settings images before disk (of_store.Damaged file at) found left cause reopens =
-    ap (λ (f : Reopened). out_of settings images f) (reopens_once images found (Damaged file at) reopens (cause images left))
-out_is settings images before disk of_store.Exists found left cause reopens = absurd cause
-out_is settings images before disk (of_store.Closed faults) found left cause reopens = absurd cause
+module _ (settings : Replay) (images : ℕ → List ℕ) (before disk : History) (found : Reopened) (left : MayLeave disk disk.now images)
+    (reopens : Reopens images found) (old new : Option (List ℕ)) (result : Result ℕ Stop) where
+  attach_told : (refused : StoreRefused) (why : NotOpened) → AttachCause before disk refused → IsFor refused why
+      → IsTold (out_of settings images found) old new result why
+  attach_told of_store.Memory why cause is = subst (IsTold (out_of settings images found) old new result) (sym is) tt
+  attach_told of_store.DiskFault why cause is = subst (IsTold (out_of settings images found) old new result) (sym is) tt
+  attach_told of_store.NoStore why cause is = subst (IsTold (out_of settings images found) old new result) (sym is)
+      (ap (λ (f : Reopened). out_of settings images f) (reopens_once images found NoStore reopens (cause images left)))
+  attach_told (of_store.Damaged file at) why cause is = subst (IsTold (out_of settings images found) old new result) (sym is)
+      (ap (λ (f : Reopened). out_of settings images f) (reopens_once images found (Damaged file at) reopens (cause images left)))
+  attach_told of_store.Exists why cause is = absurd cause
+  attach_told (of_store.Closed faults) why cause is = absurd cause
+
+  -- what is told where attaching was refused is the output of what the files read as
+  pub attach_tells : (refused : StoreRefused) (why : NotOpened) → AttachCause before disk refused → IsFor refused why
+      → RefusesStore why old new result → Finishes (out_of settings images found) old new result
+  attach_tells refused why cause is h = tells (out_of settings images found) old new result why (attach_told refused why cause is) h
 
 -- what was found is replayed as what the files read as
 pub found_finishes : (settings : Replay) (images : ℕ → List ℕ) (disk : History) (c : Checkpoint) (later : List Batch) (found : Reopened)
@@ -218,14 +267,38 @@ pub found_finishes : (settings : Replay) (images : ℕ → List ℕ) (disk : His
 found_finishes settings images disk c later found old new result reads same all =
     subst (λ (f : Reopened). Finishes (out_of settings images f) old new result) (sym same) (all (images (log_in c)) (reads (log_in c) (log_low c)))
 
-pub attach_cause : (old disk : History) (sink : Type 0) (refused : StoreRefused) (result : Result ℕ Stop) → AttachCause old disk refused
-    → IfErr result (λ why. IsCause why sink (refused ≡ of_store.DiskFault)) → IfErr result (λ why. IsCause why sink (Rose old.faults disk.faults))
-attach_cause old disk sink refused (Ok ending) cause h = tt
-attach_cause old disk sink refused (Err stop.Refused) cause h = tt
-attach_cause old disk sink refused (Err stop.NoMemory) cause h = tt
-attach_cause old disk sink refused (Err stop.NoWrite) cause h = h
-attach_cause old disk sink refused (Err stop.NoDisk) cause h = subst (λ (r : StoreRefused). AttachCause old disk r) h cause
-attach_cause old disk sink refused (Err stop.NoRead) cause h = absurd h
+-- ---- the cause of a stop
+
+-- a stop whose causes tell others
+cause_more : (sink wider disk other : Type 0) → (sink → wider) → (disk → other) → (result : Result ℕ Stop) → IfErr result (λ why. IsCause why sink disk)
+    → IfErr result (λ why. IsCause why wider other)
+cause_more sink wider disk other by_sink by_disk (Ok ending) h = tt
+cause_more sink wider disk other by_sink by_disk (Err stop.Refused) h = tt
+cause_more sink wider disk other by_sink by_disk (Err stop.NoMemory) h = tt
+cause_more sink wider disk other by_sink by_disk (Err stop.NoWrite) h = by_sink h
+cause_more sink wider disk other by_sink by_disk (Err stop.NoDisk) h = by_disk h
+cause_more sink wider disk other by_sink by_disk (Err stop.NoRead) h = absurd h
+
+pub attach_cause : (old disk : History) (sink : Type 0) (refused : StoreRefused) (why : NotOpened) (result : Result ℕ Stop) → AttachCause old disk refused
+    → IsFor refused why → IfErr result (λ stop. IsCause stop sink (why ≡ refusal.NoDisk))
+    → IfErr result (λ stop. IsCause stop sink (Rose old.faults disk.faults))
+attach_cause old disk sink refused why result cause is h =
+    cause_more sink sink (why ≡ refusal.NoDisk) (Rose old.faults disk.faults) (λ rose. rose)
+    (λ e. subst (λ (w : NotOpened). IsFaultOf (Rose old.faults disk.faults) w) e (attach_fault old disk refused why cause is)) result h
+
+-- and a fault of the sink behind the answers is one behind the start
+pub crowd_cause : (old disk : History) (log place first mid last : ℕ) (why : NotOpened) (result : Result ℕ Stop) → IsLook old disk log place why → first ≤ mid
+    → IfErr result (λ stop. IsCause stop (Rose mid last) (why ≡ refusal.NoDisk))
+    → IfErr result (λ stop. IsCause stop (Rose first last) (Rose old.faults disk.faults))
+crowd_cause old disk log place first mid last why result look le h =
+    cause_more (Rose mid last) (Rose first last) (why ≡ refusal.NoDisk) (Rose old.faults disk.faults) (rose_later first mid last le)
+    (look_fault old disk log place why look) result h
+
+-- a fault of the disk behind attaching is one behind the start
+pub replay_cause : (old mid new : History) (sink : Type 0) (result : Result ℕ Stop) → old.faults ≤ mid.faults
+    → IfErr result (λ why. IsCause why sink (Rose mid.faults new.faults)) → IfErr result (λ why. IsCause why sink (Rose old.faults new.faults))
+replay_cause old mid new sink result le h =
+    cause_more sink sink (Rose mid.faults new.faults) (Rose old.faults new.faults) (λ rose. rose) (rose_later old.faults mid.faults new.faults le) result h
 
 -- ---- the database of a checkpoint
 
@@ -237,13 +310,3 @@ fit_from plan p state s later ps ss fit =
 pub read_from : (disk : History) (log l : ℕ) (bytes : List ℕ) → log ≡ l → IsSomeAnd (current disk l) (λ f. f.seen ≡ bytes)
     → IsSomeAnd (current disk log) (λ f. f.seen ≡ bytes)
 read_from disk log l bytes same reads = subst (λ (n : ℕ). IsSomeAnd (current disk n) (λ f. f.seen ≡ bytes)) (sym same) reads
-
--- a fault of the disk behind attaching is one behind the start
-pub replay_cause : (old mid new : History) (sink : Type 0) (result : Result ℕ Stop) → old.faults ≤ mid.faults
-    → IfErr result (λ why. IsCause why sink (Rose mid.faults new.faults)) → IfErr result (λ why. IsCause why sink (Rose old.faults new.faults))
-replay_cause old mid new sink (Ok ending) le h = tt
-replay_cause old mid new sink (Err stop.Refused) le h = tt
-replay_cause old mid new sink (Err stop.NoMemory) le h = tt
-replay_cause old mid new sink (Err stop.NoWrite) le h = h
-replay_cause old mid new sink (Err stop.NoDisk) le h = rose_later old.faults mid.faults new.faults le h
-replay_cause old mid new sink (Err stop.NoRead) le h = absurd h

@@ -1,5 +1,5 @@
 -- The command `replay`: what it prints, by what the four files read as.
-use Rattle.std.specs.Prelude.{◌≡◌, ℕ, ◌+◌, if◌then◌else◌, Bool, List, [], ◌∷◌, Option, Result, Err, ⊤}
+use Rattle.std.specs.Prelude.{ℕ, ◌+◌, if◌then◌else◌, Bool, List, [], ◌∷◌, Option, Result, Err, ⊤}
 use Rattle.aria_store.specs.Reopens.{Damaged, Found, NoStore, Reopened}
 use Rattle.batch_core.specs.Steps.{State, step}
 use Rattle.command_words.specs.declared.settings.Replay.{Replay}
@@ -17,8 +17,6 @@ use Rattle.script_course.specs.declared.stops.Stop.TheVariants as stop
 use Rattle.serving.specs.Lives.{batch_text, plan_of, state_of}
 use Rattle.serving.specs.Stored.{handed_in, is_crowded, state_at}
 use Rattle.serving.specs.declared.lives.Live.{Live}
-use Rattle.store_files.specs.declared.refusals.StoreRefused.{StoreRefused}
-use Rattle.store_files.specs.declared.refusals.StoreRefused.TheVariants as refused
 use Rattle.store_openings.specs.Openings.{log_in, offset_in}
 use Rattle.store_commands.specs.declared.steps.Halt.{Halt}
 use Rattle.store_commands.specs.declared.steps.Halt.TheVariants as halt
@@ -49,15 +47,6 @@ out_of settings images NoStore = none_out
 out_of settings images (Damaged file at) = damaged_out file at
 out_of settings images (Found c later) =
     replayed c.plan (is_each settings.listing) (crowded_out (log_in c) (images (log_in c))) 0 (state_at c) later
-
--- what is printed where attaching is refused: where the disk failed, or there was no memory, nothing is known of it
-abbrev pub IsOutOf : StoreRefused → Out → Type 0
-IsOutOf refused.NoStore out = out ≡ none_out
-IsOutOf (refused.Damaged file at) out = out ≡ damaged_out file at
-IsOutOf refused.Memory out = ⊤
-IsOutOf refused.DiskFault out = ⊤
-IsOutOf refused.Exists out = ⊥
-IsOutOf (refused.Closed faults) out = ⊥
 
 -- ---- steps
 

@@ -10,30 +10,26 @@ ghost use Rattle.disk_model.specs.Histories.{LeavesAll, MayLeave, Still, current
 ghost use Rattle.run_commands.specs.Onces.{listed};
 ghost use Rattle.run_commands.specs.Outs.{is_each};
 ghost use Rattle.script_course.specs.Causes.{IsCause};
-ghost use Rattle.script_course.specs.Courses.{Out};
 ghost use Rattle.script_course.specs.Served.{Finishes};
 ghost use Rattle.script_course.specs.declared.statuses.TheConstants as status;
 ghost use Rattle.script_course.specs.declared.stops.Stop.TheVariants as stop;
 ghost use Rattle.serving.specs.Lives.{IsRunnable, plan_of, state_of};
 ghost use Rattle.serving.specs.Stored.{state_at};
 ghost use Rattle.slot_images.specs.Said.{checkpoint_in};
-ghost use Rattle.store_files.specs.declared.refusals.StoreRefused.TheVariants as of_store;
 ghost use Rattle.store_openings.specs.Openings.{AreRunnable, ReadsAs, log_in};
-ghost use Rattle.store_openings.specs.Refusals.{IsAttaching};
-ghost use Rattle.store_commands.specs.Replays.{IsOutOf, crowded_out, out_of, replayed};
+ghost use Rattle.store_commands.specs.Replays.{crowded_out, out_of, replayed};
 
 use crate::steps::{Halt, answer_all};
-use answer_text::{NotDone, refused_line};
 use aria_base::{Memory, Pace, Sink};
-use aria_store::{Found, Logged, Store, StoreRefused};
+use aria_store::{Found, Logged, Store};
 use command_words::Replay;
 use disk_model::Disk;
-use run_commands::{is_each, tell_damage};
-use script_course::{DONE, STORE_REFUSED, Stop, end_with};
+use run_commands::{is_each, refuse_store};
+use script_course::{DONE, Stop, end_with};
 use serving::Live;
 use std::alloc::Global;
 use std::thread::Threads;
-use store_openings::{NotOpened, RunSettings, begin, damage_at, log_of};
+use store_openings::{RunSettings, begin, damage_at, log_of, not_attached};
 
 /// Reads what the disk holds, runs the batches behind the checkpoint again, each by its own settings, and
 /// prints each answer. Behind the last one the rows are listed, where not each answer has its listing. It
@@ -67,7 +63,7 @@ pub fn replay<K: Sink, D: Disk, P: Pace + Sync, R: Threads + Sync>(
 {
     match Store::attach(alloc, disk) {
         Ok((_, found)) => replay_found(rt, alloc, settings, found, out, disk, pace),
-        Err(refused) => tell_refused(alloc, refused, out),
+        Err(refused) => refuse_store(alloc, not_attached(refused), out),
     }
 }
 
@@ -153,7 +149,10 @@ fn replay_later<K: Sink, D: Disk, P: Pace + Sync, R: Threads + Sync>(
 {
     match answer_all(rt, alloc, start, later, out, pace) {
         Ok(live) => list(alloc, &live, out),
-        Err(Halt::Crowded { place }) => tell_crowded(alloc, log, place, out, disk),
+        Err(Halt::Crowded { place }) => {
+            let why = damage_at(alloc, disk, log, place);
+            refuse_store(alloc, why, out)
+        }
         Err(Halt::Stopped(stop)) => Err(stop),
     }
 }
@@ -173,51 +172,5 @@ fn list<K: Sink>(alloc: Global, live: &Live, out: &mut K) -> Result<u8, Stop>
     match live.list(alloc) {
         Ok(text) => end_with(DONE, &text, out),
         Err(Memory) => Err(Stop::NoMemory),
-    }
-}
-
-/// Says that a record of a log, by its place among them, is damaged.
-fn tell_crowded<K: Sink, D: Disk>(
-    alloc: Global,
-    log: u8,
-    place: usize,
-    out: &mut K,
-    disk: &mut D,
-) -> Result<u8, Stop>
-    requires { log < 4 }
-    ensures output { (bytes : List ℕ) → IsSomeAnd (current (D.history disk.old) log) (λ f. f.seen ≡ bytes)
-        → Finishes (crowded_out log bytes place) (K.given out.old) (K.given out.new) result }
-    ensures still { Still (D.history disk.old) (D.history disk.new) }
-    ensures status { IfOk result (λ ending. (ending ≡ status.DONE) ⊎ (ending ≡ status.STORE_REFUSED)) }
-    ensures read { result ≢ Err stop.NoRead }
-    ensures refused { result ≢ Err stop.Refused }
-    ensures sink { K.faults out.old ≤ K.faults out.new }
-    ensures cause { IfErr result (λ stop. IsCause stop (Rose (K.faults out.old) (K.faults out.new))
-        (Rose (D.history disk.old).faults (D.history disk.new).faults)) }
-{
-    match damage_at(alloc, disk, log, place) {
-        NotOpened::Damaged { file, at } => tell_damage(alloc, file, at, out),
-        NotOpened::NoMemory => Err(Stop::NoMemory),
-        NotOpened::NoDisk => Err(Stop::NoDisk),
-        NotOpened::NoStore => unreachable!(),
-    }
-}
-
-/// Says why a store was not attached.
-fn tell_refused<K: Sink>(alloc: Global, refused: StoreRefused, out: &mut K) -> Result<u8, Stop>
-    requires { IsAttaching refused }
-    ensures told { (output : Out) → IsOutOf refused output → Finishes output (K.given out.old) (K.given out.new) result }
-    ensures status { IfOk result (λ ending. (ending ≡ status.DONE) ⊎ (ending ≡ status.STORE_REFUSED)) }
-    ensures read { result ≢ Err stop.NoRead }
-    ensures refused { result ≢ Err stop.Refused }
-    ensures sink { K.faults out.old ≤ K.faults out.new }
-    ensures cause { IfErr result (λ stop. IsCause stop (Rose (K.faults out.old) (K.faults out.new)) (refused ≡ of_store.DiskFault)) }
-{
-    match refused {
-        StoreRefused::Memory => Err(Stop::NoMemory),
-        StoreRefused::DiskFault => Err(Stop::NoDisk),
-        StoreRefused::NoStore => end_with(STORE_REFUSED, refused_line(NotDone::NoStore), out),
-        StoreRefused::Damaged { file, at } => tell_damage(alloc, file, at, out),
-        StoreRefused::Exists | StoreRefused::Closed { .. } => unreachable!(),
     }
 }

@@ -23,5 +23,5 @@ mod steps;
 pub use damages::damage_at;
 pub use engines::{RunSettings, begin, log_of};
 pub use openings::open;
-pub use refusals::NotOpened;
-pub use steps::{is_crowded, rerun, settings_with, with_settings, with_settings_of};
+pub use refusals::{NotOpened, not_attached};
+pub use steps::{is_crowded, settings_with, with_settings, with_settings_of};

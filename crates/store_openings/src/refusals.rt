@@ -18,8 +18,9 @@ pub enum NotOpened {
     NoMemory,
 }
 
-/// Why a store was not attached.
-pub(crate) fn not_attached(refused: StoreRefused) -> NotOpened
+/// Why a store that was not attached is not opened. `Exists` and `Closed` are refusals of other calls, which
+/// `Store::attach` never gives. No memory.
+pub fn not_attached(refused: StoreRefused) -> NotOpened
     requires { IsAttaching refused }
     ensures { IsFor refused result }
 {

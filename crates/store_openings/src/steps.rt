@@ -59,7 +59,7 @@ pub fn is_crowded(live: &Live, logged: &Logged) -> bool
 }
 
 /// Runs a batch by its own settings, on all replicas.
-pub fn rerun<P: Pace + Sync, R: Threads + Sync>(
+fn rerun<P: Pace + Sync, R: Threads + Sync>(
     rt: &R,
     alloc: Global,
     live: Live,

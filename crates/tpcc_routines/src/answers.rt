@@ -4,7 +4,9 @@ ghost use Rattle.std.specs.List.{list_all};
 ghost use Rattle.cat_builtin.specs.Warehouses as table;
 ghost use Rattle.tpcc_routines.specs.Answers as answers;
 
-use crate::prefixes::is_under;
+use crate::columns::{
+    CUSTOMER_COLUMNS, CUSTOMER_NUMBERS, LINE_COLUMNS, OPEN_ORDER_COLUMNS, ORDER_COLUMNS,
+};
 use crate::rows::{district_prefix, line_prefix};
 use aria_base::{Key, Part, Row, Value};
 use range_rules::Prefix;
@@ -90,20 +92,20 @@ pub(crate) fn is_customer(row: &Row) -> bool
     ensures { result ≡ answers.is_customer row.now }
 {
     let values = row.as_slice();
-    if values.len() != 8 {
+    if values.len() != CUSTOMER_COLUMNS {
         return false;
     }
-    if !all_numbers(&values[..7]) {
+    if !all_numbers(&values[..CUSTOMER_NUMBERS]) {
         return false;
     }
-    all_texts(&values[7..])
+    all_texts(&values[CUSTOMER_NUMBERS..])
 }
 
 /// Whether the key is under the prefix and has one number more, and the row so many columns, all of them numbers.
 fn is_row_under(prefix: &Prefix, columns: usize, key: &Key, row: &Row) -> bool
     ensures { result ≡ answers.is_row_under prefix.now columns key.now row.now }
 {
-    if !is_under(prefix, key) {
+    if !prefix.covers(key) {
         return false;
     }
     let parts = key.parts.as_slice();
@@ -148,19 +150,19 @@ fn are_rows(prefix: &Prefix, columns: usize, rows: &[(Key, Row)]) -> bool
 pub(crate) fn are_open_orders(at: District, rows: &[(Key, Row)]) -> bool
     ensures { result ≡ answers.are_rows (answers.prefix_at table.open_orders (at.w ∷ at.d ∷ [])) 0 rows.now }
 {
-    are_rows(&district_prefix(OPEN_ORDERS, at), 0, rows)
+    are_rows(&district_prefix(OPEN_ORDERS, at), OPEN_ORDER_COLUMNS, rows)
 }
 
 /// Whether a scan of a district's orders may find these rows.
 pub(crate) fn are_orders(at: District, rows: &[(Key, Row)]) -> bool
     ensures { result ≡ answers.are_rows (answers.prefix_at table.orders (at.w ∷ at.d ∷ [])) 5 rows.now }
 {
-    are_rows(&district_prefix(ORDERS, at), 5, rows)
+    are_rows(&district_prefix(ORDERS, at), ORDER_COLUMNS, rows)
 }
 
 /// Whether a scan of an order's lines may find these rows.
 pub(crate) fn are_lines(at: District, order: i64, rows: &[(Key, Row)]) -> bool
     ensures { result ≡ answers.are_rows (answers.prefix_at table.order_lines (at.w ∷ at.d ∷ order ∷ [])) 5 rows.now }
 {
-    are_rows(&line_prefix(at, order), 5, rows)
+    are_rows(&line_prefix(at, order), LINE_COLUMNS, rows)
 }

@@ -7,6 +7,7 @@ ghost use Rattle.tpcc_routines.specs.Turns.{Turns};
 
 use crate::answers::{are_lines, are_numbers, are_open_orders, is_customer};
 use crate::calls::Delivery;
+use crate::columns::{C_BALANCE, O_C_ID, O_CARRIER_ID, OL_AMOUNT, OL_DELIVERY_D, ORDER_COLUMNS};
 use crate::ends::{absent, given, overflow, sum};
 use crate::rows::{district_prefix, key_in, line_prefix, with_number};
 use crate::turns::Turn;
@@ -124,7 +125,7 @@ fn with_carrier<'a>(
     match seen {
         [] => Ok(Turn::Asks(Action::Read(key_in(alloc, ORDERS, at, *o)?))),
         [Seen::One(Some(order)), rest @ ..] => {
-            if !are_numbers(5, order) {
+            if !are_numbers(ORDER_COLUMNS, order) {
                 return Ok(Turn::Asks(absent()));
             }
             let turn = carried(alloc, what, at, o, order, rest)?;
@@ -148,11 +149,11 @@ fn carried<'a>(
 {
     match seen {
         [] => {
-            let row = with_number(alloc, order, 2, what.carrier)?;
+            let row = with_number(alloc, order, O_CARRIER_ID, what.carrier)?;
             Ok(Turn::Asks(Action::Write(key_in(alloc, ORDERS, at, *o)?, Some(row))))
         }
         [Seen::Wrote, rest @ ..] => {
-            let turn = dated(alloc, what, at, o, &column_at(order, 0), rest)?;
+            let turn = dated(alloc, what, at, o, &column_at(order, O_C_ID), rest)?;
             Ok(turn)
         }
         _ => Ok(Turn::Asks(absent())),
@@ -246,10 +247,10 @@ fn line_dated<'a>(
 {
     match seen {
         [] => {
-            let row = with_number(alloc, line, 2, what.date)?;
+            let row = with_number(alloc, line, OL_DELIVERY_D, what.date)?;
             Ok(Turn::Asks(Action::Write(key.duplicate(alloc)?, Some(row))))
         }
-        [Seen::Wrote, rest @ ..] => match sum(*amount, column_at(line, 4)) {
+        [Seen::Wrote, rest @ ..] => match sum(*amount, column_at(line, OL_AMOUNT)) {
             Some(more) => Ok(Turn::Goes(rest, more)),
             None => Ok(Turn::Asks(overflow())),
         },
@@ -275,7 +276,7 @@ fn credited<'a>(
             if !is_customer(customer) {
                 return Ok(Turn::Asks(absent()));
             }
-            match sum(column_at(customer, 4), *amount) {
+            match sum(column_at(customer, C_BALANCE), *amount) {
                 Some(balance) => {
                     let turn = with_balance(alloc, at, o, c, customer, &balance, rest)?;
                     Ok(turn)
@@ -303,7 +304,7 @@ fn with_balance<'a>(
 {
     match seen {
         [] => {
-            let row = with_number(alloc, customer, 4, *balance)?;
+            let row = with_number(alloc, customer, C_BALANCE, *balance)?;
             Ok(Turn::Asks(Action::Write(key_in(alloc, CUSTOMERS, at, *c)?, Some(row))))
         }
         [Seen::Wrote, rest @ ..] => Ok(Turn::Goes(rest, *o)),

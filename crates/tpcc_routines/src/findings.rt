@@ -5,6 +5,7 @@ ghost use Rattle.std.specs.FinMap as fin;
 ghost use Rattle.std.specs.Map.Iter.{deref_pair};
 ghost use Rattle.tpcc_routines.specs.Sound as sound;
 
+use crate::columns::D_NEXT_O_ID;
 use crate::rows::district_key;
 use aria_base::{Key, Memory, Row};
 use std::alloc::Global;
@@ -93,7 +94,7 @@ fn is_next(o: i64, district: Option<&Row>) -> bool
     ensures { result ≡ sound.is_next o (option_copied district.entry) }
 {
     match district {
-        Some(district) => column_at(district, 2) <= o,
+        Some(district) => column_at(district, D_NEXT_O_ID) <= o,
         None => false,
     }
 }

@@ -10,6 +10,7 @@ ghost use Rattle.tpcc_routines.specs.Routines as routines;
 ghost use Rattle.tpcc_routines.specs.Turns.{Turns, TurnsLines};
 
 use crate::answers::{are_lines, are_numbers};
+use crate::columns::{D_NEXT_O_ID, DISTRICT_COLUMNS, OL_I_ID, S_QUANTITY, STOCK_COLUMNS};
 use crate::ends::{absent, given, less, overflow, values};
 use crate::rows::{district_key, line_prefix, stock_key};
 use crate::turns::{Lines, Turn};
@@ -35,10 +36,10 @@ pub(crate) fn stock_level(
     match seen {
         [] => Ok(Action::Read(district_key(at))),
         [Seen::One(Some(district)), rest @ ..] => {
-            if !are_numbers(3, district) {
+            if !are_numbers(DISTRICT_COLUMNS, district) {
                 return Ok(absent());
             }
-            let action = level_of(alloc, at, t, &column_at(district, 2), rest)?;
+            let action = level_of(alloc, at, t, &column_at(district, D_NEXT_O_ID), rest)?;
             Ok(action)
         }
         _ => Ok(absent()),
@@ -104,7 +105,7 @@ fn add_items(items: &mut BTreeSet<i64>, lines: &[(Key, Row)]) -> Result<(), Memo
     ensures { OnOk result (items.new.keys ≡ routines.with_items items.old.keys lines.now) }
 {
     for (_, line) in lines {
-        add_item(items, &column_at(line, 0))?;
+        add_item(items, &column_at(line, OL_I_ID))?;
     }
     Ok(())
 }
@@ -157,10 +158,10 @@ fn quantity_of<'a>(at: District, item: &i64, seen: &'a [Seen]) -> Turn<'a>
     match seen {
         [] => Turn::Asks(Action::Read(stock_key(at.w, *item))),
         [Seen::One(Some(stock)), rest @ ..] => {
-            if !are_numbers(5, stock) {
+            if !are_numbers(STOCK_COLUMNS, stock) {
                 return Turn::Asks(absent());
             }
-            Turn::Goes(rest, column_at(stock, 0))
+            Turn::Goes(rest, column_at(stock, S_QUANTITY))
         }
         _ => Turn::Asks(absent()),
     }

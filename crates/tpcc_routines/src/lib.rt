@@ -17,13 +17,13 @@
 
 mod answers;
 mod calls;
+mod columns;
 mod deliveries;
 mod ends;
 mod findings;
 pub mod laws;
 mod levels;
 mod mixes;
-mod prefixes;
 mod routines;
 mod rows;
 mod statuses;

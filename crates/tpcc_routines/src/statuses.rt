@@ -6,6 +6,10 @@ ghost use Rattle.range_rules.specs.Walks.{follow};
 ghost use Rattle.tpcc_routines.specs.Routines as routines;
 
 use crate::answers::{are_lines, are_numbers, are_orders, is_customer};
+use crate::columns::{
+    C_BALANCE, NAME_C_ID, NAME_COLUMNS, NAME_COUNT, O_C_ID, O_CARRIER_ID, O_ENTRY_D, OL_AMOUNT,
+    OL_DELIVERY_D, OL_I_ID, OL_QUANTITY, OL_SUPPLY_W_ID,
+};
 use crate::ends::{absent, given, overflow, push_all, sum, values};
 use crate::rows::{district_prefix, key_in, line_prefix, place_key};
 use aria_base::{Key, Memory, Row, Value};
@@ -66,10 +70,10 @@ fn namesake(
     let Some(row) = row else {
         return Ok(Action::Stop(End::Back(NOBODY)));
     };
-    if !are_numbers(1, row) {
+    if !are_numbers(NAME_COLUMNS, row) {
         return Ok(absent());
     }
-    match sum(column_at(row, 0), 1) {
+    match sum(column_at(row, NAME_COUNT), 1) {
         Some(more) => {
             let action = at_place(alloc, at, name, &more.div_euclid(2), seen)?;
             Ok(action)
@@ -92,10 +96,10 @@ fn at_place(
     match seen {
         [] => Ok(Action::Read(place_key(alloc, at, *name, *place)?)),
         [Seen::One(Some(row)), rest @ ..] => {
-            if !are_numbers(1, row) {
+            if !are_numbers(NAME_COLUMNS, row) {
                 return Ok(absent());
             }
-            let action = status_of(alloc, at, &column_at(row, 0), rest)?;
+            let action = status_of(alloc, at, &column_at(row, NAME_C_ID), rest)?;
             Ok(action)
         }
         _ => Ok(absent()),
@@ -113,7 +117,7 @@ fn status_of(alloc: Global, at: District, c: &i64, seen: &[Seen]) -> Result<Acti
             if !is_customer(row) {
                 return Ok(absent());
             }
-            let action = orders_of(alloc, at, c, &column_at(row, 4), rest)?;
+            let action = orders_of(alloc, at, c, &column_at(row, C_BALANCE), rest)?;
             Ok(action)
         }
         _ => Ok(absent()),
@@ -151,7 +155,7 @@ fn last_order(c: &i64, orders: &[(Key, Row)]) -> Option<LastOrder>
 {
     let mut found = None;
     for (key, row) in orders {
-        if column_at(row, 0) == *c {
+        if column_at(row, O_C_ID) == *c {
             found = Some(told_of(key, row));
         }
     }
@@ -164,8 +168,8 @@ fn told_of(key: &Key, row: &Row) -> LastOrder
 {
     LastOrder {
         o: part_at(key, 2),
-        entry: column_at(row, 1),
-        carrier: column_at(row, 2),
+        entry: column_at(row, O_ENTRY_D),
+        carrier: column_at(row, O_CARRIER_ID),
     }
 }
 
@@ -249,11 +253,11 @@ fn push_line(values: &mut Vec<Value>, line: &Row) -> Result<(), Memory>
     push_all(
         values,
         &[
-            column_at(line, 0),
-            column_at(line, 1),
-            column_at(line, 3),
-            column_at(line, 4),
-            column_at(line, 2),
+            column_at(line, OL_I_ID),
+            column_at(line, OL_SUPPLY_W_ID),
+            column_at(line, OL_QUANTITY),
+            column_at(line, OL_AMOUNT),
+            column_at(line, OL_DELIVERY_D),
         ],
     )
 }

@@ -1,13 +1,8 @@
-use Rattle.audit_command.specs.Audits.{out_of}
-use Rattle.aria_top.proofs.Stopped.{front_cut, front_end}
+use Rattle.audit_command.specs.Audits.{out_of, told_of}
+use Rattle.aria_top.proofs.Stopped.{front}
 use Rattle.aria_top.proofs.commands.run_audit.Goals as goal
 
-pub returns-in-Ok-clause-front : goal.returns-in-Ok-clause-front
-returns-in-Ok-clause-front g c =
-    front_end out_of (g.S.Source.left c.args.input.now) (g.K.Sink.given c.args.out.now)
-    (g.K.Sink.given c.audit.new.out) c.in-Ok.status c.in-Ok.ensures.completes.0
-
-pub returns-in-Err-clause-front : goal.returns-in-Err-clause-front
-returns-in-Err-clause-front g c =
-    front_cut out_of (g.S.Source.left c.args.input.now) (g.K.Sink.given c.args.out.now)
-    (g.K.Sink.given c.audit.new.out) c.in-Err.stop c.in-Err.ensures.completes.0
+pub returns-clause-front : goal.returns-clause-front
+returns-clause-front g c =
+    front told_of out_of (g.S.Source.left c.args.input.now) (g.S.Source.left c.audit.new.input) (g.K.Sink.given c.args.out.now)
+    (g.K.Sink.given c.audit.new.out) c.audit.result c.audit.ensures.completes

@@ -1,6 +1,7 @@
-use Rattle.std.proofs.Common.{Bool, ap, ◌∙◌, subst}
+use Rattle.std.proofs.Common.{Bool, map, ap, ◌∙◌, subst}
 use Rattle.std.specs.Prelude.{◌==◌}
 use Rattle.std.specs.FinMap as fin
+use Rattle.std.specs.Map.Iter.{deref_pair}
 use Rattle.aria_base.specs.Orders.{Database}
 use Rattle.aria_base.specs.declared.keys.Key.{Key}
 use Rattle.node_batch.specs.Mails.{node_of}
@@ -10,8 +11,9 @@ use Rattle.node_seats.proofs.Putting.{part_is}
 use Rattle.node_seats.proofs.all_seats.first_seat.Goals as goal
 
 pub returns : goal.returns
-returns c =
+returns c = λ rows listed.
     let at : Key → Bool = λ k. node_of c.args.nodes k == c.args.node in
     subst (λ (db : Database). IsBegun (record { batch = 1; node = c.args.node; nodes = c.args.nodes }) db c.begin.result)
-    (c.in_ok-put_rows_at.ensures ∙ ap (λ (db : Database). put_all at db (fin.entries c.args.rows.now)) c.in_ok-own.ensures ∙ part_is at c.args.rows.now)
+    (c.in_ok-put_each.ensures ∙ ap (λ (db : Database). put_all at db (map deref_pair c.args.listed.now)) c.in_ok-own.ensures
+    ∙ ap (put_all at fin.empty) listed ∙ part_is at rows)
     c.begin.ensures

@@ -23,7 +23,7 @@ number_all-requires-clause-few g c κs within =
     subst (λ (l : List Sets). fin.len (numbers_of l) ≤ MOST_TOUCHED) (sym sets) (omega (arith, few_needed rans c.requires.few, c.requires.list))
 
 pub decide_all-requires-clause-counted : goal.decide_all-requires-clause-counted
-decide_all-requires-clause-counted g c κs within =
+decide_all-requires-clause-counted g c =
     let rans = c.args.rans.now in
     let sets : c.deref.result.now ≡ map (sets_with (scanned rans)) rans =
     c.deref.ensures.value ∙ c.in_ok-sets.ensures ∙ ap (λ s. map (sets_with s) rans) c.in_ok-scanned.ensures in

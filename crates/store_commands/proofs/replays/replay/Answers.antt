@@ -3,12 +3,11 @@ use Rattle.slot_images.specs.Said.{checkpoint_in}
 use Rattle.store_files.proofs.Attaching.{still_leaves}
 use Rattle.store_openings.proofs.Fits.{ready_of, runnable}
 use Rattle.store_openings.proofs.Readings.{attaching_of, found_is, reads_left, reads_on}
-use Rattle.store_commands.specs.Replays.{out_of}
-use Rattle.store_commands.proofs.Replayed.{attach_cause, found_finishes, out_is, replay_cause}
+use Rattle.store_commands.proofs.Replayed.{attach_cause, attach_tells, found_finishes, replay_cause}
 use Rattle.store_commands.proofs.replays.replay.Goals as goal
 
-pub tell_refused-requires : goal.tell_refused-requires
-tell_refused-requires g c =
+pub not_attached-requires : goal.not_attached-requires
+not_attached-requires g c =
     attaching_of (g.D.Disk.history c.args.disk.now) (g.D.Disk.history c.attach.new.disk) c.in-Err.refused c.in-Err.ensures.refused
 
 pub replay_found-requires-clause-ready : goal.replay_found-requires-clause-ready
@@ -24,15 +23,15 @@ pub returns-in-Err-clause-output : goal.returns-in-Err-clause-output
 returns-in-Err-clause-output g c images found reads reopens =
     let old = g.D.Disk.history c.args.disk.now in
     let mid = g.D.Disk.history c.attach.new.disk in
-    c.tell_refused.ensures.told (out_of c.args.settings.now images found)
-    (out_is c.args.settings.now images old mid c.in-Err.refused found
-    (reads_left mid images (reads_on old mid images c.attach.ensures.reads reads) (λ file. g.met.D.Disk.reads c.attach.new.disk mid.now file))
-    c.in-Err.ensures.refused reopens)
+    attach_tells c.args.settings.now images old mid found
+    (reads_left mid images (reads_on old mid images c.attach.ensures.reads reads) (λ file. g.met.D.Disk.reads c.attach.new.disk mid.now file)) reopens
+    (g.K.Sink.given c.args.out.now) (g.K.Sink.given c.refuse_store.new.out) c.refuse_store.result c.in-Err.refused c.not_attached.result
+    c.in-Err.ensures.refused c.not_attached.ensures c.refuse_store.ensures.refuses
 
 pub returns-in-Err-clause-cause : goal.returns-in-Err-clause-cause
 returns-in-Err-clause-cause g c =
-    attach_cause (g.D.Disk.history c.args.disk.now) (g.D.Disk.history c.attach.new.disk) _ c.in-Err.refused c.tell_refused.result c.in-Err.ensures.refused
-    c.tell_refused.ensures.cause
+    attach_cause (g.D.Disk.history c.args.disk.now) (g.D.Disk.history c.attach.new.disk) _ c.in-Err.refused c.not_attached.result c.refuse_store.result
+    c.in-Err.ensures.refused c.not_attached.ensures c.refuse_store.ensures.cause
 
 pub returns-in-Ok-clause-output : goal.returns-in-Ok-clause-output
 returns-in-Ok-clause-output g c images found reads reopens =

@@ -9,6 +9,6 @@ returns c = record {
   list = c.begin.ensures.list;
   carried = refl;
   entries = c.new.ensures.items;
-  given = c.new-2.ensures.items;
+  given = c.none.ensures;
   shows = λ plan rule desk bare. c.begin.ensures.shows plan rule same_message desk bare;
 }

@@ -32,7 +32,7 @@ returns c = λ rule desk shows.
       entries = ap (map (λ batch. map entry_of batch.items)) c.in_ok-push.ensures.items
           ∙ map-append (λ batch. map entry_of batch.items) c.args.self.now.entries.items _
           ∙ ap (λ e. settled_of c.args.self.now ++ e ∷ []) (c.in_ok-own.ensures rule same_message desk shows);
-      given = c.new.ensures.items;
+      given = c.none.ensures;
       site = c.in_ok-carried.ensures.site;
       shows = λ plan rule after. c.in_ok-carried.ensures.shows plan rule same_message after;
     }

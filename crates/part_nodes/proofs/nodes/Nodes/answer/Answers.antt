@@ -4,6 +4,7 @@ use Rattle.std.proofs.lemmas.Option.{none-some}
 use Rattle.node_answers.specs.Merges.{answer_in, AreShares}
 use Rattle.node_seats.specs.declared.seats.Seat.{Seat}
 use Rattle.part_nodes.proofs.Asking.{none_at_zero, none_yet, seat_past, whole_entries, are_shares, few_entries, some_answer, serial_answer}
+use Rattle.part_nodes.proofs.Skipped.{world_ready}
 use Rattle.part_nodes.proofs.nodes.Nodes.answer.Goals as goal
 
 -- number 0, and a batch that some node has not completed
@@ -16,7 +17,7 @@ returns-then-batch-eq0-clause-serial c = λ x e. absurd (none-some x e)
 pub returns-then-not-is_past-clause-answer : goal.returns-then-not-is_past-clause-answer
 returns-then-not-is_past-clause-answer c =
     let n = c.args.self.now in
-    none_yet n.start.value n.world c.requires.ready c.args.batch (sym c.if-not-is_past.ensures)
+    none_yet n.start.value n.world (world_ready _ c.requires.ready) c.args.batch (sym c.if-not-is_past.ensures)
 
 pub returns-then-not-is_past-clause-serial : goal.returns-then-not-is_past-clause-serial
 returns-then-not-is_past-clause-serial c = λ x e. absurd (none-some x e)
@@ -32,17 +33,17 @@ pub merged-requires-clause-past : goal.merged-requires-clause-past
 merged-requires-clause-past c =
     let n = c.args.self.now in
     subst (λ (l : List Seat). (i : ℕ) (s : Seat) → slice_get l i ≡ Some s → c.args.batch - 1 < length s.entries.items) (sym c.deref.ensures.value)
-    (seat_past n.start.value n.world c.requires.ready c.args.batch c.if-batch-eq0.false (sym c.if-not-is_past.ensures))
+    (seat_past n.start.value n.world (world_ready _ c.requires.ready) c.args.batch c.if-batch-eq0.false (sym c.if-not-is_past.ensures))
 
 pub answer_of-requires : goal.answer_of-requires
 answer_of-requires c =
     let n = c.args.self.now in
     let off = c.if-batch-eq0.false in
     let past = sym c.if-not-is_past.ensures in
-    let whole = whole_entries n.start.value n.world c.requires.ready c.args.batch off past in
+    let whole = whole_entries n.start.value n.world (world_ready _ c.requires.ready) c.args.batch off past in
     let same = c.in_ok-entries.ensures whole (subst (λ (l : List Seat). AreShares l (c.args.batch - 1) whole) (sym c.deref.ensures.value)
-    (are_shares n.start.value n.world c.requires.ready c.args.batch off past)) in
-    let few = few_entries n.start.value n.world c.requires.ready c.args.batch off past c.in_ok-entries.entries.items same in
+    (are_shares n.start.value n.world (world_ready _ c.requires.ready) c.args.batch off past)) in
+    let few = few_entries n.start.value n.world (world_ready _ c.requires.ready) c.args.batch off past c.in_ok-entries.entries.items same in
     let long = ap length c.deref-2.ensures.value in
     omega arith
 
@@ -51,10 +52,10 @@ returns-clause-answer c =
     let n = c.args.self.now in
     let off = c.if-batch-eq0.false in
     let past = sym c.if-not-is_past.ensures in
-    let whole = whole_entries n.start.value n.world c.requires.ready c.args.batch off past in
+    let whole = whole_entries n.start.value n.world (world_ready _ c.requires.ready) c.args.batch off past in
     let same = c.in_ok-entries.ensures whole (subst (λ (l : List Seat). AreShares l (c.args.batch - 1) whole) (sym c.deref.ensures.value)
-    (are_shares n.start.value n.world c.requires.ready c.args.batch off past)) in
-    some_answer n.start.value n.world c.requires.ready c.args.batch off past c.in_ok-entries.entries.items same c.in_ok-answer.answer
+    (are_shares n.start.value n.world (world_ready _ c.requires.ready) c.args.batch off past)) in
+    some_answer n.start.value n.world (world_ready _ c.requires.ready) c.args.batch off past c.in_ok-entries.entries.items same c.in_ok-answer.answer
     (c.in_ok-answer.ensures ∙ ap (answer_in c.args.batch) c.deref-2.ensures.value)
 
 pub returns-clause-serial : goal.returns-clause-serial
@@ -62,8 +63,8 @@ returns-clause-serial c =
     let n = c.args.self.now in
     let off = c.if-batch-eq0.false in
     let past = sym c.if-not-is_past.ensures in
-    let whole = whole_entries n.start.value n.world c.requires.ready c.args.batch off past in
+    let whole = whole_entries n.start.value n.world (world_ready _ c.requires.ready) c.args.batch off past in
     let same = c.in_ok-entries.ensures whole (subst (λ (l : List Seat). AreShares l (c.args.batch - 1) whole) (sym c.deref.ensures.value)
-    (are_shares n.start.value n.world c.requires.ready c.args.batch off past)) in
-    serial_answer n.start.value n.world c.requires.ready c.args.batch off past c.in_ok-entries.entries.items same c.in_ok-answer.answer
+    (are_shares n.start.value n.world (world_ready _ c.requires.ready) c.args.batch off past)) in
+    serial_answer n.start.value n.world (world_ready _ c.requires.ready) c.args.batch off past c.in_ok-entries.entries.items same c.in_ok-answer.answer
     (c.in_ok-answer.ensures ∙ ap (answer_in c.args.batch) c.deref-2.ensures.value)

@@ -1,8 +1,9 @@
 use Rattle.std.proofs.Common.{◌≡◌, refl, sym, ◌∙◌, subst, arith, false}
 use Rattle.node_rules.specs.Worlds.{is_behind}
-use Rattle.node_world.specs.Worlds.{world_in}
+use Rattle.node_world.specs.Worlds.{net_in, world_in}
 use Rattle.node_world.proofs.Parts.{fixed_both, fixed_self, net_fixed}
 use Rattle.part_nodes.proofs.Passes.{pass_more, pass_done, on_way, less_left}
+use Rattle.part_nodes.proofs.Skipped.{world_ready, are_ready, skipped, all_past}
 use Rattle.part_nodes.proofs.Wholes.{all_done, all_level, net_is}
 use Rattle.part_nodes.proofs.nodes.Nodes.settle.Goals as goal
 
@@ -19,7 +20,16 @@ each-init c = record {
   fixed = fixed_self c.passes.nodes.world;
   requests = refl;
   ready = c.passes.invariant.ready;
-  in_pass = record { same_net = refl; same_start = refl; is = refl };
+  in_pass =
+      let n = c.passes.nodes in
+      let settled = c.passes.invariant.ready.settled in
+      let ready = world_ready _ c.passes.invariant.ready in
+      record {
+        same_net = refl;
+        same_start = refl;
+        is = sym (skipped (net_in n.world) (net_is n.start.value n.world ready) n.start.value (world_in n.start.value n.world) ready.reached
+            n.settled settled n.settled (omega arith));
+      };
   all = c.sent-k-end.ensures.sent;
 }
 
@@ -29,7 +39,7 @@ passes-smaller c =
     let low = c.each-test.false in
     let high = c.each.auto.k-end in
     let all = c.each.invariant.all in
-    let ready = c.passes.invariant.ready in
+    let ready = world_ready _ c.passes.invariant.ready in
     less_left _ _ _ _ _ _ (net_is _ _ ready) ready.reached (sym c.is_behind.ensures ∙ c.passes-test.true) p.same_net p.same_start
     (pass_done _ _ _ _ _ _ c.each.k p (omega arith))
 
@@ -40,7 +50,7 @@ passes-preserved c =
     let low = c.each-test.false in
     let high = c.each.auto.k-end in
     let all = c.each.invariant.all in
-    let ready = c.passes.invariant.ready in
+    let ready = world_ready _ c.passes.invariant.ready in
     record {
       fixed = fixed_both _ _ _ o.fixed c.each.invariant.fixed;
       requests = c.each.invariant.requests ∙ o.requests;
@@ -73,7 +83,14 @@ returns-clause-settled c =
     }
 
 pub returns-clause-done : goal.returns-clause-done
-returns-clause-done c = all_done _ _ c.passes.invariant.ready (sym c.is_behind.ensures ∙ c.passes-test.false)
+returns-clause-done c = all_done _ _ (world_ready _ c.passes.invariant.ready) (sym c.is_behind.ensures ∙ c.passes-test.false)
 
 pub returns-clause-level : goal.returns-clause-level
-returns-clause-level c = all_level _ _ c.passes.invariant.ready (sym c.is_behind.ensures ∙ c.passes-test.false)
+returns-clause-level c = all_level _ _ (world_ready _ c.passes.invariant.ready) (sym c.is_behind.ensures ∙ c.passes-test.false)
+
+-- all that was sent is of completed batches
+pub returns-clause-ready : goal.returns-clause-ready
+returns-clause-ready c =
+    let n = c.passes.nodes in
+    let ready = world_ready _ c.passes.invariant.ready in
+    are_ready _ ready (all_past n.start.value n.world ready (sym c.is_behind.ensures ∙ c.passes-test.false) _ c.sent.ensures.sent)

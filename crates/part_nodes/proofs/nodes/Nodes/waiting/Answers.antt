@@ -1,5 +1,6 @@
 use Rattle.std.proofs.Common.{arith}
 use Rattle.node_seats.proofs.Keeping.{stands}
+use Rattle.part_nodes.proofs.Skipped.{world_ready}
 use Rattle.part_nodes.proofs.Wholes.{first_waits}
 use Rattle.part_nodes.proofs.nodes.Nodes.waiting.Goals as goal
 
@@ -16,4 +17,4 @@ returns c =
     let many = c.requires.ready.keeps.many_seats in
     let some = c.requires.ready.keeps.some_node in
     let at = stands n.world.seats.items 0 c.index.result.now (omega arith) c.index.ensures in
-    first_waits n.start.value n.world c.requires.ready c.index.result.now at
+    first_waits n.start.value n.world (world_ready _ c.requires.ready) c.index.result.now at

@@ -1,4 +1,4 @@
-use Rattle.std.proofs.Common.{rules, ◌≡◌, ap, subst, ◌∙◌, length, arith}
+use Rattle.std.proofs.Common.{rules, ◌≡◌, ap, subst, length, arith}
 use Rattle.proc_lang.specs.Catalogs.{IsCatalog}
 use Rattle.range_resv.proofs.Batching.{May, many-verdicts, few-asked, well-asked, finished, ready-again}
 use Rattle.range_resv.proofs.engines.ScanEngine.run_batch.Goals as goal

@@ -1,0 +1,6 @@
+use Rattle.std.proofs.Common.{◌≡◌, ◌≤◌, ◌+◌, drop}
+use Rattle.aria_cli.specs.Told.{feeds}
+use Rattle.aria_cli.proofs.watched.feeds.Given as goal
+
+abbrev pub invariant-loop-byte : goal.invariant-loop-byte
+invariant-loop-byte l = (l.count + feeds (drop l.byte-index l.bytes) ≡ feeds l.bytes) × (l.count ≤ l.byte-index)
