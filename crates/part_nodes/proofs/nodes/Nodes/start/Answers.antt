@@ -15,7 +15,8 @@ pub returns-clause-ready : goal.returns-clause-ready
 returns-clause-ready c =
     let on = c.in_ok-start.ensures.stepped c.args.self.start.value (world_ready _ c.requires.ready) in
     let event = Start (numbered c.args.self.world.requests c.args.calls.items) in
-    are_ready _ (step_ready c.args.self.start.value c.args.self.world c.start.new.self event (world_ready _ c.requires.ready) c.in_ok-start.ensures.fixed on.0 on.1)
+    are_ready _ (step_ready c.args.self.start.value c.args.self.world c.start.new.self event (world_ready _ c.requires.ready) c.in_ok-start.ensures.fixed on.0
+    on.1)
     (subst (ArePast c.args.self.settled) (sym on.1)
     (step_past (net_in c.args.self.world) c.args.self.settled (world_in c.args.self.start.value c.args.self.world) event c.requires.ready.settled))
 

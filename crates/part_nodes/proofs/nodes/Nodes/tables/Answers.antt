@@ -13,4 +13,5 @@ tables-requires-clause-seats c = c.requires.ready.keeps.many_seats
 pub returns : goal.returns
 returns c =
     let n = c.args.self.now in
-    c.in_ok-rows.ensures (state_in n.start.value n.world (done_in n.world 0)).rows (parts_of n.start.value n.world (world_ready _ c.requires.ready) c.requires.level)
+    c.in_ok-rows.ensures (state_in n.start.value n.world (done_in n.world 0)).rows
+    (parts_of n.start.value n.world (world_ready _ c.requires.ready) c.requires.level)
