@@ -10,4 +10,5 @@ pub mod TextsRead
 pub mod TokensAgain
 pub mod TokensCut
 pub mod TokensRead
+pub mod TuplesRead
 pub mod WrittenAgain

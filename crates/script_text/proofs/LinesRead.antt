@@ -1,6 +1,6 @@
 -- A line of tokens says what these stand for.
-use Rattle.std.proofs.Common.{◌≡◌, ℕ, zero, suc, ◌+◌, ◌<◌, ◌≤◌, List, [], ◌∷◌, ◌++◌, length, map, Option, Some, None, Bool, true, false, cond, refl, ap, sym, ◌∙◌, arith, rules}
-use Rattle.std.specs.Prelude.{All, not, ◌&&◌, nat_le, codes, ok_or, Result, Ok, Err}
+use Rattle.std.proofs.Common.{◌≡◌, ℕ, zero, suc, ◌<◌, ◌≤◌, List, [], ◌∷◌, ◌++◌, length, map, Option, Some, Bool, true, cond, refl, ap, sym, ◌∙◌, arith}
+use Rattle.std.specs.Prelude.{All, ◌&&◌, nat_le, codes, ok_or, Ok, Err}
 use Rattle.std.specs.List.{list_all}
 use Rattle.std.proofs.lemmas.Bool.{le-leb}
 use Rattle.std.proofs.lemmas.List.{append_assoc, append-nil}

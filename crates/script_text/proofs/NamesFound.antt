@@ -1,5 +1,5 @@
 -- A name that stands once is found at its place.
-use Rattle.std.proofs.Common.{◌≡◌, ℕ, zero, suc, ◌+◌, ◌<◌, List, [], ◌∷◌, map, Option, Some, None, Bool, true, false, cond, not, refl, ap, sym, ◌∙◌, arith, rules}
+use Rattle.std.proofs.Common.{◌≡◌, ℕ, zero, suc, ◌+◌, List, [], ◌∷◌, map, Some, Bool, true, false, not, refl, ap, sym, ◌∙◌, arith}
 use Rattle.std.specs.Prelude.{position, bytes_eq}
 use Rattle.std.specs.List.{list_all, list_any, slice_get, position_from}
 use Rattle.std.proofs.lemmas.Bool.{and_parts}

@@ -1,5 +1,5 @@
 -- Lines do not depend on how their text was cut, and are what stands between its line feeds.
-use Rattle.std.proofs.Common.{◌≡◌, ℕ, ◌+◌, ◌<◌, List, [], ◌∷◌, ◌++◌, Bool, true, false, cond, ◌==◌, None, refl, sym, ap, ◌∙◌, append_assoc, length, map, not, arith}
+use Rattle.std.proofs.Common.{◌≡◌, ℕ, ◌<◌, List, [], ◌∷◌, ◌++◌, Bool, true, false, cond, ◌==◌, None, refl, sym, ap, ◌∙◌, append_assoc, length, map, not, arith}
 use Rattle.script_text.specs.Lines.{Feed, Scan, blank, last_line, scan, scan_after, stopped, is_past_line, is_past_limit, with_feed, with_byte, unreturned}
 use Rattle.std.specs.Prelude.{option_to_list}
 use Rattle.std.specs.List.{slice_split}

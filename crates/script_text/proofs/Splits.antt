@@ -1,6 +1,6 @@
 -- How bytes split at one that is their first of its kind.
-use Rattle.std.proofs.Common.{◌≡◌, ℕ, ◌+◌, ◌<◌, ◌≤◌, length, arith, List, [], ◌∷◌, ◌++◌, take, drop, get_or, Bool, true, false, not, ap, ◌∙◌, refl}
-use Rattle.std.specs.Prelude.{All, ◌==◌, Some, None}
+use Rattle.std.proofs.Common.{◌≡◌, ℕ, ◌+◌, ◌<◌, ◌≤◌, length, arith, List, [], ◌∷◌, ◌++◌, take, drop, get_or, false, not, ap, ◌∙◌, refl}
+use Rattle.std.specs.Prelude.{All, ◌==◌}
 use Rattle.std.specs.List.{slice_split}
 use Rattle.std.proofs.lemmas.Bool.{not-true, eq-eqb}
 use Rattle.std.proofs.lemmas.List.Splits.{slice_split_none, slice_split_at}

@@ -1,5 +1,5 @@
 -- Bytes are read as a text exactly where they are one.
-use Rattle.std.proofs.Common.{◌≡◌, ℕ, ◌<◌, ◌≤◌, List, length, get_or, Option, Some, None, not, Bool, true, false, cond, refl, ap, sym, ◌∙◌, rules}
+use Rattle.std.proofs.Common.{◌≡◌, ℕ, ◌<◌, ◌≤◌, List, length, get_or, Some, None, not, Bool, cond, ap}
 use Rattle.std.specs.List.{list_all, position}
 use Rattle.std.specs.Prelude.{nat_le}
 use Rattle.std.proofs.lemmas.Bool.{le-leb, lt-leb, not-true, and_from}

@@ -1,6 +1,6 @@
 -- The kinds of line: what each says, or that it says nothing.
 use Rattle.std.specs.Prelude.{ℕ, ℤ, pos, Bool, ◌&&◌, ◌==◌, nat_le, if◌then◌else◌, List, [], ◌∷◌, ◌++◌, length, Option, Some, None}
-use Rattle.std.specs.Prelude.{option_and_then, option_map, ok_or, codes, bytes_eq, Result, Ok, Err}
+use Rattle.std.specs.Prelude.{option_and_then, option_map, ok_or, codes, bytes_eq, Result, Err}
 use Rattle.std.specs.List.{list_all}
 use Rattle.aria_base.specs.Texts.{is_word}
 use Rattle.aria_base.specs.declared.limits.TheConstants.{FEWEST_PARTS, MOST_PARTS, MOST_COLUMNS, MOST_ARGS}

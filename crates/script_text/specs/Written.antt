@@ -1,5 +1,5 @@
 -- The one spelling of rows and calls, and what is printed at all.
-use Rattle.std.specs.Prelude.{◌≡◌, ℕ, ℤ, ◌≤◌, Bool, true, List, [], ◌∷◌, ◌++◌, length, All, Option, Some, None, codes}
+use Rattle.std.specs.Prelude.{◌≡◌, ℕ, ℤ, ◌≤◌, Bool, true, List, [], ◌++◌, length, All, Option, Some, None, codes}
 use Rattle.std.specs.List.{slice_get}
 use Rattle.aria_base.specs.Orders.{Cells}
 use Rattle.aria_base.specs.Texts.{IsText}

@@ -45,12 +45,12 @@ pub fn refused(line: u64, kind: RefusalKind) -> LinesRefused
 fn is_printed(bytes: &[u8]) -> bool
     ensures { result ≡ is_printed bytes.now }
 {
+    // without a branch, so that several bytes are looked at at once
+    let mut all = true;
     for byte in bytes {
-        if *byte < 32 || 126 < *byte {
-            return false;
-        }
+        all &= 32 <= *byte && *byte <= 126;
     }
-    true
+    all
 }
 
 /// Whether there are spaces alone.

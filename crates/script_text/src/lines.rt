@@ -1,5 +1,5 @@
 // The lines of a text that comes in pieces.
-ghost use Rattle.std.specs.Prelude.{◌≡◌, ◌+◌, ◌-◌, ◌<◌, ◌≤◌, ◌++◌, ◌==◌, [], None, length, IfOk, IfErr, OnOk, OnErr};
+ghost use Rattle.std.specs.Prelude.{◌≡◌, ◌+◌, ◌-◌, ◌<◌, ◌≤◌, ◌++◌, ◌==◌, [], None, Some, length, IfOk, IfErr, OnOk, OnErr};
 ghost use Rattle.std.specs.Result.{result_err};
 ghost use Rattle.script_text.specs.Answers.{IsRefusedBy};
 ghost use Rattle.script_text.specs.Lines.{Feed, blank, unreturned, scan, last_line, refused_at};
@@ -39,15 +39,20 @@ impl Model for Lines {
     ghost invariant = { λ l. (l.taken ≤ l.limit) × (l.count ≤ l.taken) × (length l.begun.items ≤ l.longest) };
 }
 
-/// What a piece completes: its lines before the first byte that is past a bound, and the refusal of that
-/// byte's line, or else how far the text is taken then.
+/// What a piece completes: its lines before the first byte that is past a bound, and how far the text is taken
+/// then, or the refusal of that byte's line.
 #[derive(Drop)]
 struct Scanned<'a> {
     lines: Vec<Bytes>,
-    fault: Option<Refusal>,
+    end: Result<Reached<'a>, Refusal>,
+}
+
+/// How far a text is taken within a piece.
+#[derive(Drop)]
+struct Reached<'a> {
     taken: u64,
     count: u64,
-    /// Whether the piece has a line feed, so that what was begun before it is no longer.
+    /// Whether the piece has had a line feed, so that what was begun before it is no longer.
     fresh: bool,
     /// What stands behind its last line feed.
     rest: &'a [u8],
@@ -76,20 +81,11 @@ impl Lines {
         ensures refused { IfErr result (IsRefusedBy (scan self.old piece.now).fault) }
         ensures kept { OnErr result (self.new ≡ self.old) }
     {
-        let Scanned {
-            lines,
-            fault,
-            taken,
-            count,
-            fresh,
-            rest,
-        } = self.scan(piece)?;
-        if let Some(refusal) = fault {
-            return Err(LinesRefused::Line(refusal));
-        }
-        self.keep(fresh, rest)?;
-        self.taken = taken;
-        self.count = count;
+        let Scanned { lines, end } = self.scan(piece)?;
+        let reached = end.map_err(LinesRefused::Line)?;
+        self.keep(reached.fresh, reached.rest)?;
+        self.taken = reached.taken;
+        self.count = reached.count;
         Ok(lines)
     }
 
@@ -117,9 +113,9 @@ impl Lines {
     /// Walks through a piece from line feed to line feed.
     fn scan<'a>(&self, piece: &'a [u8]) -> Result<Scanned<'a>, Memory>
         ensures lines { IfOk result (λ s. s.lines.items ≡ (scan self.now piece.now).lines) }
-        ensures fault { IfOk result (λ s. s.fault ≡ (scan self.now piece.now).fault) }
-        ensures within { IfOk result (λ s. s.fault ≡ None → (s.taken ≤ self.now.limit) × (s.count ≤ s.taken) × (length (begun_at self.now s.fresh) + length s.rest.now ≤ self.now.longest)) }
-        ensures taken { IfOk result (λ s. s.fault ≡ None → (scan self.now piece.now).feed ≡ with_run (place self.now s.fresh s.taken s.count) s.rest.now) }
+        ensures fault { IfOk result (λ s. result_err s.end ≡ (scan self.now piece.now).fault) }
+        ensures within { IfOk result (λ s. IfOk s.end (λ r. (r.taken ≤ self.now.limit) × (r.count ≤ r.taken) × (length (begun_at self.now r.fresh) + length r.rest.now ≤ self.now.longest))) }
+        ensures taken { IfOk result (λ s. IfOk s.end (λ r. (scan self.now piece.now).feed ≡ with_run (place self.now r.fresh r.taken r.count) r.rest.now)) }
     {
         let mut lines = Vec::new(self.alloc);
         let mut fresh = false;
@@ -127,44 +123,27 @@ impl Lines {
         let mut count = self.count;
         let mut rest = piece;
         while let Some((front, behind)) = cut_at(rest, b'\n') {
-            taken = match self.take(fresh, taken, front.len(), true) {
-                Ok(taken) => taken,
-                Err(kind) => {
-                    let fault = Some(refused_at(count, kind));
-                    return Ok(Scanned {
-                        lines,
-                        fault,
-                        taken,
-                        count,
-                        fresh,
-                        rest,
-                    });
-                }
-            };
+            match self.take(fresh, taken, front.len(), true) {
+                Ok(next) => taken = next,
+                Err(kind) => return Ok(Scanned::stopped(lines, count, kind)),
+            }
             lines.push(line_of(self.alloc, self.begun_at(fresh), front)?)?;
             fresh = true;
             count += 1;
             rest = behind;
         }
-        let fault = match self.take(fresh, taken, rest.len(), false) {
-            Ok(taken) => return Ok(Scanned {
-                lines,
-                fault: None,
-                taken,
-                count,
-                fresh,
-                rest,
-            }),
-            Err(kind) => Some(refused_at(count, kind)),
-        };
-        Ok(Scanned {
-            lines,
-            fault,
-            taken,
-            count,
-            fresh,
-            rest,
-        })
+        match self.take(fresh, taken, rest.len(), false) {
+            Ok(taken) => {
+                let end = Ok(Reached {
+                    taken,
+                    count,
+                    fresh,
+                    rest,
+                });
+                Ok(Scanned { lines, end })
+            }
+            Err(kind) => Ok(Scanned::stopped(lines, count, kind)),
+        }
     }
 
     /// Keeps what stands behind the last line feed.
@@ -220,6 +199,17 @@ impl Lines {
             return Err(RefusalKind::Size);
         }
         Ok(limit - (after - 1))
+    }
+}
+
+impl<'a> Scanned<'a> {
+    /// These lines, and the refusal of the next one, behind so many.
+    fn stopped(lines: Vec<Bytes>, count: u64, kind: RefusalKind) -> Scanned<'a>
+        ensures lines { result.lines.items ≡ lines.items }
+        ensures end { result_err result.end ≡ Some (refused_at count kind) }
+    {
+        let end = Err(refused_at(count, kind));
+        Scanned { lines, end }
     }
 }
 

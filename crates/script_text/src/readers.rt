@@ -1,5 +1,5 @@
 // What tokens stand for.
-ghost use Rattle.std.specs.Prelude.{◌≡◌, ◌==◌, List, ℕ, Option, IfOk, option_map};
+ghost use Rattle.std.specs.Prelude.{◌≡◌, ◌==◌, ◌≤◌, List, ℕ, Option, IfOk, length, option_map};
 ghost use Rattle.std.specs.List.{slice_split};
 ghost use Rattle.script_text.specs.Cuts.{tokens};
 ghost use Rattle.script_text.specs.Numbers.{number_of};
@@ -7,9 +7,7 @@ ghost use Rattle.script_text.specs.Tokens.{all_of, before_last, tuple_of, same_l
 
 use crate::cuts::{cut_at, first_token};
 use crate::digits::read_number;
-use aria_base::{
-    Arg, LONGEST_TUPLE, Memory, Part, SHORTEST_TUPLE, Tuple, Tuples, Txt, TxtRefused, Value,
-};
+use aria_base::{Arg, LONGEST_TUPLE, Memory, Part, Tuple, Tuples, Txt, TxtRefused, Value};
 use std::alloc::Global;
 
 /// What bytes stand for.
@@ -19,28 +17,6 @@ pub trait FromToken: Drop {
     /// What these bytes stand for.
     fn read(alloc: Global, bytes: &[u8]) -> Result<Option<Self>, Memory>
         ensures { IfOk result (λ found. found ≡ of bytes.now) };
-}
-
-impl FromToken for i64 {
-    ghost of = { number_of };
-
-    fn read(_alloc: Global, bytes: &[u8]) -> Result<Option<i64>, Memory> {
-        Ok(read_number(bytes))
-    }
-}
-
-impl FromToken for Tuple {
-    ghost of = { tuple_of };
-
-    fn read(alloc: Global, bytes: &[u8]) -> Result<Option<Tuple>, Memory> {
-        let Some(numbers) = read_split::<i64>(alloc, bytes, b',')? else {
-            return Ok(None);
-        };
-        if numbers.len() < SHORTEST_TUPLE || LONGEST_TUPLE < numbers.len() {
-            return Ok(None);
-        }
-        Ok(Some(Tuple::from_slice(&numbers)))
-    }
 }
 
 impl FromToken for Part {
@@ -93,26 +69,6 @@ pub fn read_tokens<T: FromToken>(alloc: Global, line: &[u8]) -> Result<Option<Ve
     Ok(Some(all))
 }
 
-/// What stands between bytes like this one, where each stands for something.
-fn read_split<T: FromToken>(alloc: Global, bytes: &[u8], byte: u8) -> Result<Option<Vec<T>>, Memory>
-    ensures { IfOk result (λ found. option_map (λ all. all.items) found ≡ all_of T.of (slice_split (λ b. b == byte) bytes.now)) }
-{
-    let mut all = Vec::new(alloc);
-    let mut rest = bytes;
-    while let Some((front, behind)) = cut_at(rest, byte) {
-        let Some(one) = T::read(alloc, front)? else {
-            return Ok(None);
-        };
-        all.push(one)?;
-        rest = behind;
-    }
-    let Some(last) = T::read(alloc, rest)? else {
-        return Ok(None);
-    };
-    all.push(last)?;
-    Ok(Some(all))
-}
-
 /// What stands before the last byte, where it is this one.
 fn before_last(last: u8, bytes: &[u8]) -> Option<&[u8]>
     ensures { option_map (λ front. front.now) result ≡ before_last last bytes.now }
@@ -121,6 +77,62 @@ fn before_last(last: u8, bytes: &[u8]) -> Option<&[u8]>
         [front @ .., b] if *b == last => Some(front),
         _ => None,
     }
+}
+
+/// The tuples between semicolons, where each is one.
+fn read_tuples(alloc: Global, bytes: &[u8]) -> Result<Option<Vec<Tuple>>, Memory>
+    ensures { IfOk result (λ found. option_map (λ all. all.items) found ≡ all_of tuple_of (slice_split (λ b. b == 59) bytes.now)) }
+{
+    let mut all = Vec::with_capacity(alloc, count_of(bytes, b';') + 1)?;
+    let mut rest = bytes;
+    while let Some((front, behind)) = cut_at(rest, b';') {
+        let Some(one) = read_tuple(front) else {
+            return Ok(None);
+        };
+        all.push(one)?;
+        rest = behind;
+    }
+    let Some(last) = read_tuple(rest) else {
+        return Ok(None);
+    };
+    all.push(last)?;
+    Ok(Some(all))
+}
+
+/// How many bytes are like this one: a list is made of its size, so that it does not grow.
+fn count_of(bytes: &[u8], byte: u8) -> usize
+    ensures { result ≤ length bytes.now }
+{
+    let mut count = 0;
+    for other in bytes {
+        if *other == byte {
+            count += 1;
+        }
+    }
+    count
+}
+
+/// The tuple that these bytes are. No memory, since a list may have many of them.
+#[tactic(auto, using(crate::proofs::TuplesRead::one_more, crate::proofs::TuplesRead::too_long, crate::proofs::TuplesRead::few))]
+fn read_tuple(bytes: &[u8]) -> Option<Tuple>
+    ensures { result ≡ tuple_of bytes.now }
+{
+    let mut numbers = [0; LONGEST_TUPLE];
+    let mut count = 0;
+    let mut rest = bytes;
+    while let Some((front, behind)) = cut_at(rest, b',') {
+        let number = read_number(front)?;
+        numbers[count] = number;
+        count += 1;
+        if count == LONGEST_TUPLE {
+            // one more stands behind the comma
+            return None;
+        }
+        rest = behind;
+    }
+    let last = read_number(rest)?;
+    numbers[count] = last;
+    Some(Tuple::from_slice(&numbers[..count + 1]))
 }
 
 /// The text behind its first quote.
@@ -149,7 +161,7 @@ fn read_list(alloc: Global, rest: &[u8]) -> Result<Option<Tuples>, Memory>
     if inner.is_empty() {
         return Ok(Some(Tuples::from_vec(Vec::new(alloc))));
     }
-    let Some(tuples) = read_split::<Tuple>(alloc, inner, b';')? else {
+    let Some(tuples) = read_tuples(alloc, inner)? else {
         return Ok(None);
     };
     if !same_lengths(tuples.as_slice()) {

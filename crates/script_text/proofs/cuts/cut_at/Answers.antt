@@ -1,4 +1,4 @@
-use Rattle.std.proofs.Common.{◌≡◌, ◌+◌, ◌-◌, ◌<◌, length, take, drop, get_or, arith, rules}
+use Rattle.std.proofs.Common.{◌≡◌, ◌+◌, ◌-◌, length, take, drop, get_or, arith, rules}
 use Rattle.std.proofs.lemmas.Grind.{common_steps}
 use Rattle.script_text.proofs.Splits.{splits_there}
 use Rattle.script_text.proofs.cuts.cut_at.Goals as goal

@@ -1,6 +1,5 @@
-use Rattle.std.proofs.Common.{◌≡◌, ◌==◌, ◌∷◌, drop, length}
+use Rattle.std.proofs.Common.{◌≡◌, ◌==◌, drop, length}
 use Rattle.std.specs.List.{list_all}
-use Rattle.script_text.specs.Tokens.{same_lengths}
 use Rattle.script_text.proofs.readers.same_lengths.Given as goal
 
 abbrev pub invariant-loop-tuple : goal.invariant-loop-tuple
