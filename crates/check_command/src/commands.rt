@@ -38,15 +38,7 @@ pub fn check_report<S: Source, K: Sink>(
     let Ok(start) = Reading::start(alloc) else {
         return Err(Stop::NoMemory);
     };
-    match read_through(
-        alloc,
-        MOST_BYTES,
-        LONGEST_CHECKED,
-        start,
-        input,
-        out,
-        &mut (),
-    ) {
+    match read_through(alloc, MOST_BYTES, LONGEST_CHECKED, start, input, out) {
         Ok(last) => end_of(alloc, last, out),
         Err(stop) => Err(stop),
     }

@@ -69,24 +69,12 @@ impl Reading {
     }
 }
 
-impl Reads<()> for Reading {
+impl Reads for Reading {
     ghost on_line = { on_line };
 
-    ghost held = { λ _ _ _. Unit {0} };
+    ghost held = { λ _. Unit {0} };
 
-    ghost left = { λ _ _ _ _. Unit {0} };
-
-    ghost disk_faults = { λ _. 0 };
-
-    ghost leaves = { λ _ _ _ _ _ _ _ _. tt };
-
-    fn line<K: Sink>(
-        self,
-        alloc: Global,
-        line: &[u8],
-        out: &mut K,
-        _disk: &mut (),
-    ) -> Result<Self, Stop> {
+    fn line<K: Sink>(self, alloc: Global, line: &[u8], out: &mut K) -> Result<Self, Stop> {
         match self.next(alloc, line) {
             Ok(next) => return Ok(next),
             Err(refused) => return refuse_line(alloc, refused, out),

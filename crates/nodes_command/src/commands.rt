@@ -42,15 +42,7 @@ pub fn nodes<S: Source, K: Sink>(
     let Ok(start) = NodesScript::start(alloc, settings.rule, settings.nodes, each) else {
         return Err(Stop::NoMemory);
     };
-    match read_through(
-        alloc,
-        MOST_BYTES,
-        LONGEST_LINE as u32,
-        start,
-        input,
-        out,
-        &mut (),
-    ) {
+    match read_through(alloc, MOST_BYTES, LONGEST_LINE as u32, start, input, out) {
         Ok(last) => end_of(alloc, last, settings.drain, out),
         Err(stop) => Err(stop),
     }

@@ -82,24 +82,12 @@ impl NodesScript {
     }
 }
 
-impl Reads<()> for NodesScript {
+impl Reads for NodesScript {
     ghost on_line = { on_line };
 
-    ghost held = { λ _ _ _. Unit {0} };
+    ghost held = { λ _. Unit {0} };
 
-    ghost left = { λ _ _ _ _. Unit {0} };
-
-    ghost disk_faults = { λ _. 0 };
-
-    ghost leaves = { λ _ _ _ _ _ _ _ _. tt };
-
-    fn line<K: Sink>(
-        self,
-        alloc: Global,
-        line: &[u8],
-        out: &mut K,
-        _disk: &mut (),
-    ) -> Result<Self, Stop> {
+    fn line<K: Sink>(self, alloc: Global, line: &[u8], out: &mut K) -> Result<Self, Stop> {
         self.serve(alloc, line, out)
     }
 }

@@ -1,5 +1,5 @@
--- Who was at fault where a command stopped, and what is known then.
-use Rattle.std.specs.Prelude.{◌≡◌, ℕ, List, Option, None}
+-- Who was at fault where a command stopped, and when a text is taken so far.
+use Rattle.std.specs.Prelude.{◌≡◌, None}
 use Rattle.script_text.specs.Lines.{Feed, Scan}
 use Rattle.script_course.specs.declared.stops.Stop.{Stop}
 use Rattle.script_course.specs.declared.stops.Stop.TheVariants as stop
@@ -19,11 +19,6 @@ IsReadCause stop.NoMemory source sink disk = Unit {0}
 IsReadCause stop.NoWrite source sink disk = sink
 IsReadCause stop.NoDisk source sink disk = disk
 IsReadCause stop.NoRead source sink disk = source
-
--- what is left behind a stop at the later state is left behind a stop at the earlier one
-abbrev pub Back : {R D : Type 0} → (R → Stop → Option (List ℕ) → D → Type 0) → R → R → Type 0
-Back {D = D} left later earlier = (why : Stop) (given : Option (List ℕ)) (disk : D) → left later why given disk
-    → left earlier why given disk
 
 -- no byte was past a bound, and so far the text is taken
 abbrev pub IsTaken : Scan → Feed → Type 0

@@ -3,16 +3,17 @@
 //! A command is a state with one step for a line, [`Reads`]. A line can only go on or be refused. What the
 //! lines of a text print is a fold over them, told for a text as far as it goes, and for a whole text with
 //! the line at its end that no line feed completes. [`read_through`] does this with any source, any sink and
-//! any command, and with a disk where the command has one.
+//! any such state.
 //!
 //! ```text
 //! Source ──> pieces ──> Lines (script_text) ──> Reads::line ──> Sink
-//!                            │                      ├── disk
+//!                            │
 //!                       a refused line ──> print_refusal (answer_text) ──> Sink
 //! ```
 //!
 //! In `specs/`: `Courses` says what is printed, `Served` when a sink was given what a course prints, `Causes`
-//! who was at fault and what is known of the disk.
+//! who was at fault. Commands that have a loop of their own, as those of `run_commands`, speak in these words
+//! too. So a fault of a disk has its place in them, which no [`Reads`] has.
 #![tactic(auto)]
 
 mod courses;

@@ -5,7 +5,7 @@ ghost use Rattle.aria_base.specs.Faults.{Rose};
 ghost use Rattle.script_text.specs.Lines.{blank, scan, last_line};
 ghost use Rattle.script_course.specs.Courses.{Goes, with_lines, with_fault, with_scan, with_last, told, told_whole};
 ghost use Rattle.script_course.specs.Served.{Serves, Comes};
-ghost use Rattle.script_course.specs.Causes.{Back, IsCause, IsReadCause, IsTaken};
+ghost use Rattle.script_course.specs.Causes.{IsCause, IsReadCause, IsTaken};
 
 use crate::courses::Reads;
 use crate::gives::refuse;
@@ -27,34 +27,28 @@ pub const PIECE: usize = 65_536;
 /// What comes first decides: a refused line, a fault, or being out of memory ends all, and nothing is
 /// printed behind it but the line of a refusal. Where the source fails, just the lines that were whole are
 /// answered.
-pub fn read_through<S: Source, K: Sink, D, C: Reads<D>>(
+pub fn read_through<S: Source, K: Sink, C: Reads>(
     alloc: Global,
     limit: u64,
     longest: u32,
     start: C,
     input: &mut S,
     out: &mut K,
-    disk: &mut D,
 ) -> Result<C, Stop>
-    requires { C.held start (K.given out.old) disk.old }
+    requires { C.held start }
 
     // What was printed is what the text prints; where it was cut off, a prefix of it. Where the source
     // failed, it is all that the bytes that were taken tell, and no line of them was refused.
     ensures comes { Comes (told C.on_line (blank limit longest) start) (told_whole C.on_line (blank limit longest) start)
         (S.left input.old) (S.left input.new) (K.given out.old) (K.given out.new) result }
     ensures end { IfOk result (λ _. IsAtEnd (S.left input.new)) }
-
-    // What holds of the disk, at the end and at a stop.
-    ensures held { IfOk result (λ c. C.held c (K.given out.new) disk.new) }
-    ensures back { IfOk result (λ c. Back C.left c start) }
-    ensures left { IfErr result (λ stop. C.left start stop (K.given out.new) disk.new) }
+    ensures held { IfOk result C.held }
 
     // Each stop for a fault has its cause.
     ensures source { S.faults input.old ≤ S.faults input.new }
     ensures sink { K.faults out.old ≤ K.faults out.new }
-    ensures disk { C.disk_faults disk.old ≤ C.disk_faults disk.new }
     ensures cause { IfErr result (λ stop. IsReadCause stop (Rose (S.faults input.old) (S.faults input.new))
-        (Rose (K.faults out.old) (K.faults out.new)) (Rose (C.disk_faults disk.old) (C.disk_faults disk.new))) }
+        (Rose (K.faults out.old) (K.faults out.new)) ⊥) }
 {
     let mut lines = Lines::new(alloc, limit, longest);
     let mut course = start;
@@ -64,9 +58,9 @@ pub fn read_through<S: Source, K: Sink, D, C: Reads<D>>(
             return Err(Stop::NoRead);
         };
         if count == 0 {
-            return finish(alloc, course, lines, out, disk);
+            return finish(alloc, course, lines, out);
         }
-        match take_piece(alloc, course, &mut lines, &buffer[..count], out, disk) {
+        match take_piece(alloc, course, &mut lines, &buffer[..count], out) {
             Ok(next) => course = next,
             Err(stop) => return Err(stop),
         }
@@ -74,100 +68,80 @@ pub fn read_through<S: Source, K: Sink, D, C: Reads<D>>(
 }
 
 /// Takes the next bytes.
-fn take_piece<K: Sink, D, C: Reads<D>>(
+fn take_piece<K: Sink, C: Reads>(
     alloc: Global,
     course: C,
     lines: &mut Lines,
     piece: &[u8],
     out: &mut K,
-    disk: &mut D,
 ) -> Result<C, Stop>
-    requires { C.held course (K.given out.old) disk.old }
+    requires { C.held course }
     ensures serves { Serves (with_scan C.on_line (Goes [] course) (scan lines.old piece.now)) (K.given out.old) (K.given out.new) result }
     ensures taken { IfOk result (λ _. IsTaken (scan lines.old piece.now) lines.new) }
-    ensures held { IfOk result (λ c. C.held c (K.given out.new) disk.new) }
-    ensures back { IfOk result (λ c. Back C.left c course) }
-    ensures left { IfErr result (λ stop. C.left course stop (K.given out.new) disk.new) }
+    ensures held { IfOk result C.held }
     ensures sink { K.faults out.old ≤ K.faults out.new }
-    ensures disk { C.disk_faults disk.old ≤ C.disk_faults disk.new }
-    ensures cause { IfErr result (λ stop. IsCause stop (Rose (K.faults out.old) (K.faults out.new)) (Rose (C.disk_faults disk.old) (C.disk_faults disk.new))) }
+    ensures cause { IfErr result (λ stop. IsCause stop (Rose (K.faults out.old) (K.faults out.new)) ⊥) }
 {
     match lines.feed(piece) {
-        Ok(done) => each_line(alloc, course, &done, out, disk),
+        Ok(done) => each_line(alloc, course, &done, out),
         Err(LinesRefused::Memory) => Err(Stop::NoMemory),
         Err(LinesRefused::Line(refusal)) => match lines.before(piece) {
-            Ok(done) => refuse_behind(alloc, course, &done, &refusal, out, disk),
+            Ok(done) => refuse_behind(alloc, course, &done, &refusal, out),
             Err(Memory) => Err(Stop::NoMemory),
         },
     }
 }
 
 /// The lines, and then the refusal of the next one.
-fn refuse_behind<K: Sink, D, C: Reads<D>>(
+fn refuse_behind<K: Sink, C: Reads>(
     alloc: Global,
     course: C,
     lines: &[Bytes],
     refusal: &Refusal,
     out: &mut K,
-    disk: &mut D,
 ) -> Result<C, Stop>
-    requires { C.held course (K.given out.old) disk.old }
+    requires { C.held course }
     ensures serves { Serves (with_fault (with_lines C.on_line (Goes [] course) lines.now) (Some refusal.now)) (K.given out.old) (K.given out.new) result }
     ensures stops { IsErr result }
-    ensures left { IfErr result (λ stop. C.left course stop (K.given out.new) disk.new) }
     ensures sink { K.faults out.old ≤ K.faults out.new }
-    ensures disk { C.disk_faults disk.old ≤ C.disk_faults disk.new }
-    ensures cause { IfErr result (λ stop. IsCause stop (Rose (K.faults out.old) (K.faults out.new)) (Rose (C.disk_faults disk.old) (C.disk_faults disk.new))) }
+    ensures cause { IfErr result (λ stop. IsCause stop (Rose (K.faults out.old) (K.faults out.new)) ⊥) }
 {
-    match each_line(alloc, course, lines, out, disk) {
+    match each_line(alloc, course, lines, out) {
         Ok(_) => return refuse(alloc, refusal, out),
         Err(stop) => return Err(stop),
     }
 }
 
 /// The last line, where no line feed completes it.
-fn finish<K: Sink, D, C: Reads<D>>(
-    alloc: Global,
-    course: C,
-    lines: Lines,
-    out: &mut K,
-    disk: &mut D,
-) -> Result<C, Stop>
-    requires { C.held course (K.given out.old) disk.old }
+fn finish<K: Sink, C: Reads>(alloc: Global, course: C, lines: Lines, out: &mut K) -> Result<C, Stop>
+    requires { C.held course }
     ensures serves { Serves (with_last C.on_line (Goes [] course) (last_line lines)) (K.given out.old) (K.given out.new) result }
-    ensures held { IfOk result (λ c. C.held c (K.given out.new) disk.new) }
-    ensures back { IfOk result (λ c. Back C.left c course) }
-    ensures left { IfErr result (λ stop. C.left course stop (K.given out.new) disk.new) }
+    ensures held { IfOk result C.held }
     ensures sink { K.faults out.old ≤ K.faults out.new }
-    ensures disk { C.disk_faults disk.old ≤ C.disk_faults disk.new }
-    ensures cause { IfErr result (λ stop. IsCause stop (Rose (K.faults out.old) (K.faults out.new)) (Rose (C.disk_faults disk.old) (C.disk_faults disk.new))) }
+    ensures cause { IfErr result (λ stop. IsCause stop (Rose (K.faults out.old) (K.faults out.new)) ⊥) }
 {
     match lines.finish() {
         None => Ok(course),
-        Some(last) => course.line(alloc, last.as_slice(), out, disk),
+        Some(last) => course.line(alloc, last.as_slice(), out),
     }
 }
 
 /// The lines, one after the other.
-fn each_line<K: Sink, D, C: Reads<D>>(
+fn each_line<K: Sink, C: Reads>(
     alloc: Global,
     start: C,
     lines: &[Bytes],
     out: &mut K,
-    disk: &mut D,
 ) -> Result<C, Stop>
-    requires { C.held start (K.given out.old) disk.old }
+    requires { C.held start }
     ensures serves { Serves (with_lines C.on_line (Goes [] start) lines.now) (K.given out.old) (K.given out.new) result }
-    ensures held { IfOk result (λ c. C.held c (K.given out.new) disk.new) }
-    ensures back { IfOk result (λ c. Back C.left c start) }
-    ensures left { IfErr result (λ stop. C.left start stop (K.given out.new) disk.new) }
+    ensures held { IfOk result C.held }
     ensures sink { K.faults out.old ≤ K.faults out.new }
-    ensures disk { C.disk_faults disk.old ≤ C.disk_faults disk.new }
-    ensures cause { IfErr result (λ stop. IsCause stop (Rose (K.faults out.old) (K.faults out.new)) (Rose (C.disk_faults disk.old) (C.disk_faults disk.new))) }
+    ensures cause { IfErr result (λ stop. IsCause stop (Rose (K.faults out.old) (K.faults out.new)) ⊥) }
 {
     let mut course = start;
     for line in lines {
-        match course.line(alloc, line.as_slice(), out, disk) {
+        match course.line(alloc, line.as_slice(), out) {
             Ok(next) => course = next,
             Err(stop) => return Err(stop),
         }

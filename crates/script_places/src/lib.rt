@@ -6,7 +6,7 @@
 //! end of the input.
 //!
 //! ```text
-//! line ──> read_line (script_text) ──> Item ──> may it stand here? ──> fit_row, fit_call, .. ──> Deed
+//! line ──> read_line (script_text) ──> Item ──> may it stand here? ──> place_row, place_call, fit_settings ──> Deed
 //!                                                 │
 //!           pieces of a catalogue's text are read (cat_text) when the first other line comes
 //! ```

@@ -72,25 +72,13 @@ impl Draft {
     }
 }
 
-impl Reads<()> for Draft {
+impl Reads for Draft {
     ghost on_line = { drafts.on_line };
 
     // Its rows fit its catalogue.
-    ghost held = { λ draft _ _. IsFitting draft };
+    ghost held = { IsFitting };
 
-    ghost left = { λ _ _ _ _. Unit {0} };
-
-    ghost disk_faults = { λ _. 0 };
-
-    ghost leaves = { λ _ _ _ _ _ _ _ _. tt };
-
-    fn line<K: Sink>(
-        self,
-        alloc: Global,
-        line: &[u8],
-        out: &mut K,
-        _disk: &mut (),
-    ) -> Result<Self, Stop> {
+    fn line<K: Sink>(self, alloc: Global, line: &[u8], out: &mut K) -> Result<Self, Stop> {
         match self.next(alloc, line) {
             Ok(next) => Ok(next),
             Err(refused) => refuse_line(alloc, refused, out),

@@ -35,15 +35,7 @@ pub fn read_rows<S: Source, K: Sink>(
     ensures cause { IfErr result (λ stop. IsReadCause stop (Rose (S.faults input.old) (S.faults input.new)) (Rose (K.faults out.old) (K.faults out.new)) ⊥) }
 {
     match Draft::start(alloc, mode) {
-        Ok(start) => read_through(
-            alloc,
-            MOST_BYTES,
-            LONGEST_LINE as u32,
-            start,
-            input,
-            out,
-            &mut (),
-        ),
+        Ok(start) => read_through(alloc, MOST_BYTES, LONGEST_LINE as u32, start, input, out),
         Err(Memory) => Err(Stop::NoMemory),
     }
 }

@@ -15,24 +15,12 @@ pub struct Echo {
     pub counts: Counts,
 }
 
-impl Reads<()> for Echo {
+impl Reads for Echo {
     ghost on_line = { echo_line };
 
-    ghost held = { λ _ _ _. Unit {0} };
+    ghost held = { λ _. Unit {0} };
 
-    ghost left = { λ _ _ _ _. Unit {0} };
-
-    ghost disk_faults = { λ _. 0 };
-
-    ghost leaves = { λ _ _ _ _ _ _ _ _. tt };
-
-    fn line<K: Sink>(
-        self,
-        alloc: Global,
-        line: &[u8],
-        out: &mut K,
-        _disk: &mut (),
-    ) -> Result<Self, Stop> {
+    fn line<K: Sink>(self, alloc: Global, line: &[u8], out: &mut K) -> Result<Self, Stop> {
         let Echo { place, counts } = self;
         match place.ask(alloc, counts, line) {
             Ok((place, deed)) => give(Echo { place, counts }, word_of(&deed), out),

@@ -71,7 +71,7 @@ fn read_within(
     out: &mut MemSink,
 ) -> Result<Vec<u8>, Fail> {
     let longest = longest_of(echo.place.mode);
-    let read = read_through(alloc, limit, longest, echo, input, out, &mut ());
+    let read = read_through(alloc, limit, longest, echo, input, out);
     let mut found = Vec::from_slice(alloc, out.bytes())?;
     add_end(alloc, read, &mut found)?;
     Ok(found)

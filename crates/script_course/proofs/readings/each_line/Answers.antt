@@ -11,9 +11,7 @@ loop-line-preserved g c =
     c.as_slice.ensures in
     record {
       sink = omega (arith, c.line.ensures.sink, c.loop-line.invariant.sink);
-      disk = omega (arith, c.line.ensures.disk, c.loop-line.invariant.disk);
       held = c.in-Ok.ensures.held;
-      back = λ why given disk h. c.loop-line.invariant.back why given disk (c.in-Ok.ensures.back why given disk h);
       leads = λ new result h. c.loop-line.invariant.leads new result
           (rw left (goes_on g.C.Reads.on_line c.loop-line.course c.in-Ok.next c.as_slice.result.now (drop (c.loop-line.line-index + 1) c.args.lines.now)
           (g.K.Sink.given c.loop-line.out) (g.K.Sink.given c.line.new.out) c.in-Ok.ensures.serves new result h));

@@ -3,7 +3,6 @@ use Rattle.std.specs.Prelude.{Err}
 use Rattle.std.proofs.lemmas.List.{length-take-le}
 use Rattle.script_course.specs.declared.stops.Stop.TheVariants as stop
 use Rattle.script_course.proofs.Wholes.{comes_on, comes_cut, comes_end, comes_fault, end_before}
-use Rattle.script_course.proofs.Lefts.{stays}
 use Rattle.script_course.proofs.Measures.{gone}
 use Rattle.script_course.proofs.readings.read_through.Goals as goal
 
@@ -13,12 +12,6 @@ returns-in_default-clause-comes g c =
     c.loop-count.invariant.leads (g.S.Source.left c.take.new.self) now (Err stop.NoRead)
     (comes_fault g.C.Reads.on_line c.loop-count.lines c.loop-count.course (g.S.Source.left c.loop-count.input)
     (g.S.Source.left c.take.new.self) now c.in_default.ensures.bytes)
-
-pub returns-in_default-clause-left : goal.returns-in_default-clause-left
-returns-in_default-clause-left g c =
-    let now = g.K.Sink.given c.loop-count.out in
-    c.loop-count.invariant.back stop.NoRead now c.loop-count.disk
-    (stays g.C.Reads.held g.C.Reads.left g.met.C.Reads.leaves c.loop-count.course stop.NoRead now c.loop-count.disk c.loop-count.invariant.held)
 
 pub returns-then-count-eq0-clause-comes : goal.returns-then-count-eq0-clause-comes
 returns-then-count-eq0-clause-comes g c =
@@ -44,10 +37,8 @@ loop-count-preserved g c =
     record {
       source = omega (arith, c.in-Ok.ensures.kept, c.loop-count.invariant.source);
       sink = omega (arith, c.take_piece.ensures.sink, c.loop-count.invariant.sink);
-      disk = omega (arith, c.take_piece.ensures.disk, c.loop-count.invariant.disk);
       within = on.2;
       held = c.in-Ok-take_piece.ensures.held;
-      back = λ why given disk h. c.loop-count.invariant.back why given disk (c.in-Ok-take_piece.ensures.back why given disk h);
       leads = λ rest new result h. c.loop-count.invariant.leads rest new result
           (comes_on g.C.Reads.on_line c.loop-count.lines c.take_piece.new.lines c.loop-count.course c.in-Ok-take_piece.next piece
           (g.S.Source.left c.loop-count.input) (g.S.Source.left c.take.new.self)

@@ -1,6 +1,5 @@
 use Rattle.std.proofs.Common.{[]}
 use Rattle.script_course.specs.Courses.{Goes, with_lines}
-use Rattle.script_course.proofs.Lefts.{any_err}
 use Rattle.script_course.proofs.Turns.{refused_on, refused_cut}
 use Rattle.script_course.proofs.readings.refuse_behind.Goals as goal
 
@@ -14,12 +13,3 @@ pub returns-in-Err-clause-serves : goal.returns-in-Err-clause-serves
 returns-in-Err-clause-serves g c =
     refused_cut (with_lines g.C.Reads.on_line (Goes [] c.args.course) c.args.lines.now) c.args.refusal.now (g.K.Sink.given c.args.out.now)
     (g.K.Sink.given c.each_line.new.out) c.in-Err.stop c.in-Err.ensures.serves
-
-pub returns-in-Ok-clause-left : goal.returns-in-Ok-clause-left
-returns-in-Ok-clause-left g c =
-    let mid = g.K.Sink.given c.each_line.new.out in
-    let new = g.K.Sink.given c.refuse.new.out in
-    let disk = c.each_line.new.disk in
-    any_err c.refuse.result (λ why. g.C.Reads.left c.args.course why new disk)
-    (λ why. c.in-Ok.ensures.back why new disk (g.met.C.Reads.leaves c.in-Ok.field-0 why c.args.refusal.now mid new disk c.in-Ok.ensures.held
-    c.refuse.ensures.front))

@@ -1,7 +1,7 @@
 use Rattle.script_places.specs.Places.{asked}
 use Rattle.worked_scripts.specs.Echoes.{echo_line}
 use Rattle.worked_scripts.proofs.Echoed.{refused_moves}
-use Rattle.worked_scripts.proofs.echoes.EchoReadsUnit.line.Goals as goal
+use Rattle.worked_scripts.proofs.echoes.EchoReads.line.Goals as goal
 
 pub returns-in-Err-clause-serves : goal.returns-in-Err-clause-serves
 returns-in-Err-clause-serves g c =
