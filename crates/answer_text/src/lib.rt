@@ -25,7 +25,8 @@ mod states;
 
 pub use answers::{append_answer, append_end, print_answer};
 pub use notices::{
-    NotDone, append_at, append_counted, append_damaged, append_kept, ready_line, refused_line,
+    NotDone, append_at, append_counted, append_damaged, append_kept, kept_line, ready_line,
+    refused_line,
 };
 pub use refusals::{append_refusal, print_refusal};
 pub use states::{append_rows, append_state, print_state};

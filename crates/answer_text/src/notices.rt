@@ -1,9 +1,10 @@
 // Lines that stand alone: what a command begins with, and why it does nothing.
-ghost use Rattle.std.specs.Prelude.{◌≡◌, ◌++◌, OnOk};
+ghost use Rattle.std.specs.Prelude.{◌≡◌, ◌++◌, IfOk, OnOk};
 ghost use Rattle.answer_text.specs.Notices.{counted, at_text, kept_text, ready_text, refused_text, damaged_text};
 
 use aria_base::Memory;
 use script_text::append_number;
+use std::alloc::Global;
 
 /// Why a command does nothing.
 #[derive(Clone, Copy, Debug, PartialEq, Eq)]
@@ -59,6 +60,15 @@ pub fn append_kept(out: &mut Vec<u8>, number: u64) -> Result<(), Memory>
     append_number(out, number)?;
     out.extend_from_slice(b" kept\n")?;
     Ok(())
+}
+
+/// The line that says that the store has the batch with this number, so that it is not run.
+pub fn kept_line(alloc: Global, number: u64) -> Result<Vec<u8>, Memory>
+    ensures { IfOk result (λ text. text.items ≡ kept_text number) }
+{
+    let mut text = Vec::new(alloc);
+    append_kept(&mut text, number)?;
+    Ok(text)
 }
 
 /// Appends a line that is a word, with the space behind it, and a number. Where there was no memory, a part

@@ -15,7 +15,7 @@ use crate::asks::ask_among;
 use crate::bases::Base;
 use crate::batches::run_batch;
 use crate::works::Work;
-use answer_text::append_kept;
+use answer_text::kept_line;
 use aria_base::{Call, Key, Memory, Row, Sink};
 use batch_rules::verdicts::Rule;
 use script_course::{Reads, Stop, give};
@@ -238,13 +238,4 @@ impl Work {
         };
         Ok((NodesScript { place, work }, text))
     }
-}
-
-/// The line of a batch that was run before.
-fn kept_line(alloc: Global, number: u64) -> Result<Vec<u8>, Memory>
-    ensures { IfOk result (λ text. text.items ≡ kept_text number) }
-{
-    let mut text = Vec::new(alloc);
-    append_kept(&mut text, number)?;
-    Ok(text)
 }

@@ -27,7 +27,7 @@ ghost use Rattle.run_commands.specs.Standing.{MayCall, MayClose, MayDo, MayPut, 
 
 use crate::bases::{Base, catalog_of};
 use crate::works::Work;
-use answer_text::append_kept;
+use answer_text::kept_line;
 use aria_base::{Call, Key, Memory, Pace, Row, Sink};
 use batch_rules::verdicts::Rule;
 use dep_rules::Config;
@@ -427,13 +427,4 @@ pub(crate) fn why_stopped(why: Delivery) -> Stop
         Delivery::NoDisk => Stop::NoDisk,
         Delivery::Told => unreachable!(),
     }
-}
-
-/// The line of a batch that was run before.
-fn kept_line(alloc: Global, number: u64) -> Result<Vec<u8>, Memory>
-    ensures { IfOk result (λ text. text.items ≡ kept_text number) }
-{
-    let mut text = Vec::new(alloc);
-    append_kept(&mut text, number)?;
-    Ok(text)
 }
