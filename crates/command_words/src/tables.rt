@@ -23,6 +23,15 @@ macro_rules! flag {
     };
 }
 
+macro_rules! offered {
+    ($name:literal, $options:ident) => {
+        CommandRow {
+            name: $name,
+            options: $options.as_slice(),
+        }
+    };
+}
+
 static OF_ONCE: [OptionRow<'static>; 7] = [
     valued!("workers"),
     valued!("replicas"),
@@ -112,45 +121,15 @@ pub fn commands() -> [CommandRow<'static>; 10]
     ensures { map cmd_of result ≡ commands }
 {
     [
-        CommandRow {
-            name: "once",
-            options: OF_ONCE.as_slice(),
-        },
-        CommandRow {
-            name: "init",
-            options: OF_INIT.as_slice(),
-        },
-        CommandRow {
-            name: "run",
-            options: OF_RUN.as_slice(),
-        },
-        CommandRow {
-            name: "replay",
-            options: OF_REPLAY.as_slice(),
-        },
-        CommandRow {
-            name: "check",
-            options: OF_NONE.as_slice(),
-        },
-        CommandRow {
-            name: "gen",
-            options: OF_GEN.as_slice(),
-        },
-        CommandRow {
-            name: "bench",
-            options: OF_BENCH.as_slice(),
-        },
-        CommandRow {
-            name: "audit",
-            options: OF_NONE.as_slice(),
-        },
-        CommandRow {
-            name: "mix",
-            options: OF_MIX.as_slice(),
-        },
-        CommandRow {
-            name: "nodes",
-            options: OF_NODES.as_slice(),
-        },
+        offered!("once", OF_ONCE),
+        offered!("init", OF_INIT),
+        offered!("run", OF_RUN),
+        offered!("replay", OF_REPLAY),
+        offered!("check", OF_NONE),
+        offered!("gen", OF_GEN),
+        offered!("bench", OF_BENCH),
+        offered!("audit", OF_NONE),
+        offered!("mix", OF_MIX),
+        offered!("nodes", OF_NODES),
     ]
 }
