@@ -28,5 +28,5 @@ mod works;
 
 pub use laws::{each_is_serial, each_replay_is_serial, each_run_is_serial, one_output};
 pub use once_command::{is_each, once};
-pub use refusals::{refuse_store, tell_damage};
+pub use refusals::refuse_store;
 pub use resumes::run;

@@ -31,7 +31,7 @@ pub fn refuse_store<K: Sink>(alloc: Global, why: NotOpened, out: &mut K) -> Resu
 }
 
 /// Ends a command with the line that tells where its store is damaged.
-pub fn tell_damage<K: Sink>(alloc: Global, file: u8, at: u64, out: &mut K) -> Result<u8, Stop>
+fn tell_damage<K: Sink>(alloc: Global, file: u8, at: u64, out: &mut K) -> Result<u8, Stop>
     ensures finishes { Finishes (damaged_out file at) (K.given out.old) (K.given out.new) result }
     ensures status { IfOk result (λ ending. ending ≡ STORE_REFUSED) }
     ensures read { result ≢ Err stop.NoRead }
