@@ -1,7 +1,7 @@
 // What the next line of a script for nodes asks for.
 ghost use Rattle.std.specs.Prelude.{◌≡◌, false, if◌then◌else◌, Ok, Err, IfOk};
 ghost use Rattle.script_places.specs.Places.{is_check};
-ghost use Rattle.script_text.specs.Answers.{Answers, refused};
+ghost use Rattle.script_text.specs.Answers.{Answers};
 ghost use Rattle.script_text.specs.Forms.{said};
 ghost use Rattle.script_text.specs.Lines.{line_after};
 ghost use Rattle.nodes_command.specs.Asks.{asked_among, is_call, is_of_text, is_set, is_settings, within_all, without_settings};
@@ -9,7 +9,7 @@ ghost use Rattle.script_text.specs.declared.refusals.RefusalKind.TheVariants as 
 
 use aria_base::{MOST_REQUESTS, Memory};
 use script_places::{Counts, Deed, ScriptPlace};
-use script_text::{Item, LinesRefused, Refusal, RefusalKind, read_line};
+use script_text::{Item, LinesRefused, Refusal, RefusalKind, read_line, refused};
 use std::alloc::Global;
 
 /// What the next line asks for, and the place behind it, where the script had so many calls before: what it asks for in a script
@@ -85,13 +85,6 @@ fn is_of_text(kind: &RefusalKind) -> bool
     ensures { result ≡ is_of_text kind.now }
 {
     matches!(kind, RefusalKind::Catalog(_))
-}
-
-/// The refusal of the line with this number.
-fn refused(line: u64, kind: RefusalKind) -> LinesRefused
-    ensures { result ≡ refused line kind }
-{
-    LinesRefused::Line(Refusal { line, kind })
 }
 
 /// Whether settings are asked for.

@@ -34,7 +34,7 @@ pub fn read_line(alloc: Global, bytes: &[u8], line: u64) -> Result<Item, LinesRe
     }
 }
 
-/// The refusal of a line.
+/// The answer that refuses the line with this number, and says why.
 pub fn refused(line: u64, kind: RefusalKind) -> LinesRefused
     ensures { result ≡ refused line kind }
 {

@@ -32,7 +32,7 @@ mod written;
 pub use cuts::cut_at;
 pub use digits::read_number;
 pub use fits::{fit_row, fit_settings, fit_tx, place_call, place_row};
-pub use forms::read_line;
+pub use forms::{read_line, refused};
 pub use items::Item;
 pub use laws::{lines_of_texts, rows_fit};
 pub use lines::Lines;
