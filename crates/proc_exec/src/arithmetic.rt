@@ -76,6 +76,7 @@ fn whole(exact: i128) -> Result<Value, EvalFault>
     }
 }
 
+/// The sum of both numbers, or the trap `Overflow`.
 pub fn sum(pair: &(Value, Value)) -> Result<Value, EvalFault>
     ensures { Computes result (number (int_of pair.now.0 +ℤ int_of pair.now.1)) }
 {
@@ -83,6 +84,7 @@ pub fn sum(pair: &(Value, Value)) -> Result<Value, EvalFault>
     whole(i128::from(x) + i128::from(y))
 }
 
+/// The first number less the second, or the trap `Overflow`.
 pub fn difference(pair: &(Value, Value)) -> Result<Value, EvalFault>
     ensures { Computes result (number (int_of pair.now.0 -ℤ int_of pair.now.1)) }
 {
@@ -90,6 +92,7 @@ pub fn difference(pair: &(Value, Value)) -> Result<Value, EvalFault>
     whole(i128::from(x) - i128::from(y))
 }
 
+/// The product of both numbers, or the trap `Overflow`.
 pub fn product(pair: &(Value, Value)) -> Result<Value, EvalFault>
     ensures { Computes result (number (int_of pair.now.0 *ℤ int_of pair.now.1)) }
 {
@@ -129,6 +132,7 @@ fn divide(x: i128, y: i64) -> Result<Value, EvalFault>
     whole(rounded_down(x, y))
 }
 
+/// The first number divided by the second, rounded down, or the trap `Zero` or `Overflow`.
 pub fn divided_by(pair: &(Value, Value)) -> Result<Value, EvalFault>
     ensures { Computes result (divided (int_of pair.now.0) (int_of pair.now.1)) }
 {
@@ -136,12 +140,15 @@ pub fn divided_by(pair: &(Value, Value)) -> Result<Value, EvalFault>
     divide(i128::from(x), y)
 }
 
+/// The product of both numbers divided by the divisor, rounded down, or the trap `Zero` or `Overflow`. The
+/// product itself may be outside the 64-bit numbers.
 pub fn product_divided_by(pair: &(Value, Value), divisor: &Value) -> Result<Value, EvalFault>
     ensures { Computes result (divided (int_of pair.now.0 *ℤ int_of pair.now.1) (int_of divisor.now)) }
 {
     divide(exact_product(pair), int(divisor))
 }
 
+/// What the division rounded down leaves of the first number, or the trap `Zero`.
 pub fn remainder_by(pair: &(Value, Value)) -> Result<Value, EvalFault>
     ensures { Computes result (remainder (int_of pair.now.0) (int_of pair.now.1)) }
 {

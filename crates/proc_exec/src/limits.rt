@@ -1,5 +1,5 @@
 // What a run may touch.
-ghost use Rattle.std.specs.Prelude.{◌≡◌, Option, Some, None};
+ghost use Rattle.std.specs.Prelude.{◌≡◌, ◌<◌, Option, Some, None, IfSome, length, position};
 ghost use Rattle.std.specs.List.{list_any};
 ghost use Rattle.std.specs.Ordering.{eq_by_cmp};
 ghost use Rattle.aria_base.specs.Orders.{key_cmp};
@@ -11,9 +11,8 @@ ghost use Rattle.proc_exec.specs.Limits.{touchable};
 use crate::outcomes::Declared;
 use aria_base::{Key, contains_key, same_key};
 
-/// Where in the lists of declared keys the next access is likely to stand: behind the last one that stood where
-/// it was likely to. It changes no answer. A run within the keys of an earlier run mostly makes the same accesses in
-/// the same order.
+/// Where in the lists of declared keys the next access is likely to stand: behind the last one that was found.
+/// It changes no answer. A run within the keys of an earlier run mostly makes the same accesses in the same order.
 #[derive(Clone, Copy, Debug)]
 pub struct Likely {
     reads: usize,
@@ -73,7 +72,8 @@ impl Limits for Declared {
     }
 }
 
-/// Whether the key stands among these. It is looked for at the likely place first.
+/// Whether the key stands among these. It is looked for at the likely place first, and the place behind it is
+/// the next likely one.
 fn stands_among(keys: &[Key], likely: &mut usize, key: &Key) -> bool
     ensures { result ≡ list_any (eq_by_cmp key_cmp key.now) keys.now }
 {
@@ -82,5 +82,19 @@ fn stands_among(keys: &[Key], likely: &mut usize, key: &Key) -> bool
         *likely = at + 1;
         return true;
     }
-    contains_key(keys, key)
+    match place_of(keys, key) {
+        Some(at) => {
+            *likely = at + 1;
+            true
+        }
+        None => false,
+    }
+}
+
+/// The key's place among these, if it is there.
+fn place_of(keys: &[Key], key: &Key) -> Option<usize>
+    ensures place { result ≡ position (eq_by_cmp key_cmp key.now) keys.now }
+    ensures bound { IfSome result (λ at. at < length keys.now) }
+{
+    keys.iter().position(|other| same_key(key, other))
 }

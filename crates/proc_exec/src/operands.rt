@@ -115,45 +115,63 @@ pub fn number_of(scope: &RunScope, registers: &Vec<Value>, expr: &Expr) -> Optio
             _ => None,
         },
         Expr::Item(at) => Some(scope.number(*at)),
+        Expr::Eq(a, b) => Some(number_of_truth(equal(scope, registers, a, b)?)),
+        Expr::Ne(a, b) => Some(number_of_truth(!equal(scope, registers, a, b)?)),
+        _ => number_of_two(scope, registers, expr),
+    }
+}
+
+/// The number of an operation on two numbers, where it is found so. None of any other expression.
+#[cycle(counting)]
+fn number_of_two(scope: &RunScope, registers: &Vec<Value>, expr: &Expr) -> Option<i64>
+    ensures { IfSome result (λ n. value_in scope.now registers.now.items (term_of expr.now) ≡ Ok (value.Int n)) }
+{
+    match expr {
         Expr::Add(a, b) => {
-            let x = number_of(scope, registers, a)?;
-            let y = number_of(scope, registers, b)?;
+            let (x, y) = numbers_of(scope, registers, a, b)?;
             fitting(i128::from(x) + i128::from(y))
         }
         Expr::Sub(a, b) => {
-            let x = number_of(scope, registers, a)?;
-            let y = number_of(scope, registers, b)?;
+            let (x, y) = numbers_of(scope, registers, a, b)?;
             fitting(i128::from(x) - i128::from(y))
         }
         Expr::Mul(a, b) => {
-            let x = number_of(scope, registers, a)?;
-            let y = number_of(scope, registers, b)?;
+            let (x, y) = numbers_of(scope, registers, a, b)?;
             fitting(i128::from(x) * i128::from(y))
         }
-        Expr::Eq(a, b) => Some(number_of_truth(equal(scope, registers, a, b)?)),
-        Expr::Ne(a, b) => Some(number_of_truth(!equal(scope, registers, a, b)?)),
         Expr::Lt(a, b) => {
-            let x = number_of(scope, registers, a)?;
-            let y = number_of(scope, registers, b)?;
+            let (x, y) = numbers_of(scope, registers, a, b)?;
             Some(number_of_truth(x < y))
         }
         Expr::Le(a, b) => {
-            let x = number_of(scope, registers, a)?;
-            let y = number_of(scope, registers, b)?;
+            let (x, y) = numbers_of(scope, registers, a, b)?;
             Some(number_of_truth(x <= y))
         }
         Expr::And(a, b) => {
-            let x = number_of(scope, registers, a)?;
-            let y = number_of(scope, registers, b)?;
+            let (x, y) = numbers_of(scope, registers, a, b)?;
             Some(number_of_truth(both_hold(x, y)))
         }
         Expr::Or(a, b) => {
-            let x = number_of(scope, registers, a)?;
-            let y = number_of(scope, registers, b)?;
+            let (x, y) = numbers_of(scope, registers, a, b)?;
             Some(number_of_truth(one_holds(x, y)))
         }
         _ => None,
     }
+}
+
+/// The numbers of two expressions, where both are found so.
+#[cycle(counting)]
+fn numbers_of(
+    scope: &RunScope,
+    registers: &Vec<Value>,
+    first: &Expr,
+    second: &Expr,
+) -> Option<(i64, i64)>
+    ensures { IfSome result (λ pair. both (value_in scope.now registers.now.items (term_of first.now)) (value_in scope.now registers.now.items (term_of second.now)) ≡ Ok (value.Int pair.0, value.Int pair.1)) }
+{
+    let x = number_of(scope, registers, first)?;
+    let y = number_of(scope, registers, second)?;
+    Some((x, y))
 }
 
 /// Whether both numbers are not 0.

@@ -292,7 +292,7 @@ fn stores_are_used_as_the_options_say(rt: HostRuntime) -> Result<(), Fail> {
 }
 
 #[test]
-fn workloads_are_as_the_options_say(rt: HostRuntime) -> Result<(), Fail> {
+fn accesses_are_as_the_options_say(rt: HostRuntime) -> Result<(), Fail> {
     let alloc = rt.alloc();
     let most = Workload {
         amount: Amount {
@@ -309,6 +309,15 @@ fn workloads_are_as_the_options_say(rt: HostRuntime) -> Result<(), Fail> {
         },
         ..WORKLOAD
     };
+    let line =
+        "gen --number=9999999 --batches 1000 --size 1000 --keys 1000000 --ops 16 --reads 40 --updates 60 --hot=100";
+    is_read(&rt, alloc, line, &Some(Command::Gen(most)))?;
+    Ok(())
+}
+
+#[test]
+fn order_entry_is_as_the_options_say(rt: HostRuntime) -> Result<(), Fail> {
+    let alloc = rt.alloc();
     let orders = Workload {
         kind: Load::Tpcc,
         stock: Stock {
@@ -318,39 +327,31 @@ fn workloads_are_as_the_options_say(rt: HostRuntime) -> Result<(), Fail> {
         },
         ..WORKLOAD
     };
-    let none = Amount {
-        number: 0,
-        batches: 1,
-        size: 10_000,
+    let drained = Bench {
+        workload: orders,
+        drain: true,
+        ..BENCH
     };
-    let lines = [
-        (
-            "gen --number=9999999 --batches 1000 --size 1000 --keys 1000000 --ops 16 --reads 40 --updates 60 --hot=100",
-            Command::Gen(most),
-        ),
-        (
-            "gen --items 100000 --customers 3000 --warehouses 4 --kind tpcc",
-            Command::Gen(orders),
-        ),
-        (
-            "bench --kind=tpcc --warehouses=4 --customers=3000 --items=100000 --drain",
-            Command::Bench(Bench {
-                workload: orders,
-                drain: true,
-                ..BENCH
-            }),
-        ),
-        (
-            "mix --number 0 --batches 1 --size 10000 --workers 9",
-            Command::Mix(Mix {
-                amount: none,
-                workers: 9,
-                ..MIX
-            }),
-        ),
-    ];
-    for (line, wanted) in lines {
-        is_read(&rt, alloc, line, &Some(wanted))?;
-    }
+    let by_gen = "gen --items 100000 --customers 3000 --warehouses 4 --kind tpcc";
+    is_read(&rt, alloc, by_gen, &Some(Command::Gen(orders)))?;
+    let by_bench = "bench --kind=tpcc --warehouses=4 --customers=3000 --items=100000 --drain";
+    is_read(&rt, alloc, by_bench, &Some(Command::Bench(drained)))?;
+    Ok(())
+}
+
+#[test]
+fn a_mix_is_as_the_options_say(rt: HostRuntime) -> Result<(), Fail> {
+    let alloc = rt.alloc();
+    let wide = Mix {
+        amount: Amount {
+            number: 0,
+            batches: 1,
+            size: 10_000,
+        },
+        workers: 9,
+        ..MIX
+    };
+    let line = "mix --number 0 --batches 1 --size 10000 --workers 9";
+    is_read(&rt, alloc, line, &Some(Command::Mix(wide)))?;
     Ok(())
 }
