@@ -1,3 +1,4 @@
+mod Joined
 pub mod Leasts
 mod Lists
 mod Marks

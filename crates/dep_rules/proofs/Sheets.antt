@@ -1,5 +1,5 @@
 -- The verdict by a batch's numbers is the verdict by its keys.
-use Rattle.std.proofs.Common.{◌≡◌, sym, ap, subst, ◌∙◌, ℕ, ◌+◌, ◌-◌, ◌<◌, ◌≤◌, List, [], map, take, get_or, Some, All, slice_get, length, arith}
+use Rattle.std.proofs.Common.{◌≡◌, ap, subst, ◌∙◌, ℕ, ◌+◌, ◌-◌, ◌<◌, ◌≤◌, List, [], map, take, get_or, Some, All, slice_get, length, arith}
 use Rattle.std.specs.Prelude.{true, slice_index_or}
 use Rattle.std.specs.Ordering.{nat_cmp}
 use Rattle.std.specs.declared.cmp.Ordering.{Ordering}

@@ -22,5 +22,5 @@ pub mod sets;
 pub use batch_rules::verdicts::{Cause, Rule, Verdict};
 pub use configs::Config;
 pub use decisions::{decide, decide_listed, decided, lesser_of, stands_before};
-pub use numberings::Numbered;
+pub use numberings::{Numbered, Stretch};
 pub use sets::Sets;

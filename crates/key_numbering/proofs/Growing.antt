@@ -282,7 +282,7 @@ reads_among m sets i d lt j e within = among_of (with_sets m sets) _ (has_reads 
 pub writes_among : (m : Numbers) (sets : List Sets) → HasKeysOf key_cmp (fin.keys (with_sets m sets)) writes_of sets
 writes_among m sets i d lt j e within = among_of (with_sets m sets) _ (has_writes m (with_sets m sets) sets (λ k n at. at) i d lt j e within)
 
-below_of : (m : Numbers) (k : Key) → AreNumbers m → Has m k → number_in m k < fin.len m
+pub below_of : (m : Numbers) (k : Key) → AreNumbers m → Has m k → number_in m k < fin.len m
 below_of m k are has = let is = number-is m k has.0 has.1 in let lt = are.below k has.0 has.1 in omega arith
 
 pub reads_below : (m final : Numbers) (sets : List Sets) → final ≡ with_sets m sets → AreNumbers final

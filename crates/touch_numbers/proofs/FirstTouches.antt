@@ -6,21 +6,24 @@ use Rattle.std.specs.Cmp.{eq_by_cmp_equiv}
 use Rattle.std.specs.Ordering.{eq_by_cmp}
 use Rattle.std.specs.FinMap as fin
 use Rattle.std.proofs.lemmas.Bool.{false≢true}
-use Rattle.std.proofs.lemmas.List.{get_or-set_same, get_or-set_other, drop_all, drop-set-lt, take_more_set, length-map, map-append, map-set}
-use Rattle.std.proofs.lemmas.Option.{slice_get-get_or, slice_get_within, get_or_from_slice_get}
+use Rattle.std.proofs.lemmas.List.Elements.{All-map}
+use Rattle.std.proofs.lemmas.List.{get_or-set_same, get_or-set_other, drop_all, drop-set-lt, length-map, map-append}
+use Rattle.std.proofs.lemmas.Option.{slice_get_within, get_or_from_slice_get}
 use Rattle.std.proofs.Math.Seq.{take-suc}
 use lib.ListN.{set}
 use Rattle.aria_base.specs.Orders.{key_cmp}
 use Rattle.aria_base.specs.declared.keys.Key.{Key}
 use Rattle.aria_base.proofs.Orders.{key_cmp_total, same_key}
-use Rattle.dep_rules.specs.Decisions.{reads_of, writes_of}
-use Rattle.dep_rules.specs.Sheets.{AllBelow}
+use Rattle.dep_rules.specs.declared.numberings.Stretch.{Stretch}
 use Rattle.dep_rules.specs.declared.sets.Sets.{Sets}
-use Rattle.key_numbering.specs.Numbers.{Numbers, AreNumbers, Keeps, number_in, with_key, with_keys, with_sets}
-use Rattle.key_numbering.proofs.Growing.{new, len-new, number-new, keeps_on, keeps_keys, has_key, same_number, after_set, keeps_sets, either}
-use Rattle.key_numbering.proofs.Growing.{AreNumbers-empty, AreNumbers-new}
-use Rattle.touch_numbers.specs.Firsts.{from_one, HasNumbers, NumbersOne, NumbersList, NumbersAll}
-use Rattle.touch_numbers.specs.Listings.{ArePlaces, AreAllNumbers}
+use Rattle.key_numbering.specs.Numbers.{Numbers, AreNumbers, Keeps, number_in, numbers_of, with_key, with_keys, with_sets}
+use Rattle.key_numbering.proofs.Growing.{new, len-new, number-new, keeps_on, keeps_keys, has_key, same_number, after_set, either}
+use Rattle.key_numbering.proofs.Growing.{AreNumbers-empty, AreNumbers-new, has_keys, below_of}
+use Rattle.touch_numbers.specs.Firsts.{from_one, HasNumbers, NumbersOne, NumbersAll}
+use Rattle.touch_numbers.specs.Listings.{ArePlaces, AreTold, touches_in, stretches_in}
+use Rattle.touch_numbers.specs.Slots.{Fits}
+use Rattle.touch_numbers.specs.declared.rules.Taken.{Taken}
+use Rattle.touch_numbers.proofs.Laying.{AreLaid, are_laid, key_at}
 
 -- ---- one touch
 
@@ -92,24 +95,7 @@ rest_next xs first i x same =
     drop-set-lt (i + 1) xs i x (omega arith) ∙ ap (λ n. drop n xs) more ∙ sym (drop_next xs i) ∙ ap (drop 1) same ∙ drop_next first i
     ∙ ap (λ n. drop n first) (sym more)
 
--- the list at a place that is not done
-pub list_at : {X : Type 0} (f : X → List ℕ) (xs first : List X) (i : ℕ) (x : X) → i < length xs → x ≡ get_or xs i x
-    → drop i (map f xs) ≡ drop i (map f first) → f x ≡ get_or (map f first) i []
-list_at f xs first i x lt at same = sym (map_at f xs i x [] (slice_get-get_or xs i x lt ∙ ap Some (sym at))) ∙ rest_here (map f xs) (map f first) i [] same
-
-pub below_at : (n m : ℕ) (lists : List (List ℕ)) (i : ℕ) (list : List ℕ) → i < length lists → list ≡ get_or lists i [] → n ≡ m → AllBelow m lists
-    → All (λ x. x < n) list
-below_at n m lists i list lt is same below = subst (λ (l : List ℕ). All (λ x. x < n) l) (sym is)
-    (subst (λ (t : ℕ). All (λ x. x < t) (get_or lists i [])) (sym same) (below i [] lt))
-
-pub lists_next : {X : Type 0} (f : X → List ℕ) (xs first : List X) (i : ℕ) (x : X) → drop i (map f xs) ≡ drop i (map f first)
-    → drop (i + 1) (map f (set xs i x)) ≡ drop (i + 1) (map f first)
-lists_next f xs first i x same = ap (drop (i + 1)) (map-set f xs i x) ∙ rest_next (map f xs) (map f first) i (f x) same
-
-pub lists_done : {X : Type 0} (f : X → List ℕ) (xs : List X) (i : ℕ) (x : X) → i < length xs → take (i + 1) (map f (set xs i x)) ≡ take i (map f xs) ++ f x ∷ []
-lists_done f xs i x lt = ap (take (i + 1)) (map-set f xs i x) ∙ take_more_set (map f xs) i (f x) (let long = length-map xs f in omega (arith, long, lt))
-
--- ---- a list
+-- ---- all touches
 
 abbrev pub ListSoFar : List ℕ → ℕ → List ℕ → ℕ → List ℕ → ℕ → List ℕ → Type 0
 ListSoFar given count given_now count_now touches i numbers = (keys : List Key) (place : Key → ℕ) (m final : Numbers) (ks : List Key)
@@ -117,11 +103,6 @@ ListSoFar given count given_now count_now touches i numbers = (keys : List Key) 
     → Keeps (with_keys m ks) final → HasNumbers keys place m given count
     → (now : Numbers) × HasNumbers keys place now given_now count_now × (with_keys now (drop i ks) ≡ with_keys m ks)
     × (map (number_in final) (take i ks) ≡ numbers)
-
-key_at : {X : Type 0} (xs : List X) (i : ℕ) → i < length xs → (x : X) × (slice_get xs i ≡ Some x)
-key_at [] i lt = absurd (omega arith)
-key_at (x ∷ xs) zero lt = (x, refl)
-key_at (x ∷ xs) (suc i) lt = key_at xs i (omega arith)
 
 all_at : {X : Type 0} (P : X → Type 0) (xs : List X) (i : ℕ) (x : X) → slice_get xs i ≡ Some x → All P xs → P x
 all_at P xs i x at all = subst P (get_or_from_slice_get xs i x x at) (all i x (slice_get_within xs i x at))
@@ -158,64 +139,12 @@ list_more given count given_now count_now given_then count_then touches numbers 
     (then, step.0, whole, taken_at (number_in final) ks i k.0 numbers n k.1 old.3 number)
 
 pub list_done : (given : List ℕ) (count : ℕ) (given_now : List ℕ) (count_now : ℕ) (touches numbers all : List ℕ) (i : ℕ) → length touches ≤ i
-    → numbers ≡ all → ListSoFar given count given_now count_now touches i numbers → NumbersList given count given_now count_now touches all
+    → numbers ≡ all → ListSoFar given count given_now count_now touches i numbers → NumbersAll given count given_now count_now touches all
 list_done given count given_now count_now touches numbers all i le whole so_far keys place m final ks places are keeps has =
     let old = so_far keys place m final ks places are keeps has in
     let ended : length ks ≤ i = omega (arith, le, length-map ks place, ap length are) in
     let same : old.0 ≡ with_keys m ks = ap (with_keys old.0) (sym (drop_all i ks ended)) ∙ old.2 in
     (subst (λ q. HasNumbers keys place q given_now count_now) same old.1, ap (map (number_in final)) (sym (take_all i ks ended)) ∙ old.3 ∙ whole)
-
--- ---- all requests
-
-abbrev pub AllSoFar : List ℕ → ℕ → List ℕ → ℕ → List (List ℕ) → List (List ℕ) → ℕ → List (List ℕ) → List (List ℕ) → Type 0
-AllSoFar given count given_now count_now reads writes i reads_now writes_now = (keys : List Key) (place : Key → ℕ) (m : Numbers) (sets : List Sets)
-    → AreAllNumbers keys place sets reads writes → HasNumbers keys place m given count
-    → (now : Numbers) × HasNumbers keys place now given_now count_now × (with_sets now (drop i sets) ≡ with_sets m sets)
-    × (map (λ s. map (number_in (with_sets m sets)) (reads_of s)) (take i sets) ≡ reads_now)
-    × (map (λ s. map (number_in (with_sets m sets)) (writes_of s)) (take i sets) ≡ writes_now)
-
-pub all_more : (given : List ℕ) (count : ℕ) (given_now : List ℕ) (count_now : ℕ) (given_read : List ℕ) (count_read : ℕ) (given_then : List ℕ)
-    (count_then : ℕ) (reads writes reads_now writes_now : List (List ℕ)) (i : ℕ) (read written read_now written_now : List ℕ)
-    → i < length reads → read ≡ get_or reads i [] → written ≡ get_or writes i [] → AllSoFar given count given_now count_now reads writes i reads_now writes_now
-    → NumbersList given_now count_now given_read count_read read read_now → NumbersList given_read count_read given_then count_then written written_now
-    → AllSoFar given count given_then count_then reads writes (i + 1) (reads_now ++ read_now ∷ []) (writes_now ++ written_now ∷ [])
-all_more given count given_now count_now given_read count_read given_then count_then reads writes reads_now writes_now i read written read_now written_now
-    lt read_is written_is so_far one two keys place m sets all has =
-    let old = so_far keys place m sets all has in
-    let within : i < length sets = omega (arith, lt, length-map sets (λ s. map place (reads_of s)), ap length all.reads_are) in
-    let s = key_at sets i within in
-    let final = with_sets m sets in
-    let places = all_at (λ q. ArePlaces keys place q.reads × ArePlaces keys place q.writes) sets i s.0 s.1 all.places in
-    let middle = with_keys old.0 s.0.reads in
-    let then = after_set old.0 s.0 in
-    let whole : with_sets then (drop (i + 1) sets) ≡ final = ap (with_sets old.0) (sym (rest_at sets i s.0 s.1)) ∙ old.2 in
-    let keeps_then : Keeps then final = subst (Keeps then) whole (keeps_sets then (drop (i + 1) sets)) in
-    let keeps_middle : Keeps middle final = keeps_on middle then final (keeps_keys middle s.0.writes) keeps_then in
-    let read_are : map place s.0.reads ≡ read = sym (map_at (λ q. map place (reads_of q)) sets i s.0 [] s.1) ∙ ap (λ l. get_or l i []) all.reads_are
-    ∙ sym read_is in
-    let written_are : map place s.0.writes ≡ written = sym (map_at (λ q. map place (writes_of q)) sets i s.0 [] s.1)
-    ∙ ap (λ l. get_or l i []) all.writes_are ∙ sym written_is in
-    let first = one keys place old.0 final s.0.reads places.0 read_are keeps_middle old.1 in
-    let second = two keys place middle final s.0.writes places.1 written_are keeps_then first.0 in (
-      then,
-      second.0,
-      whole,
-      taken_at (λ q. map (number_in final) (reads_of q)) sets i s.0 reads_now read_now s.1 old.3 first.1,
-      taken_at (λ q. map (number_in final) (writes_of q)) sets i s.0 writes_now written_now s.1 old.4 second.1,
-    )
-
-pub all_done : (given : List ℕ) (count : ℕ) (given_now : List ℕ) (count_now : ℕ) (reads writes reads_now writes_now reads_all writes_all : List (List ℕ))
-    (i : ℕ) → length reads ≤ i → reads_now ≡ reads_all → writes_now ≡ writes_all
-    → AllSoFar given count given_now count_now reads writes i reads_now writes_now → NumbersAll given count given_now count_now reads writes reads_all
-    writes_all
-all_done given count given_now count_now reads writes reads_now writes_now reads_all writes_all i le reads_are writes_are so_far keys place m sets all has =
-    let old = so_far keys place m sets all has in
-    let ended : length sets ≤ i = omega (arith, le, length-map sets (λ s. map place (reads_of s)), ap length all.reads_are) in
-    let same : old.0 ≡ with_sets m sets = ap (with_sets old.0) (sym (drop_all i sets ended)) ∙ old.2 in (
-      subst (λ q. HasNumbers keys place q given_now count_now) same old.1,
-      ap (map (λ s. map (number_in (with_sets m sets)) (reads_of s))) (sym (take_all i sets ended)) ∙ old.3 ∙ reads_are,
-      ap (map (λ s. map (number_in (with_sets m sets)) (writes_of s))) (sym (take_all i sets ended)) ∙ old.4 ∙ writes_are,
-    )
 
 -- ---- at the end
 
@@ -245,3 +174,48 @@ are_sets m (s ∷ ss) are = are_sets (after_set m s) ss (are_keys (with_keys m s
 
 pub are_numbers : (sets : List Sets) → AreNumbers (with_sets fin.empty sets)
 are_numbers sets = are_sets fin.empty sets AreNumbers-empty
+
+-- the keys of all touches get their numbers as those of the sets do
+with_keys-append : (m : Numbers) (xs ys : List Key) → with_keys m (xs ++ ys) ≡ with_keys (with_keys m xs) ys
+with_keys-append m [] ys = refl
+with_keys-append m (x ∷ xs) ys = with_keys-append (with_key m x) xs ys
+
+with_touches : (m : Numbers) (sets : List Sets) → with_keys m (touches_in sets) ≡ with_sets m sets
+with_touches m [] = refl
+with_touches m (s ∷ ss) =
+    with_keys-append m (s.reads ++ s.writes) (touches_in ss)
+    ∙ with_touches (with_keys m (s.reads ++ s.writes)) ss
+    ∙ ap (λ q. with_sets q ss) (with_keys-append m s.reads s.writes)
+
+-- these are the numbers of all touches, in order of first touch
+pub record AreNumbered (sets : List Sets) (numbers : List ℕ) (count : ℕ) : Type 0 where
+  pub count_is : count ≡ fin.len (numbers_of sets)
+  pub numbers_are : map (number_in (numbers_of sets)) (touches_in sets) ≡ numbers
+  pub below : All (λ n. n < count) numbers
+
+pub all_numbered : (sets : List Sets) (keys : List Key) (taken : List Taken) (touches numbers given after : List ℕ) (n count most : ℕ)
+    → keys ≡ touches_in sets → AreTold keys taken keys touches → (number : Key → ℕ) × Fits keys number taken → given ≡ replicate n 0 → count ≡ 0
+    → NumbersAll given count after most touches numbers → AreNumbered sets numbers most
+all_numbered sets keys taken touches numbers given after n count most is told fits zeros none all =
+    let are = told fits.0 fits.1 in
+    let done = all keys fits.0 fin.empty (with_keys fin.empty keys) keys are.places are.numbers_are (λ k n at. at)
+    (none_yet keys fits.0 given n count zeros none) in
+    let same : with_keys fin.empty keys ≡ numbers_of sets = ap (with_keys fin.empty) is ∙ with_touches fin.empty sets in
+    let final = numbers_of sets in
+    let count_is : most ≡ fin.len final = done.0.count_is ∙ ap fin.len same in
+    let numbers_are : map (number_in final) (touches_in sets) ≡ numbers = (λ i. map (number_in (sym same i)) (sym is i)) ∙ done.1 in
+    let has = has_keys fin.empty final (touches_in sets) (subst (Keeps (with_keys fin.empty (touches_in sets))) (with_touches fin.empty sets) (λ k n at. at)) in
+    record {
+      count_is = count_is;
+      numbers_are = numbers_are;
+      below = subst (λ c. All (λ n. n < c) numbers) (sym count_is) (subst (All (λ n. n < fin.len final)) numbers_are
+          (All-map (λ n. n < fin.len final) (number_in final) (touches_in sets) (λ i d lt. below_of final (get_or (touches_in sets) i d) (are_numbers sets)
+          (has i d lt))));
+    }
+
+-- and so they lie in the stretches of the requests
+pub numbered_laid : (sets : List Sets) (numbers : List ℕ) (count : ℕ) (stretches : List Stretch) → AreNumbered sets numbers count
+    → stretches ≡ stretches_in 0 sets → AreLaid (number_in (numbers_of sets)) sets numbers stretches
+numbered_laid sets numbers count stretches are is =
+    subst (AreLaid (number_in (numbers_of sets)) sets numbers) (sym is)
+    (subst (λ l. AreLaid (number_in (numbers_of sets)) sets l (stretches_in 0 sets)) are.numbers_are (are_laid (number_in (numbers_of sets)) [] sets 0 refl))

@@ -3,10 +3,8 @@ use Rattle.std.specs.Prelude.{◌≡◌, ℕ, suc, List, map, Option, None, Some
 use Rattle.std.specs.List.{sum_by}
 use Rattle.std.specs.FinMap as fin
 use Rattle.aria_base.specs.declared.keys.Key.{Key}
-use Rattle.dep_rules.specs.Decisions.{reads_of, writes_of}
-use Rattle.dep_rules.specs.declared.sets.Sets.{Sets}
-use Rattle.key_numbering.specs.Numbers.{Numbers, Keeps, number_in, with_key, with_keys, with_sets}
-use Rattle.touch_numbers.specs.Listings.{ArePlaces, AreAllNumbers}
+use Rattle.key_numbering.specs.Numbers.{Numbers, Keeps, number_in, with_key, with_keys}
+use Rattle.touch_numbers.specs.Listings.{ArePlaces}
 
 -- a number from 1, or 0 for none
 abbrev pub from_one : Option ℕ → ℕ
@@ -29,15 +27,7 @@ module _ (given : List ℕ) (count : ℕ) (given_after : List ℕ) (count_after 
       → HasNumbers keys place m given count → HasNumbers keys place (with_key m k) given_after count_after × (n ≡ number_in (with_key m k) k)
 
   -- the numbers are those of the keys for which the touches stand, as every map has them that keeps their numbers
-  abbrev pub NumbersList : List ℕ → List ℕ → Type 0
-  NumbersList touches numbers = (keys : List Key) (place : Key → ℕ) (m final : Numbers) (ks : List Key) → ArePlaces keys place ks → map place ks ≡ touches
+  abbrev pub NumbersAll : List ℕ → List ℕ → Type 0
+  NumbersAll touches numbers = (keys : List Key) (place : Key → ℕ) (m final : Numbers) (ks : List Key) → ArePlaces keys place ks → map place ks ≡ touches
       → Keeps (with_keys m ks) final → HasNumbers keys place m given count
       → HasNumbers keys place (with_keys m ks) given_after count_after × (map (number_in final) ks ≡ numbers)
-
-  -- the same of the lists of all requests
-  abbrev pub NumbersAll : List (List ℕ) → List (List ℕ) → List (List ℕ) → List (List ℕ) → Type 0
-  NumbersAll reads writes reads_after writes_after = (keys : List Key) (place : Key → ℕ) (m : Numbers) (sets : List Sets)
-      → AreAllNumbers keys place sets reads writes
-      → HasNumbers keys place m given count → HasNumbers keys place (with_sets m sets) given_after count_after
-      × (map (λ s. map (number_in (with_sets m sets)) (reads_of s)) sets ≡ reads_after)
-      × (map (λ s. map (number_in (with_sets m sets)) (writes_of s)) sets ≡ writes_after)

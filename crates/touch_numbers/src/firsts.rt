@@ -1,8 +1,7 @@
 // Numbers without gaps in the place of touches that stand for keys.
-ghost use Rattle.std.specs.Prelude.{◌≡◌, ◌≤◌, ◌<◌, ◌+◌, length, map, All, IfOk, replicate};
-ghost use Rattle.dep_rules.specs.Sheets.{AllBelow};
+ghost use Rattle.std.specs.Prelude.{◌≡◌, ◌≤◌, ◌<◌, ◌+◌, length, All, IfOk, replicate};
 ghost use Rattle.key_numbering.specs.declared.kept.TheConstants.{MOST_TOUCHED};
-ghost use Rattle.touch_numbers.specs.Firsts.{free_in, NumbersOne, NumbersList, NumbersAll};
+ghost use Rattle.touch_numbers.specs.Firsts.{free_in, NumbersOne, NumbersAll};
 
 use aria_base::Memory;
 use std::alloc::Global;
@@ -29,32 +28,14 @@ impl Firsts {
         Ok(Firsts { given, count: 0 })
     }
 
-    /// Puts the keys' numbers in the place of touches into the lists of all requests, into what a request
-    /// reads before what it writes.
-    pub(crate) fn number_all(&mut self, reads: &mut Vec<Vec<u32>>, writes: &mut Vec<Vec<u32>>)
-        requires same { length reads.old.items ≡ length writes.old.items }
-        requires reads { AllBelow (length self.old.given.items) (map (λ v. v.items) reads.old.items) }
-        requires writes { AllBelow (length self.old.given.items) (map (λ v. v.items) writes.old.items) }
-        ensures { NumbersAll self.old.given.items self.old.count self.new.given.items self.new.count (map (λ v. v.items) reads.old.items)
-            (map (λ v. v.items) writes.old.items) (map (λ v. v.items) reads.new.items) (map (λ v. v.items) writes.new.items) }
+    /// Puts the keys' numbers in the place of these touches, one after the other.
+    pub(crate) fn number_all(&mut self, touches: &mut Vec<u32>)
+        requires { All (λ n. n < length self.old.given.items) touches.old.items }
+        ensures { NumbersAll self.old.given.items self.old.count self.new.given.items self.new.count touches.old.items touches.new.items }
     {
-        for request in 0..reads.len() {
-            let read = &mut reads[request];
-            self.number_list(read);
-            let written = &mut writes[request];
-            self.number_list(written);
-        }
-    }
-
-    /// Puts the keys' numbers in the place of these touches.
-    fn number_list(&mut self, list: &mut Vec<u32>)
-        requires { All (λ n. n < length self.old.given.items) list.old.items }
-        ensures long { length self.new.given.items ≡ length self.old.given.items }
-        ensures numbers { NumbersList self.old.given.items self.old.count self.new.given.items self.new.count list.old.items list.new.items }
-    {
-        for place in 0..list.len() {
-            let touch = list[place];
-            list[place] = self.number_of(touch);
+        for place in 0..touches.len() {
+            let touch = touches[place];
+            touches[place] = self.number_of(touch);
         }
     }
 

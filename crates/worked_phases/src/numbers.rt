@@ -125,11 +125,12 @@ fn a_crowd_is_numbered(rt: HostRuntime) -> Result<(), Fail> {
     Ok(())
 }
 
-/// So many requests that four workers number them, who all touch the same ten keys.
+/// So many requests that four workers number them, who all touch the same ten keys, each request five, so
+/// that the workers' parts begin and end inside requests.
 fn hot(alloc: Global) -> Result<Vec<Sets>, Memory> {
     let mut sets = Vec::new(alloc);
     for place in 0..1_100_u32 {
-        let reads = [place % 7, place % 3];
+        let reads = [place % 7, place % 3, place % 2];
         let writes = [9 - place % 10, place % 5];
         sets.push(request(alloc, &reads, &writes)?)?;
     }
